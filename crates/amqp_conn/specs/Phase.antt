@@ -1,6 +1,6 @@
 -- The phases of a connection, item by item (AMQP 1.0 part 2, section 2.4.6).
 use Rattle.std.specs.Prelude.{ℕ, true, nat_lt, if◌then◌else◌, Result, Ok, Err}
-use Rattle.amqp_perf.specs.declared.perf.Open.{Open}
+use Rattle.amqp_model.specs.declared.perf.Open.{Open}
 use Rattle.amqp_conn.specs.declared.conn.Conn.{Conn}
 use Rattle.amqp_conn.specs.declared.fault.ConnFault.{ConnFault}
 use Rattle.amqp_conn.specs.declared.fault.ConnFault.TheVariants.{WrongPhase, FrameSizeTooSmall, ChannelTooHigh}

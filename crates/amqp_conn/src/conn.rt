@@ -3,7 +3,7 @@ ghost use Rattle.std.specs.Prelude.{◌≡◌, false};
 ghost use Rattle.amqp_conn.specs.Phase.{with_header, with_open, over, header_in_turn, open_in_turn, frame_in_turn, close_in_turn};
 
 use crate::fault::ConnFault;
-use amqp_perf::Open;
+use amqp_model::Open;
 
 /// The smallest max-frame-size that a peer may announce, in bytes (AMQP 1.0 part 2, section 2.7.1: MIN-MAX-FRAME-SIZE).
 pub const MIN_MAX_FRAME_SIZE: u32 = 512;

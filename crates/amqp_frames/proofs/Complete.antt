@@ -4,11 +4,11 @@ use Rattle.std.proofs.lemmas.Grind.{common_steps}
 use Rattle.std.proofs.Math.Seq.{drop-append-add, drop-append_seam}
 use Rattle.std.specs.Prelude.{nat_lt}
 use Rattle.std.specs.Int.{w16, w32, from_be_bytes}
-use Rattle.amqp_perf.specs.declared.perf.Perf.{Perf}
+use Rattle.amqp_model.specs.declared.perf.Perf.{Perf}
 use Rattle.amqp_perf.specs.Performative.{performative}
 use Rattle.amqp_frames.specs.declared.extent.Extent.TheVariants.{Whole}
-use Rattle.amqp_frames.specs.declared.item.Item.{Item}
-use Rattle.amqp_frames.specs.declared.item.Item.TheVariants as item
+use Rattle.amqp_model.specs.declared.item.Item.{Item}
+use Rattle.amqp_model.specs.declared.item.Item.TheVariants as item
 use Rattle.amqp_frames.specs.Extents.{begins_header, typed, extent}
 use Rattle.amqp_frames.specs.Frames.{front, found, frame, item_of, is_empty, may_carry}
 use Rattle.amqp_frames.specs.SpellsItem.{IsFrame, SpellsItem}

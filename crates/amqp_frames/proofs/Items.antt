@@ -1,8 +1,8 @@
 -- What the bytes of one item mean, by their places.
 use Rattle.std.proofs.Common.{◌≡◌, ℕ, ◌+◌, ◌*◌, ◌<◌, ◌≤◌, ◌≢◌, List, [], ◌∷◌, length, get_or, drop, refl, arith, true, false, Ok, Err}
 use Rattle.std.proofs.lemmas.Bool.{ne_eqb}
-use Rattle.amqp_frames.specs.declared.fault.FrameFault.TheVariants as fault
-use Rattle.amqp_frames.specs.declared.item.Item.TheVariants as item
+use Rattle.amqp_model.specs.declared.frame_fault.FrameFault.TheVariants as fault
+use Rattle.amqp_model.specs.declared.item.Item.TheVariants as item
 use Rattle.amqp_frames.specs.Extents.{begins_header}
 use Rattle.amqp_frames.specs.Frames.{frame, item_of}
 

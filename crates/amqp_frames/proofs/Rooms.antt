@@ -1,13 +1,13 @@
 -- The room that a transfer leaves for its payload.
 use Rattle.std.proofs.Common.{◌≡◌, ◌≤◌, ◌<◌, ◌↔◌, ℕ, ◌+◌, ◌-◌, ◌^◌, Bool, true, false, List, length, length-append, Option, Some, None, refl, arith}
 use Rattle.std.specs.Prelude.{min, nat_lt, if◌then◌else◌}
-use Rattle.amqp_perf.specs.declared.perf.Transfer.{Transfer}
-use Rattle.amqp_perf.specs.declared.perf.Perf.{Perf}
-use Rattle.amqp_perf.specs.declared.perf.Perf.TheVariants as perf
-use Rattle.amqp_perf.specs.Spelling.{spelling}
-use Rattle.amqp_frames.specs.declared.item.Item.TheVariants as item
-use Rattle.amqp_frames.specs.ItemSpelling.{item_spelling}
-use Rattle.amqp_frames.specs.Room.{transfer_frame, FitsInto}
+use Rattle.amqp_model.specs.declared.perf.Transfer.{Transfer}
+use Rattle.amqp_model.specs.declared.perf.Perf.{Perf}
+use Rattle.amqp_model.specs.declared.perf.Perf.TheVariants as perf
+use Rattle.amqp_model.specs.PerfSpelling.{spelling}
+use Rattle.amqp_model.specs.declared.item.Item.TheVariants as item
+use Rattle.amqp_model.specs.ItemSpelling.{item_spelling}
+use Rattle.amqp_model.specs.Room.{transfer_frame, FitsInto}
 
 frame_len : (channel : ℕ) (p : Perf) (payload : List ℕ) → length (item_spelling (item.Frame false channel p payload)) ≡ 8 + (length (spelling p) + length payload)
 unfolding item_spelling

@@ -1,12 +1,12 @@
 -- At least one byte is written of a performative.
 use Rattle.std.proofs.Common.{◌<◌, List, length, arith}
 use Rattle.std.proofs.lemmas.Grind.{common_steps}
-use Rattle.amqp_perf.specs.declared.descriptor.Descriptor.{Descriptor}
-use Rattle.amqp_perf.specs.declared.descriptor.Descriptor.TheVariants as is
-use Rattle.amqp_perf.specs.declared.perf.Perf.{Perf}
-use Rattle.amqp_perf.specs.declared.perf.Perf.TheVariants as perf
-use Rattle.amqp_perf.specs.Texts.{FieldText, described_text}
-use Rattle.amqp_perf.specs.Spelling.{spelling, open_texts, begin_texts, attach_texts, flow_texts, transfer_texts, disposition_texts, detach_texts, end_texts, close_texts, sasl_mechanisms_texts, sasl_init_texts, sasl_challenge_texts, sasl_response_texts, sasl_outcome_texts}
+use Rattle.amqp_model.specs.declared.descriptor.Descriptor.{Descriptor}
+use Rattle.amqp_model.specs.declared.descriptor.Descriptor.TheVariants as is
+use Rattle.amqp_model.specs.declared.perf.Perf.{Perf}
+use Rattle.amqp_model.specs.declared.perf.Perf.TheVariants as perf
+use Rattle.amqp_model.specs.Texts.{FieldText, described_text}
+use Rattle.amqp_model.specs.PerfSpelling.{spelling, open_texts, begin_texts, attach_texts, flow_texts, transfer_texts, disposition_texts, detach_texts, end_texts, close_texts, sasl_mechanisms_texts, sasl_init_texts, sasl_challenge_texts, sasl_response_texts, sasl_outcome_texts}
 
 described_some : (name : Descriptor) (fs : List FieldText) → 0 < length (described_text name fs)
 unfolding described_text

@@ -5,16 +5,16 @@ use Rattle.std.proofs.lemmas.List.{take-append-drop}
 use Rattle.std.proofs.Math.Seq.{drop-append-add}
 use Rattle.std.specs.Prelude.{◌==◌, nat_lt}
 use Rattle.std.specs.Int.{w16, from_be_bytes}
-use Rattle.amqp_perf.specs.declared.perf.Perf.{Perf}
-use Rattle.amqp_perf.specs.declared.fault.PerfFault.{PerfFault}
-use Rattle.amqp_perf.specs.declared.fault.PerfFault.TheVariants as perf_fault
+use Rattle.amqp_model.specs.declared.perf.Perf.{Perf}
+use Rattle.amqp_model.specs.declared.perf_fault.PerfFault.{PerfFault}
+use Rattle.amqp_model.specs.declared.perf_fault.PerfFault.TheVariants as perf_fault
 use Rattle.amqp_perf.specs.Performative.{performative}
 use Rattle.amqp_frames.specs.declared.extent.Extent.{Extent}
 use Rattle.amqp_frames.specs.declared.extent.Extent.TheVariants.{Unknown, Whole, Wrong}
-use Rattle.amqp_frames.specs.declared.fault.FrameFault.{FrameFault}
-use Rattle.amqp_frames.specs.declared.fault.FrameFault.TheVariants as fault
-use Rattle.amqp_frames.specs.declared.item.Item.{Item}
-use Rattle.amqp_frames.specs.declared.item.Item.TheVariants as item
+use Rattle.amqp_model.specs.declared.frame_fault.FrameFault.{FrameFault}
+use Rattle.amqp_model.specs.declared.frame_fault.FrameFault.TheVariants as fault
+use Rattle.amqp_model.specs.declared.item.Item.{Item}
+use Rattle.amqp_model.specs.declared.item.Item.TheVariants as item
 use Rattle.amqp_frames.specs.Extents.{begins_header, typed, placed, sized, extent}
 use Rattle.amqp_frames.specs.Frames.{more, found, wrong, front, frame, filled, item_of, of_item, is_empty, may_carry}
 use Rattle.amqp_frames.specs.SpellsItem.{IsFrame, SpellsItem}

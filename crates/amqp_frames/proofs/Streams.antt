@@ -1,8 +1,8 @@
 -- How streams are cut: one cut for each stream, and the same however the bytes come.
 use Rattle.std.proofs.Common.{◌≡◌, ℕ, zero, suc, ◌<◌, List, [], ◌∷◌, ◌++◌, length, refl, sym, ap, subst, ◌∙◌, arith, append_assoc, append-nil, Bool, true, false}
-use Rattle.amqp_frames.specs.declared.fault.FrameFault.{FrameFault}
-use Rattle.amqp_frames.specs.declared.item.Item.{Item}
-use Rattle.amqp_frames.specs.declared.item.Item.TheVariants as item
+use Rattle.amqp_model.specs.declared.frame_fault.FrameFault.{FrameFault}
+use Rattle.amqp_model.specs.declared.item.Item.{Item}
+use Rattle.amqp_model.specs.declared.item.Item.TheVariants as item
 use Rattle.amqp_frames.specs.Laws.{Feeds, HasOneCut, joined}
 use Rattle.amqp_frames.specs.Cuts.{Leads, Cuts}
 use Rattle.amqp_frames.specs.Frames.{Front, more, found, wrong, front}

@@ -4,13 +4,13 @@ use Rattle.std.proofs.lemmas.Grind.{common_steps}
 use Rattle.std.proofs.lemmas.Nat.{from_be_bytes-to_be_bytes_2, from_be_bytes-to_be_bytes_4}
 use Rattle.std.proofs.Math.Seq.{drop-append_seam}
 use Rattle.std.specs.Int.{w16, w32, from_be_bytes, to_be_bytes}
-use Rattle.amqp_perf.specs.Spelling.{spelling}
+use Rattle.amqp_model.specs.PerfSpelling.{spelling}
 use Rattle.amqp_perf.proofs.WrittenPerformatives.{performative_again}
-use Rattle.amqp_frames.specs.declared.item.Item.{Item}
-use Rattle.amqp_frames.specs.declared.item.Item.TheVariants as item
+use Rattle.amqp_model.specs.declared.item.Item.{Item}
+use Rattle.amqp_model.specs.declared.item.Item.TheVariants as item
 use Rattle.amqp_frames.specs.Cuts.{Leads}
 use Rattle.amqp_frames.specs.Frames.{front, found}
-use Rattle.amqp_frames.specs.ItemSpelling.{head_spelling, frame_spelling, item_spelling}
+use Rattle.amqp_model.specs.ItemSpelling.{head_spelling, frame_spelling, item_spelling}
 use Rattle.amqp_frames.specs.SpellsItem.{IsFrame, SpellsItem, IsSpelt}
 use Rattle.amqp_frames.specs.Within.{IsWithin}
 use Rattle.amqp_frames.proofs.Complete.{limit, limit_within, spells_item, item_front}

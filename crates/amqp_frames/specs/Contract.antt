@@ -1,21 +1,16 @@
 -- How the functions' answers relate to the definitions.
 use Rattle.std.specs.Prelude.{◌≡◌, ◌<◌, ◌⊎◌, ℕ, List, [], length, drop, Result, Ok, Err}
-use Rattle.amqp_perf.specs.declared.fault.PerfFault.{PerfFault}
-use Rattle.amqp_perf.specs.declared.fault.PerfFault.TheVariants as perf_fault
-use Rattle.amqp_frames.specs.declared.fault.FrameFault.{FrameFault}
-use Rattle.amqp_frames.specs.declared.fault.FrameFault.TheVariants as fault
+use Rattle.amqp_model.specs.declared.perf_fault.PerfFault.{PerfFault}
+use Rattle.amqp_model.specs.declared.perf_fault.PerfFault.TheVariants as perf_fault
+use Rattle.amqp_model.specs.declared.frame_fault.FrameFault.{FrameFault}
+use Rattle.amqp_model.specs.declared.frame_fault.FrameFault.TheVariants as fault
 use Rattle.amqp_frames.specs.Frames.{Front, more, found, wrong}
 use Rattle.amqp_frames.specs.declared.cut.Next.{Next}
 use Rattle.amqp_frames.specs.declared.cut.Next.TheVariants.{More, Found, Wrong}
 use Rattle.amqp_frames.specs.declared.extent.Extent.{Extent}
 use Rattle.amqp_frames.specs.declared.extent.Extent.TheVariants as extent
-use Rattle.amqp_frames.specs.declared.item.Item.{Item}
-use Rattle.amqp_frames.specs.declared.item.Item.TheVariants as item
-
--- the fault of a frame whose body is at fault; memory refused stays memory refused
-abbrev pub of_perf : PerfFault → FrameFault
-of_perf perf_fault.Memory = fault.Memory
-of_perf e = fault.Perf e
+use Rattle.amqp_model.specs.declared.item.Item.{Item}
+use Rattle.amqp_model.specs.declared.item.Item.TheVariants as item
 
 -- a frame with this payload; nothing else has one
 abbrev pub loaded : Item → List ℕ → Item
@@ -28,16 +23,6 @@ loaded (item.Bad f) payload = item.Bad f
 abbrev pub Reads : Result (Item × ℕ) FrameFault → List ℕ → Result Item FrameFault → Type 0
 Reads (Ok (x, at)) text defined = defined ≡ Ok (loaded x (drop at text))
 Reads (Err e) text defined = (e ≡ fault.Memory → ⊥) → defined ≡ Err e
-
--- the number of a fault
-abbrev pub fault_number : FrameFault → ℕ
-fault_number fault.TooSmall = 1
-fault_number fault.BadOffset = 2
-fault_number fault.TooLarge = 3
-fault_number fault.BadType = 4
-fault_number (fault.Perf e) = 5
-fault_number fault.Memory = 6
-fault_number fault.Failed = 7
 
 -- what a step found at the front
 abbrev pub next_front : Next → Front

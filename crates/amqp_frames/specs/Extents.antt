@@ -4,7 +4,7 @@ use Rattle.std.specs.Prelude.{ℕ, ◌*◌, Bool, ◌&&◌, ◌||◌, ◌==◌, 
 use Rattle.std.specs.Int.{w32, from_be_bytes}
 use Rattle.amqp_frames.specs.declared.extent.Extent.{Extent}
 use Rattle.amqp_frames.specs.declared.extent.Extent.TheVariants.{Unknown, Whole, Wrong}
-use Rattle.amqp_frames.specs.declared.fault.FrameFault.TheVariants as fault
+use Rattle.amqp_model.specs.declared.frame_fault.FrameFault.TheVariants as fault
 
 -- `AMQP` begins a protocol header
 abbrev pub begins_header : ℕ → ℕ → ℕ → ℕ → Bool

@@ -1,14 +1,14 @@
 -- What stands at the front of a stream (AMQP 1.0 part 2, sections 2.2 and 2.3).
 use Rattle.std.specs.Prelude.{ℕ, ◌+◌, ◌*◌, ◌==◌, nat_lt, Bool, true, false, ◌&&◌, ◌||◌, not, if◌then◌else◌, List, [], ◌∷◌, length, take, drop, Result, Ok, Err}
-use Rattle.amqp_perf.specs.declared.perf.Perf.{Perf}
-use Rattle.amqp_perf.specs.declared.perf.Perf.TheVariants as perf
-use Rattle.amqp_perf.specs.declared.fault.PerfFault.{PerfFault}
-use Rattle.amqp_perf.specs.declared.fault.PerfFault.TheVariants as perf_fault
+use Rattle.amqp_model.specs.declared.perf.Perf.{Perf}
+use Rattle.amqp_model.specs.declared.perf.Perf.TheVariants as perf
+use Rattle.amqp_model.specs.declared.perf_fault.PerfFault.{PerfFault}
+use Rattle.amqp_model.specs.declared.perf_fault.PerfFault.TheVariants as perf_fault
 use Rattle.amqp_perf.specs.Performative.{performative}
-use Rattle.amqp_frames.specs.declared.fault.FrameFault.{FrameFault}
-use Rattle.amqp_frames.specs.declared.fault.FrameFault.TheVariants as fault
-use Rattle.amqp_frames.specs.declared.item.Item.{Item}
-use Rattle.amqp_frames.specs.declared.item.Item.TheVariants as item
+use Rattle.amqp_model.specs.declared.frame_fault.FrameFault.{FrameFault}
+use Rattle.amqp_model.specs.declared.frame_fault.FrameFault.TheVariants as fault
+use Rattle.amqp_model.specs.declared.item.Item.{Item}
+use Rattle.amqp_model.specs.declared.item.Item.TheVariants as item
 use Rattle.amqp_frames.specs.declared.extent.Extent.{Extent}
 use Rattle.amqp_frames.specs.declared.extent.Extent.TheVariants.{Unknown, Whole, Wrong}
 use Rattle.amqp_frames.specs.Extents.{begins_header, extent}

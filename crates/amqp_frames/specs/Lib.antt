@@ -2,8 +2,6 @@ pub mod Contract
 pub mod Cuts
 pub mod Extents
 pub mod Frames
-pub mod ItemSpelling
 pub mod Laws
 pub mod SpellsItem
 pub mod Within
-pub mod Room

@@ -2,8 +2,8 @@
 use Rattle.std.specs.Prelude.{◌≡◌, ℕ, ◌+◌, ◌*◌, ◌<◌, ◌≤◌, ◌⊎◌, Bool, true, false, if◌then◌else◌, List, [], ◌∷◌, ◌++◌, length, drop, Ok}
 use Rattle.std.specs.Int.{w16, w32, from_be_bytes}
 use Rattle.amqp_perf.specs.Performative.{performative}
-use Rattle.amqp_frames.specs.declared.item.Item.{Item}
-use Rattle.amqp_frames.specs.declared.item.Item.TheVariants as item
+use Rattle.amqp_model.specs.declared.item.Item.{Item}
+use Rattle.amqp_model.specs.declared.item.Item.TheVariants as item
 use Rattle.amqp_frames.specs.Frames.{may_carry}
 
 -- the bytes of a frame of this type, on this channel and with this body

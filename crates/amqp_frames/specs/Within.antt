@@ -1,10 +1,10 @@
 -- The items that a reader finds again after they were written.
 use Rattle.std.specs.Prelude.{◌≡◌, ℕ, ◌+◌, ◌^◌, ◌<◌, ◌≤◌, ◌⊎◌, Bool, true, if◌then◌else◌, List, [], ◌++◌, length}
-use Rattle.amqp_perf.specs.declared.perf.Perf.{Perf}
+use Rattle.amqp_model.specs.declared.perf.Perf.{Perf}
 use Rattle.amqp_perf.specs.Fitting.{Fits}
-use Rattle.amqp_perf.specs.Spelling.{spelling}
-use Rattle.amqp_frames.specs.declared.item.Item.{Item}
-use Rattle.amqp_frames.specs.declared.item.Item.TheVariants as item
+use Rattle.amqp_model.specs.PerfSpelling.{spelling}
+use Rattle.amqp_model.specs.declared.item.Item.{Item}
+use Rattle.amqp_model.specs.declared.item.Item.TheVariants as item
 use Rattle.amqp_frames.specs.Frames.{may_carry}
 
 -- a frame that can be written so that it is read again

@@ -3,12 +3,11 @@ ghost use Rattle.std.specs.Prelude.{◌≡◌, ◌++◌, List, IfOk};
 ghost use Rattle.amqp_frames.specs.Contract.{next_front, IsShorter};
 ghost use Rattle.amqp_frames.specs.Cuts.{Cuts};
 ghost use Rattle.amqp_frames.specs.Frames.{front};
-ghost use Rattle.amqp_frames.specs.declared.item.Item.{Item as AnItem};
+ghost use Rattle.amqp_model.specs.declared.item.Item.{Item as AnItem};
 
 use crate::extent::{Extent, extent_of};
-use crate::fault::FrameFault;
-use crate::item::Item;
 use crate::read::{load, read_item};
+use amqp_model::{FrameFault, Item};
 use bytes::Bytes;
 use std::alloc::{AllocError, Global};
 

@@ -2,7 +2,7 @@
 ghost use Rattle.std.specs.Prelude.{◌≡◌};
 ghost use Rattle.amqp_frames.specs.Extents.{extent, sized};
 
-use crate::fault::FrameFault;
+use amqp_model::FrameFault;
 
 /// The bytes of a protocol header, and the fewest that a frame has (AMQP 1.0 part 2, sections 2.2 and 2.3.1).
 pub(crate) const MIN_SIZE: usize = 8;

@@ -2,12 +2,12 @@
 ghost use Rattle.std.specs.Prelude.{◌≡◌, ◌++◌, ◌<◌, ◌↔◌, ℕ, length, Bool, List, []};
 ghost use Rattle.amqp_frames.specs.Cuts.{Cuts, Leads};
 ghost use Rattle.amqp_frames.specs.Frames.{front, found, more, wrong};
-ghost use Rattle.amqp_frames.specs.ItemSpelling.{item_spelling};
+ghost use Rattle.amqp_model.specs.ItemSpelling.{item_spelling};
 ghost use Rattle.amqp_frames.specs.Laws.{Feeds, HasOneCut, joined};
 ghost use Rattle.amqp_frames.specs.SpellsItem.{SpellsItem, IsSpelt};
 ghost use Rattle.amqp_frames.specs.Within.{IsWithin};
-ghost use Rattle.amqp_frames.specs.declared.fault.FrameFault.{FrameFault as AFault};
-ghost use Rattle.amqp_frames.specs.declared.item.Item.{Item as AnItem};
+ghost use Rattle.amqp_model.specs.declared.frame_fault.FrameFault.{FrameFault as AFault};
+ghost use Rattle.amqp_model.specs.declared.item.Item.{Item as AnItem};
 
 /// A stream is cut into items and a rest in one way, however it comes: what readers give piece by piece, and what they
 /// keep at the end, is the cut of the whole.

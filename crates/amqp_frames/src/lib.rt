@@ -3,17 +3,14 @@
 
 mod cut;
 mod extent;
-pub mod fault;
 mod gather;
-pub mod item;
 pub mod laws;
 mod read;
 pub mod reader;
 pub mod room;
 pub mod write;
 
-pub use fault::FrameFault;
-pub use item::Item;
+pub use amqp_model::{FrameFault, Item};
 pub use reader::FrameReader;
 pub use room::{item_len, transfer_room};
 pub use write::write_item;

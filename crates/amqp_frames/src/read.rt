@@ -3,9 +3,8 @@ ghost use Rattle.std.specs.Prelude.{◌≡◌, ◌+◌, ◌*◌, ◌≤◌, IsTr
 ghost use Rattle.amqp_frames.specs.Contract.{Reads, loaded};
 ghost use Rattle.amqp_frames.specs.Frames.{frame, item_of, may_carry};
 
-use crate::fault::FrameFault;
-use crate::item::Item;
-use amqp_perf::{Perf, PerfFault, read_perf};
+use amqp_model::{FrameFault, Item, Perf, PerfFault};
+use amqp_perf::read_perf;
 use bytes::Bytes;
 use std::alloc::Global;
 

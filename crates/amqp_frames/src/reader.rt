@@ -3,14 +3,13 @@ ghost use Rattle.std.specs.Prelude.{◌≡◌, ◌≤◌, ◌⊎◌, ◌↔◌, 
 ghost use Rattle.amqp_frames.specs.Contract.{loaded};
 ghost use Rattle.amqp_frames.specs.Cuts.{Cuts};
 ghost use Rattle.amqp_frames.specs.Frames.{front, more};
-ghost use Rattle.amqp_frames.specs.declared.item.Item.{Item as AnItem};
+ghost use Rattle.amqp_model.specs.declared.item.Item.{Item as AnItem};
 
 use crate::cut::cut;
 use crate::extent::{Extent, extent_of};
-use crate::fault::FrameFault;
 use crate::gather::gather_item;
-use crate::item::Item;
 use crate::read::{load, read_item};
+use amqp_model::{FrameFault, Item};
 use bytes::Bytes;
 use std::alloc::{AllocError, AllocFailed, Global};
 use std::marker::Model;

@@ -1,13 +1,13 @@
 //! How long items are, and how much a frame has room for.
 ghost use Rattle.std.specs.Prelude.{◌≡◌, ◌≤◌, ◌↔◌, ℕ, List, length, is_none, true, IfOk, IsOk};
-ghost use Rattle.amqp_perf.specs.declared.perf.Perf.TheVariants as perf;
-ghost use Rattle.amqp_frames.specs.ItemSpelling.{item_spelling};
-ghost use Rattle.amqp_frames.specs.Room.{transfer_frame, FitsInto};
+ghost use Rattle.amqp_model.specs.declared.perf.Perf.TheVariants as perf;
+ghost use Rattle.amqp_model.specs.ItemSpelling.{item_spelling};
+ghost use Rattle.amqp_model.specs.Room.{transfer_frame, FitsInto};
 
 use crate::extent::MIN_SIZE;
-use crate::item::Item;
 use crate::write::write_item;
-use amqp_perf::{Transfer, transfer_len};
+use amqp_model::{Item, Transfer};
+use amqp_perf::transfer_len;
 use std::alloc::{AllocError, Global};
 
 /// How many bytes `write_item` writes for an item: 0 for a `Bad`. It writes them to count them, so use it for rare frames.

@@ -1,9 +1,9 @@
 //! Writes items.
 ghost use Rattle.std.specs.Prelude.{◌≡◌, ◌++◌, length, take, OnOk, OnErr};
-ghost use Rattle.amqp_frames.specs.ItemSpelling.{head_spelling, item_spelling};
+ghost use Rattle.amqp_model.specs.ItemSpelling.{head_spelling, item_spelling};
 
 use crate::extent::MIN_SIZE;
-use crate::item::Item;
+use amqp_model::Item;
 use amqp_perf::write_perf;
 use std::alloc::{AllocError, Global};
 
@@ -28,7 +28,7 @@ pub fn write_item(alloc: Global, item: &Item, out: &mut Vec<u8>) -> Result<(), A
 }
 
 /// Appends the encoding of an item, or a beginning of it.
-#[tactic(auto, unfolding(crate::specs::ItemSpelling::item_spelling))]
+#[tactic(auto, unfolding(amqp_model::specs::ItemSpelling::item_spelling))]
 fn put_item(alloc: Global, item: &Item, out: &mut Vec<u8>) -> Result<(), AllocError>
     ensures ok { OnOk result (out.new.items ≡ out.old.items ++ item_spelling item.now) }
     ensures kept { OnErr result (take (length out.old.items) out.new.items ≡ out.old.items) }

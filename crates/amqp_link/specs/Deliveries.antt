@@ -1,6 +1,6 @@
 -- Deliveries, from the transfer frames that carry them (AMQP 1.0 part 2, sections 2.6.14 and 2.7.5).
 use Rattle.std.specs.Prelude.{ℕ, Bool, true, ◌&&◌, ◌||◌, not, nat_lt, if◌then◌else◌, List, [], ◌∷◌, ◌++◌, length}
-use Rattle.amqp_perf.specs.declared.perf.Transfer.{Transfer}
+use Rattle.amqp_model.specs.declared.perf.Transfer.{Transfer}
 use Rattle.amqp_link.specs.declared.part.Delivery.{Delivery}
 use Rattle.amqp_link.specs.declared.part.Part.{Part}
 use Rattle.amqp_link.specs.declared.part.Part.TheVariants as part

@@ -4,7 +4,7 @@ ghost use Rattle.amqp_link.specs.Deliveries.{frame};
 ghost use Rattle.amqp_link.specs.Gathering.{begun, with_frame, settled_now, fitting, more, whole, next};
 
 use crate::part::{Delivery, Part};
-use amqp_perf::Transfer;
+use amqp_model::Transfer;
 use bytes::Bytes;
 use std::alloc::{AllocError, Global};
 use std::marker::Model;

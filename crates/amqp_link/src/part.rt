@@ -2,7 +2,7 @@
 ghost use Rattle.std.specs.Prelude.{◌≡◌, IsOk, IfOk};
 ghost use Rattle.amqp_link.specs.Deliveries.{told};
 
-use amqp_perf::{DeliveryTag, Transfer};
+use amqp_model::{DeliveryTag, Transfer};
 use bytes::Bytes;
 use std::alloc::AllocError;
 

@@ -11,7 +11,7 @@ use crate::fault::LinkFault;
 use crate::gathering::{Gathering, first, later};
 use crate::grant::Grant;
 use crate::part::{Delivery, Part};
-use amqp_perf::Transfer;
+use amqp_model::Transfer;
 use amqp_session::Serial;
 use bytes::Bytes;
 use std::alloc::{AllocError, Global};

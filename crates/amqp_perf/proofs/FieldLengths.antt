@@ -2,7 +2,7 @@
 use Rattle.std.proofs.Common.{◌≡◌, ◌∙◌, ℕ, ◌+◌, ◌-◌, ◌<◌, ◌^◌, List, [], ◌++◌, length, length-append, take, get_or, refl, sym, ap, arith}
 use Rattle.std.specs.Prelude.{min}
 use Rattle.amqp_perf.specs.declared.text.Field.{Field}
-use Rattle.amqp_perf.specs.Texts.{field_bytes, joined}
+use Rattle.amqp_model.specs.Texts.{field_bytes, joined}
 use Rattle.amqp_perf.specs.TextViews.{field_view, fields_view}
 use Rattle.amqp_perf.proofs.FieldTexts.{joined_more}
 

@@ -2,7 +2,7 @@
 use Rattle.std.proofs.Common.{◌≡◌, ℕ, ◌+◌, ◌<◌, true, false, List, [], ◌∷◌, ◌++◌, length, take, get_or, Some, None, is_none, refl, sym, ap, ◌∙◌, append_assoc, true≢false, arith}
 use Rattle.std.proofs.lemmas.List.{append-nil, take_more}
 use Rattle.amqp_perf.specs.declared.text.Field.{Field}
-use Rattle.amqp_perf.specs.Texts.{FieldText, given, given_by, field_bytes, joined}
+use Rattle.amqp_model.specs.Texts.{FieldText, given, given_by, field_bytes, joined}
 use Rattle.amqp_perf.specs.TextViews.{field_view, fields_view}
 
 given-null : (fs : List FieldText) → given (fs ++ None ∷ []) ≡ given fs

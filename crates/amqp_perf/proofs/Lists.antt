@@ -2,14 +2,14 @@
 use Rattle.std.proofs.Common.{◌≡◌, ℕ, ◌+◌, ◌<◌, List, [], ◌∷◌, ◌++◌, length, take, get_or, refl, sym, ap, ◌∙◌, append_assoc, String, string_bytes, rules}
 use Rattle.std.specs.declared.alloc.Global.{Global}
 use Rattle.std.proofs.lemmas.List.{append-nil, take_more}
-use Rattle.amqp_values.specs.Data as d
-use Rattle.amqp_values.specs.Data.{Data, Items, no_items, item}
-use Rattle.amqp_values.specs.declared.value.Value.{Value, the_lemmas}
-use Rattle.amqp_values.specs.declared.value.Value.TheVariants as value
-use Rattle.amqp_values.specs.View.{view, items_view}
-use Rattle.amqp_perf.specs.declared.state.UnsettledDelivery.{UnsettledDelivery}
-use Rattle.amqp_perf.specs.Texts.{symbol_items, field_bytes, spelt}
-use Rattle.amqp_perf.specs.Spelling.{deliveries_text, state_text}
+use Rattle.amqp_model.specs.Data as d
+use Rattle.amqp_model.specs.Data.{Data, Items, no_items, item}
+use Rattle.amqp_model.specs.declared.value.Value.{Value, the_lemmas}
+use Rattle.amqp_model.specs.declared.value.Value.TheVariants as value
+use Rattle.amqp_model.specs.View.{view, items_view}
+use Rattle.amqp_model.specs.declared.state.UnsettledDelivery.{UnsettledDelivery}
+use Rattle.amqp_model.specs.Texts.{symbol_items, field_bytes, spelt}
+use Rattle.amqp_model.specs.PerfSpelling.{deliveries_text, state_text}
 
 -- values, and one more at the end
 abbrev pub behind : Items → Data → Items

@@ -1,25 +1,26 @@
 -- Bytes that come behind change nothing of what was read of a performative, nor of a fault other than their end.
 use Rattle.std.proofs.Common.{◌≡◌, ℕ, ◌-◌, Bool, true, false, cond, nat_lt, ◌⊎◌, inl, inr, List, ◌++◌, length, Option, Some, None, Result, Ok, Err, refl, sym, ap, subst, ◌∙◌, true≢false}
-use Rattle.amqp_values.specs.declared.fault.TypeFault.{TypeFault}
-use Rattle.amqp_values.specs.declared.fault.TypeFault.TheVariants as type_fault
-use Rattle.amqp_values.specs.declared.code.Leaf.TheVariants as leaf
-use Rattle.amqp_values.specs.declared.code.Code.{Code}
-use Rattle.amqp_values.specs.declared.code.Code.TheVariants as code
-use Rattle.amqp_values.specs.Data.{Data}
-use Rattle.amqp_values.specs.View.{plain_part}
+use Rattle.amqp_model.specs.declared.type_fault.TypeFault.{TypeFault}
+use Rattle.amqp_model.specs.declared.type_fault.TypeFault.TheVariants as type_fault
+use Rattle.amqp_model.specs.declared.code.Leaf.TheVariants as leaf
+use Rattle.amqp_model.specs.declared.code.Code.{Code}
+use Rattle.amqp_model.specs.declared.code.Code.TheVariants as code
+use Rattle.amqp_model.specs.Data.{Data}
+use Rattle.amqp_model.specs.View.{plain_part}
 use Rattle.amqp_types.specs.Reading.{to, after, code_at, size_at, sized_at, value_at}
-use Rattle.amqp_types.specs.Spelling.{spelling}
+use Rattle.amqp_model.specs.ValueSpelling.{spelling}
 use Rattle.amqp_types.proofs.Staying.{Stays as TypeStays, to_stays, code_stays, sized_stays, value_at_stays}
-use Rattle.amqp_perf.specs.declared.fault.PerfFault.{PerfFault}
-use Rattle.amqp_perf.specs.declared.fault.PerfFault.TheVariants as fault
-use Rattle.amqp_perf.specs.declared.descriptor.Descriptor.{Descriptor}
-use Rattle.amqp_perf.specs.declared.descriptor.Descriptor.TheVariants as is
+use Rattle.amqp_model.specs.declared.perf_fault.PerfFault.{PerfFault}
+use Rattle.amqp_model.specs.declared.perf_fault.PerfFault.TheVariants as fault
+use Rattle.amqp_model.specs.declared.descriptor.Descriptor.{Descriptor}
+use Rattle.amqp_model.specs.declared.descriptor.Descriptor.TheVariants as is
 use Rattle.amqp_perf.specs.declared.opening.Opening.{Opening}
 use Rattle.amqp_perf.specs.declared.opening.Opening.TheVariants as opening
-use Rattle.amqp_perf.specs.declared.perf.Perf.{Perf}
-use Rattle.amqp_perf.specs.declared.state.DeliveryState.{DeliveryState}
-use Rattle.amqp_perf.specs.declared.state.DeliveryState.TheVariants as state
-use Rattle.amqp_perf.specs.Faults.{outer, inner, by_fault, ◌>>=◌}
+use Rattle.amqp_model.specs.declared.perf.Perf.{Perf}
+use Rattle.amqp_model.specs.declared.state.DeliveryState.{DeliveryState}
+use Rattle.amqp_model.specs.declared.state.DeliveryState.TheVariants as state
+use Rattle.amqp_perf.specs.Faults.{inner, by_fault, ◌>>=◌}
+use Rattle.amqp_model.specs.PerfFaults.{outer}
 use Rattle.amqp_perf.specs.Fields.{At, ended, name_of, opened, opening_at, counted, listed_by, listed, carried}
 use Rattle.amqp_perf.specs.States.{received_fields, rejected_fields, modified_fields, state_by, state_in}
 use Rattle.amqp_perf.specs.Performative.{limit_of, body, behind, performative_by, performative_at, performative, some_state, state as state_read}

@@ -3,21 +3,21 @@ use Rattle.std.proofs.Common.{◌≡◌, ℕ, ◌≤◌, Bool, true, false, cond
 use Rattle.std.specs.Option.{unwrap_or}
 use Rattle.std.proofs.lemmas.Bool.{ltb-false, le-ltb}
 use Rattle.arrayvec.specs.ArrayVec.{ArrayVec}
-use Rattle.amqp_values.specs.declared.code.Kind.TheVariants as kind
-use Rattle.amqp_values.specs.Data as d
-use Rattle.amqp_values.specs.Data.{Data, Items, no_items, item}
-use Rattle.amqp_types.specs.Spelling.{spelling}
-use Rattle.amqp_perf.specs.declared.fault.PerfFault.{PerfFault}
-use Rattle.amqp_perf.specs.declared.fault.PerfFault.TheVariants as fault
-use Rattle.amqp_perf.specs.declared.perf.Role.{Role}
-use Rattle.amqp_perf.specs.declared.perf.Role.TheVariants as role
-use Rattle.amqp_perf.specs.declared.terminus.Address.{Address}
-use Rattle.amqp_perf.specs.declared.terminus.Address.TheVariants as address
+use Rattle.amqp_model.specs.declared.code.Kind.TheVariants as kind
+use Rattle.amqp_model.specs.Data as d
+use Rattle.amqp_model.specs.Data.{Data, Items, no_items, item}
+use Rattle.amqp_model.specs.ValueSpelling.{spelling}
+use Rattle.amqp_model.specs.declared.perf_fault.PerfFault.{PerfFault}
+use Rattle.amqp_model.specs.declared.perf_fault.PerfFault.TheVariants as fault
+use Rattle.amqp_model.specs.declared.perf.Role.{Role}
+use Rattle.amqp_model.specs.declared.perf.Role.TheVariants as role
+use Rattle.amqp_model.specs.declared.terminus.Address.{Address}
+use Rattle.amqp_model.specs.declared.terminus.Address.TheVariants as address
 use Rattle.amqp_perf.specs.Faults.{◌>>=◌}
 use Rattle.amqp_perf.specs.Fields as read
 use Rattle.amqp_perf.specs.Fields.{At, Takes, unless_null, judged, required, or_else, is_boolean, is_ubyte, is_ushort, is_uint, is_ulong, is_text, is_binary, is_tag, is_map, is_symbol, is_symbols, are_symbols, some_symbols, address_of}
 use Rattle.amqp_perf.specs.Performative.{role_of, required_role}
-use Rattle.amqp_perf.specs.Texts.{symbol_items}
+use Rattle.amqp_model.specs.Texts.{symbol_items}
 use Rattle.amqp_perf.specs.Fitting.{is_address_value}
 use Rattle.amqp_perf.specs.Tables as t
 use Rattle.amqp_perf.specs.Tables.{Kind, Field, mandatory, optional, defaulted, multiple}

@@ -5,20 +5,21 @@ use Rattle.std.proofs.Math.Seq.{take-append_seam}
 use Rattle.amqp_types.specs.Reading.{after, value_at}
 use Rattle.amqp_types.specs.Spells.{Spells}
 use Rattle.amqp_types.proofs.Lengths.{none_begins}
-use Rattle.amqp_perf.specs.declared.fault.PerfFault.{PerfFault}
-use Rattle.amqp_perf.specs.declared.fault.PerfFault.TheVariants as fault
-use Rattle.amqp_perf.specs.declared.descriptor.Descriptor.{Descriptor}
-use Rattle.amqp_perf.specs.declared.descriptor.Descriptor.TheVariants as is
+use Rattle.amqp_model.specs.declared.perf_fault.PerfFault.{PerfFault}
+use Rattle.amqp_model.specs.declared.perf_fault.PerfFault.TheVariants as fault
+use Rattle.amqp_model.specs.declared.descriptor.Descriptor.{Descriptor}
+use Rattle.amqp_model.specs.declared.descriptor.Descriptor.TheVariants as is
 use Rattle.amqp_perf.specs.declared.opening.Opening.{Opening}
 use Rattle.amqp_perf.specs.declared.opening.Opening.TheVariants as opening
-use Rattle.amqp_perf.specs.declared.perf.Perf.{Perf}
-use Rattle.amqp_perf.specs.declared.perf.Perf.TheVariants as perf
-use Rattle.amqp_perf.specs.declared.state.DeliveryState.{DeliveryState}
-use Rattle.amqp_perf.specs.Faults.{outer, by_fault, ◌>>=◌}
+use Rattle.amqp_model.specs.declared.perf.Perf.{Perf}
+use Rattle.amqp_model.specs.declared.perf.Perf.TheVariants as perf
+use Rattle.amqp_model.specs.declared.state.DeliveryState.{DeliveryState}
+use Rattle.amqp_perf.specs.Faults.{by_fault, ◌>>=◌}
+use Rattle.amqp_model.specs.PerfFaults.{outer}
 use Rattle.amqp_perf.specs.Fields.{At, opening_at, listed}
 use Rattle.amqp_perf.specs.States.{state_in}
 use Rattle.amqp_perf.specs.Performative.{limit_of, body, behind, performative_by, performative_at, performative, some_state, state, open_fields, begin_fields, attach_fields, flow_fields, transfer_fields, disposition_fields, detach_fields, end_fields, close_fields, sasl_mechanisms_fields, sasl_init_fields, sasl_challenge_fields, sasl_response_fields, sasl_outcome_fields}
-use Rattle.amqp_perf.specs.Spelling.{spelling, state_spelling}
+use Rattle.amqp_model.specs.PerfSpelling.{spelling, state_spelling}
 use Rattle.amqp_perf.specs.Fitting.{Fits, FitsState, read_as}
 use Rattle.amqp_perf.specs.Tables.{Field, SpellsList}
 use Rattle.amqp_perf.specs.ListTables.{SpellsPerf, SpellsState, delivery_state, open_table, begin_table, attach_table, flow_table, transfer_table, disposition_table, detach_table, end_table, close_table, sasl_mechanisms_table, sasl_init_table, sasl_challenge_table, sasl_response_table, sasl_outcome_table}

@@ -1,29 +1,31 @@
 -- Described lists: what is spelled so is opened so, and what was opened is spelled so.
 use Rattle.std.proofs.Common.{◌≡◌, ℕ, suc, ◌-◌, ◌≤◌, Bool, true, false, cond, nat_lt, List, [], ◌∷◌, ◌++◌, length, Option, Some, None, Result, Ok, Err, refl, sym, ap, subst, ◌∙◌, append_assoc, arith}
 use Rattle.std.proofs.lemmas.Bool.{ltb-false}
-use Rattle.amqp_values.specs.declared.code.Leaf.{Leaf}
-use Rattle.amqp_values.specs.declared.code.Leaf.TheVariants as leaf
-use Rattle.amqp_values.specs.declared.code.Code.{Code}
-use Rattle.amqp_values.specs.declared.code.Code.TheVariants as code
-use Rattle.amqp_values.specs.declared.code.Size.{Size}
-use Rattle.amqp_values.specs.Codes.{code_of as constructor_of, leaf_kind}
-use Rattle.amqp_values.specs.declared.code.Kind.TheVariants as kind
-use Rattle.amqp_values.specs.declared.code.Kind.{Kind}
-use Rattle.amqp_values.specs.Data as d
-use Rattle.amqp_values.specs.Data.{Data, Items, no_items, item}
-use Rattle.amqp_values.specs.View.{plain_part}
+use Rattle.amqp_model.specs.declared.code.Leaf.{Leaf}
+use Rattle.amqp_model.specs.declared.code.Leaf.TheVariants as leaf
+use Rattle.amqp_model.specs.declared.code.Code.{Code}
+use Rattle.amqp_model.specs.declared.code.Code.TheVariants as code
+use Rattle.amqp_model.specs.declared.code.Size.{Size}
+use Rattle.amqp_model.specs.Codes.{code_of as constructor_of, leaf_kind}
+use Rattle.amqp_model.specs.declared.code.Kind.TheVariants as kind
+use Rattle.amqp_model.specs.declared.code.Kind.{Kind}
+use Rattle.amqp_model.specs.Data as d
+use Rattle.amqp_model.specs.Data.{Data, Items, no_items, item}
+use Rattle.amqp_model.specs.View.{plain_part}
 use Rattle.amqp_types.specs.Reading.{to, code_at, size_at, sized_at, value_at}
-use Rattle.amqp_types.specs.Spells.{Spells, Behind, AreItems, count}
+use Rattle.amqp_types.specs.Spells.{Spells, Behind, AreItems}
+use Rattle.amqp_model.specs.Data.{count}
 use Rattle.amqp_types.proofs.Typed.{leaf_meant}
 use Rattle.amqp_types.proofs.Sound.{code_sound, size_sound, sized_sound, Spells-value_at}
 use Rattle.amqp_types.proofs.Complete.{code_complete, value_at-Spells}
 use Rattle.amqp_types.proofs.Tools.{to_ok}
-use Rattle.amqp_perf.specs.declared.fault.PerfFault.{PerfFault}
-use Rattle.amqp_perf.specs.declared.fault.PerfFault.TheVariants as fault
-use Rattle.amqp_perf.specs.declared.descriptor.Descriptor.{Descriptor}
+use Rattle.amqp_model.specs.declared.perf_fault.PerfFault.{PerfFault}
+use Rattle.amqp_model.specs.declared.perf_fault.PerfFault.TheVariants as fault
+use Rattle.amqp_model.specs.declared.descriptor.Descriptor.{Descriptor}
 use Rattle.amqp_perf.specs.declared.opening.Opening.{Opening}
 use Rattle.amqp_perf.specs.declared.opening.Opening.TheVariants as opening
-use Rattle.amqp_perf.specs.Faults.{outer, inner, by_fault, ◌>>=◌}
+use Rattle.amqp_perf.specs.Faults.{inner, by_fault, ◌>>=◌}
+use Rattle.amqp_model.specs.PerfFaults.{outer}
 use Rattle.amqp_perf.specs.Fields.{At, name_of, opened, opening_at, counted, listed_by, listed}
 use Rattle.amqp_perf.specs.Tables.{Field, Holds, SpellsList}
 use Rattle.amqp_perf.proofs.TablePlaces.{bind_ok, found_is, by_fault_ok, Ready, Read}

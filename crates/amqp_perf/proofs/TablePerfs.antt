@@ -1,19 +1,19 @@
 -- The fields of each performative and SASL body against its table.
 use Rattle.std.proofs.Common.{◌≡◌, false, List, [], ◌∷◌, Ok, refl, subst}
-use Rattle.amqp_perf.specs.declared.perf.Open.{Open}
-use Rattle.amqp_perf.specs.declared.perf.Begin.{Begin}
-use Rattle.amqp_perf.specs.declared.perf.Attach.{Attach}
-use Rattle.amqp_perf.specs.declared.perf.Flow.{Flow}
-use Rattle.amqp_perf.specs.declared.perf.Transfer.{Transfer}
-use Rattle.amqp_perf.specs.declared.perf.Disposition.{Disposition}
-use Rattle.amqp_perf.specs.declared.perf.Detach.{Detach}
-use Rattle.amqp_perf.specs.declared.perf.End.{End}
-use Rattle.amqp_perf.specs.declared.perf.Close.{Close}
-use Rattle.amqp_perf.specs.declared.perf.SaslMechanisms.{SaslMechanisms}
-use Rattle.amqp_perf.specs.declared.perf.SaslInit.{SaslInit}
-use Rattle.amqp_perf.specs.declared.perf.SaslChallenge.{SaslChallenge}
-use Rattle.amqp_perf.specs.declared.perf.SaslResponse.{SaslResponse}
-use Rattle.amqp_perf.specs.declared.perf.SaslOutcome.{SaslOutcome}
+use Rattle.amqp_model.specs.declared.perf.Open.{Open}
+use Rattle.amqp_model.specs.declared.perf.Begin.{Begin}
+use Rattle.amqp_model.specs.declared.perf.Attach.{Attach}
+use Rattle.amqp_model.specs.declared.perf.Flow.{Flow}
+use Rattle.amqp_model.specs.declared.perf.Transfer.{Transfer}
+use Rattle.amqp_model.specs.declared.perf.Disposition.{Disposition}
+use Rattle.amqp_model.specs.declared.perf.Detach.{Detach}
+use Rattle.amqp_model.specs.declared.perf.End.{End}
+use Rattle.amqp_model.specs.declared.perf.Close.{Close}
+use Rattle.amqp_model.specs.declared.perf.SaslMechanisms.{SaslMechanisms}
+use Rattle.amqp_model.specs.declared.perf.SaslInit.{SaslInit}
+use Rattle.amqp_model.specs.declared.perf.SaslChallenge.{SaslChallenge}
+use Rattle.amqp_model.specs.declared.perf.SaslResponse.{SaslResponse}
+use Rattle.amqp_model.specs.declared.perf.SaslOutcome.{SaslOutcome}
 use Rattle.amqp_perf.specs.declared.read_perfs.LinkEnds.{LinkEnds}
 use Rattle.amqp_perf.specs.declared.read_perfs.LinkHoldings.{LinkHoldings}
 use Rattle.amqp_perf.specs.declared.read_perfs.LinkExtras.{LinkExtras}

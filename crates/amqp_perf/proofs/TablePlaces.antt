@@ -3,18 +3,19 @@ use Rattle.std.proofs.Common.{◌≡◌, ℕ, suc, ◌-◌, ◌≤◌, Bool, tru
 use Rattle.std.proofs.Math.Dec.{eqb-suc-zero}
 use Rattle.std.proofs.lemmas.Bool.{eqb-true, eqb-false}
 use Rattle.std.proofs.lemmas.List.{nil_from_length}
-use Rattle.amqp_values.specs.declared.fault.TypeFault.{TypeFault}
-use Rattle.amqp_values.specs.Data as d
-use Rattle.amqp_values.specs.Data.{Data, Items, no_items, item}
-use Rattle.amqp_values.specs.View.{plain_part}
+use Rattle.amqp_model.specs.declared.type_fault.TypeFault.{TypeFault}
+use Rattle.amqp_model.specs.Data as d
+use Rattle.amqp_model.specs.Data.{Data, Items, no_items, item}
+use Rattle.amqp_model.specs.View.{plain_part}
 use Rattle.amqp_types.specs.Reading.{to, value_at}
-use Rattle.amqp_types.specs.Spells.{Spells, AreItems, count}
+use Rattle.amqp_types.specs.Spells.{Spells, AreItems}
+use Rattle.amqp_model.specs.Data.{count}
 use Rattle.amqp_types.proofs.Sound.{Spells-value_at}
 use Rattle.amqp_types.proofs.Complete.{value_at-Spells}
 use Rattle.amqp_types.proofs.Tools.{to_ok}
-use Rattle.amqp_perf.specs.declared.fault.PerfFault.{PerfFault}
-use Rattle.amqp_perf.specs.declared.fault.PerfFault.TheVariants as fault
-use Rattle.amqp_values.specs.declared.fault.TypeFault.TheVariants as type_fault
+use Rattle.amqp_model.specs.declared.perf_fault.PerfFault.{PerfFault}
+use Rattle.amqp_model.specs.declared.perf_fault.PerfFault.TheVariants as fault
+use Rattle.amqp_model.specs.declared.type_fault.TypeFault.TheVariants as type_fault
 use Rattle.amqp_perf.specs.Faults.{inner, by_fault, ◌>>=◌}
 use Rattle.amqp_perf.specs.Fields.{At, Takes, ended, absent, next, value, plain, plain_only, unless_null}
 use Rattle.amqp_perf.specs.Tables.{Field, Holds}

@@ -1,21 +1,22 @@
 -- Errors and delivery states against their tables.
 use Rattle.std.proofs.Common.{◌≡◌, ℕ, suc, true, false, List, [], ◌++◌, Option, Some, None, Ok, refl, sym, ap, subst, ◌∙◌}
-use Rattle.amqp_values.specs.Data as d
-use Rattle.amqp_values.specs.Data.{Data}
-use Rattle.amqp_types.specs.Spelling.{spelling}
+use Rattle.amqp_model.specs.Data as d
+use Rattle.amqp_model.specs.Data.{Data}
+use Rattle.amqp_model.specs.ValueSpelling.{spelling}
 use Rattle.amqp_types.specs.Spells.{Spells}
 use Rattle.amqp_types.proofs.Complete.{value_at-Spells}
-use Rattle.amqp_perf.specs.declared.descriptor.Descriptor.{Descriptor}
-use Rattle.amqp_perf.specs.declared.descriptor.Descriptor.TheVariants as is
+use Rattle.amqp_model.specs.declared.descriptor.Descriptor.{Descriptor}
+use Rattle.amqp_model.specs.declared.descriptor.Descriptor.TheVariants as is
 use Rattle.amqp_perf.specs.declared.opening.Opening.{Opening}
 use Rattle.amqp_perf.specs.declared.opening.Opening.TheVariants as opening
-use Rattle.amqp_perf.specs.declared.state.Fault.{Fault}
-use Rattle.amqp_perf.specs.declared.state.Received.{Received}
-use Rattle.amqp_perf.specs.declared.state.Rejected.{Rejected}
-use Rattle.amqp_perf.specs.declared.state.Modified.{Modified}
-use Rattle.amqp_perf.specs.declared.state.DeliveryState.{DeliveryState}
-use Rattle.amqp_perf.specs.declared.state.DeliveryState.TheVariants as state
-use Rattle.amqp_perf.specs.Faults.{outer, by_fault, ◌>>=◌}
+use Rattle.amqp_model.specs.declared.state.Fault.{Fault}
+use Rattle.amqp_model.specs.declared.state.Received.{Received}
+use Rattle.amqp_model.specs.declared.state.Rejected.{Rejected}
+use Rattle.amqp_model.specs.declared.state.Modified.{Modified}
+use Rattle.amqp_model.specs.declared.state.DeliveryState.{DeliveryState}
+use Rattle.amqp_model.specs.declared.state.DeliveryState.TheVariants as state
+use Rattle.amqp_perf.specs.Faults.{by_fault, ◌>>=◌}
+use Rattle.amqp_model.specs.PerfFaults.{outer}
 use Rattle.amqp_perf.specs.Fields.{At, ended, name_of, opening_at, carried}
 use Rattle.amqp_perf.specs.States.{error_fields, error_by, error_in, error_at, received_fields, rejected_fields, modified_fields, state_by, state_in, state_at}
 use Rattle.amqp_perf.specs.Fitting.{names_state}

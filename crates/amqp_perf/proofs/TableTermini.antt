@@ -1,23 +1,24 @@
 -- Sources and targets against their tables.
 use Rattle.std.proofs.Common.{◌≡◌, ℕ, suc, false, List, [], ◌∷◌, ◌++◌, Option, Some, None, Ok, refl, sym, ap, subst, ◌∙◌}
-use Rattle.amqp_values.specs.Data as d
-use Rattle.amqp_values.specs.Data.{Data}
+use Rattle.amqp_model.specs.Data as d
+use Rattle.amqp_model.specs.Data.{Data}
 use Rattle.amqp_types.specs.Spells.{Spells}
-use Rattle.amqp_perf.specs.declared.descriptor.Descriptor.{Descriptor}
-use Rattle.amqp_perf.specs.declared.descriptor.Descriptor.TheVariants as is
+use Rattle.amqp_model.specs.declared.descriptor.Descriptor.{Descriptor}
+use Rattle.amqp_model.specs.declared.descriptor.Descriptor.TheVariants as is
 use Rattle.amqp_perf.specs.declared.opening.Opening.{Opening}
 use Rattle.amqp_perf.specs.declared.opening.Opening.TheVariants as opening
-use Rattle.amqp_perf.specs.declared.terminus.Source.{Source}
-use Rattle.amqp_perf.specs.declared.terminus.Target.{Target}
+use Rattle.amqp_model.specs.declared.terminus.Source.{Source}
+use Rattle.amqp_model.specs.declared.terminus.Target.{Target}
 use Rattle.amqp_perf.specs.declared.read_termini.NodeFields.{NodeFields}
 use Rattle.amqp_perf.specs.declared.read_termini.SourceChoices.{SourceChoices}
-use Rattle.amqp_perf.specs.declared.terminus.SourceTerminus.{SourceTerminus}
-use Rattle.amqp_perf.specs.declared.terminus.SourceTerminus.TheVariants as source
-use Rattle.amqp_perf.specs.declared.terminus.TargetTerminus.{TargetTerminus}
-use Rattle.amqp_perf.specs.declared.terminus.TargetTerminus.TheVariants as target
+use Rattle.amqp_model.specs.declared.terminus.SourceTerminus.{SourceTerminus}
+use Rattle.amqp_model.specs.declared.terminus.SourceTerminus.TheVariants as source
+use Rattle.amqp_model.specs.declared.terminus.TargetTerminus.{TargetTerminus}
+use Rattle.amqp_model.specs.declared.terminus.TargetTerminus.TheVariants as target
 use Rattle.amqp_perf.specs.Faults.{◌>>=◌}
 use Rattle.amqp_perf.specs.Fields.{At, name_of, opening_at, carried}
-use Rattle.amqp_perf.specs.Termini.{session_end, node_at, choices_fields, source_fields, target_fields, source_by, source_in, source_at, target_by, target_in, target_at}
+use Rattle.amqp_perf.specs.Termini.{node_at, choices_fields, source_fields, target_fields, source_by, source_in, source_at, target_by, target_in, target_at}
+use Rattle.amqp_model.specs.PerfSpelling.{session_end}
 use Rattle.amqp_perf.specs.Fitting.{names_source, names_target}
 use Rattle.amqp_perf.specs.Tables.{Field, IsCarried, NoneNames, optional, defaulted, multiple, boolean, uint, symbol, map, node_address}
 use Rattle.amqp_perf.specs.ListTables.{delivery_state, source_table, target_table, source_terminus, target_terminus}

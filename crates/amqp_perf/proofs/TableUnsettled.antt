@@ -2,25 +2,27 @@
 use Rattle.std.proofs.Common.{◌≡◌, ℕ, suc, ◌*◌, ◌-◌, ◌/◌, Bool, true, false, cond, inl, inr, List, [], ◌∷◌, ◌++◌, Option, Some, None, Ok, Err, refl, sym, ap, subst, ◌∙◌, append_assoc, arith}
 use Rattle.std.proofs.lemmas.List.{append-nil}
 use Rattle.arrayvec.specs.ArrayVec.{ArrayVec}
-use Rattle.amqp_values.specs.declared.code.Leaf.{Leaf}
-use Rattle.amqp_values.specs.declared.code.Leaf.TheVariants as leaf
-use Rattle.amqp_values.specs.declared.code.Code.{Code}
-use Rattle.amqp_values.specs.declared.code.Code.TheVariants as code
-use Rattle.amqp_values.specs.declared.code.Size.{Size}
-use Rattle.amqp_values.specs.declared.code.Kind.{Kind}
-use Rattle.amqp_values.specs.declared.code.Kind.TheVariants as kind
-use Rattle.amqp_values.specs.Codes.{leaf_kind}
-use Rattle.amqp_values.specs.Data as d
-use Rattle.amqp_values.specs.Data.{Data, Items, no_items, item, Pairs, no_pairs, pair}
+use Rattle.amqp_model.specs.declared.code.Leaf.{Leaf}
+use Rattle.amqp_model.specs.declared.code.Leaf.TheVariants as leaf
+use Rattle.amqp_model.specs.declared.code.Code.{Code}
+use Rattle.amqp_model.specs.declared.code.Code.TheVariants as code
+use Rattle.amqp_model.specs.declared.code.Size.{Size}
+use Rattle.amqp_model.specs.declared.code.Kind.{Kind}
+use Rattle.amqp_model.specs.declared.code.Kind.TheVariants as kind
+use Rattle.amqp_model.specs.Codes.{leaf_kind}
+use Rattle.amqp_model.specs.Data as d
+use Rattle.amqp_model.specs.Data.{Data, Items, no_items, item, Pairs, no_pairs, pair}
 use Rattle.amqp_types.specs.Reading.{after, code_at, size_at, value_at, found_before}
-use Rattle.amqp_types.specs.Spells.{Spelling, Spells, Behind, AreItems, ArePairs, Fills, IsMapInside, count, pair_count}
+use Rattle.amqp_types.specs.Spells.{Spelling, Spells, Behind, AreItems, ArePairs, Fills, IsMapInside}
+use Rattle.amqp_model.specs.Data.{count, pair_count}
 use Rattle.amqp_types.proofs.Tools.{bind_ok as type_bind_ok, ok_is as type_ok_is}
 use Rattle.amqp_types.proofs.Typed.{leaf_meant}
 use Rattle.amqp_types.proofs.Sound.{Spells-value_at}
 use Rattle.amqp_types.proofs.Complete.{code_complete, size_complete, sized_complete, value_at-Spells}
-use Rattle.amqp_perf.specs.declared.fault.PerfFault.TheVariants as fault
-use Rattle.amqp_perf.specs.declared.state.UnsettledDelivery.{UnsettledDelivery}
-use Rattle.amqp_perf.specs.Faults.{outer, inner, by_fault, ◌>>=◌}
+use Rattle.amqp_model.specs.declared.perf_fault.PerfFault.TheVariants as fault
+use Rattle.amqp_model.specs.declared.state.UnsettledDelivery.{UnsettledDelivery}
+use Rattle.amqp_perf.specs.Faults.{inner, by_fault, ◌>>=◌}
+use Rattle.amqp_model.specs.PerfFaults.{outer}
 use Rattle.amqp_perf.specs.Fields as read
 use Rattle.amqp_perf.specs.Fields.{At}
 use Rattle.amqp_perf.specs.States.{state_at, some_tag, tag_key, is_among, not_among, deliveries_at, unsettled_by, unsettled_in, unsettled_at}

@@ -3,21 +3,21 @@ use Rattle.std.proofs.Common.{◌≡◌, ℕ, suc, ◌^◌, ◌<◌, ◌≤◌, 
 use Rattle.std.specs.Option.{unwrap_or}
 use Rattle.std.proofs.lemmas.Bool.{le-ltb, eqb-true}
 use Rattle.arrayvec.specs.ArrayVec.{ArrayVec}
-use Rattle.amqp_values.specs.declared.code.Kind.TheVariants as kind
-use Rattle.amqp_values.specs.Data as d
-use Rattle.amqp_values.specs.Data.{Data, Items, no_items, item}
-use Rattle.amqp_values.specs.View.{plain_part}
-use Rattle.amqp_types.specs.Spells.{count}
+use Rattle.amqp_model.specs.declared.code.Kind.TheVariants as kind
+use Rattle.amqp_model.specs.Data as d
+use Rattle.amqp_model.specs.Data.{Data, Items, no_items, item}
+use Rattle.amqp_model.specs.View.{plain_part}
+use Rattle.amqp_model.specs.Data.{count}
 use Rattle.amqp_types.specs.Fitting.{FitsIn, AllItems, AreOf}
-use Rattle.amqp_perf.specs.declared.fault.PerfFault.{PerfFault}
-use Rattle.amqp_perf.specs.declared.fault.PerfFault.TheVariants as fault
-use Rattle.amqp_perf.specs.declared.perf.Role.{Role}
-use Rattle.amqp_perf.specs.declared.perf.Role.TheVariants as role
+use Rattle.amqp_model.specs.declared.perf_fault.PerfFault.{PerfFault}
+use Rattle.amqp_model.specs.declared.perf_fault.PerfFault.TheVariants as fault
+use Rattle.amqp_model.specs.declared.perf.Role.{Role}
+use Rattle.amqp_model.specs.declared.perf.Role.TheVariants as role
 use Rattle.amqp_perf.specs.Faults.{◌>>=◌}
 use Rattle.amqp_perf.specs.Fields.{plain, unless_null, judged, required, or_else, is_boolean, is_ubyte, is_ushort, is_uint, is_ulong, is_text, is_symbol, is_binary, is_map, are_symbols, is_symbols, is_tag, flag, required_flag, ubyte, required_ubyte, ushort, uint, required_uint, ulong, required_ulong, text, required_text, symbol, required_symbol, binary, required_binary, tag, map, symbols, some_symbols, required_symbols}
 use Rattle.amqp_perf.specs.Performative.{role_of, required_role}
-use Rattle.amqp_perf.specs.Texts.{FieldText, spelt, ubyte_unless, uint_unless, ushort_unless, flag_text, symbol_items, symbols_text, mapped}
-use Rattle.amqp_perf.specs.Spelling.{role_text}
+use Rattle.amqp_model.specs.Texts.{FieldText, spelt, ubyte_unless, uint_unless, ushort_unless, flag_text, symbol_items, symbols_text, mapped}
+use Rattle.amqp_model.specs.PerfSpelling.{role_text}
 use Rattle.amqp_perf.specs.Fitting.{Each, IsText, IsSymbol, IsBinary, IsTag, AllSymbols, AreSymbols, IsMap}
 use Rattle.amqp_perf.proofs.WrittenPlaces.{found, place, plain-some, plain-none, value-some, value-none}
 

@@ -2,29 +2,30 @@
 use Rattle.std.proofs.Common.{◌≡◌, ℕ, suc, ◌+◌, ◌-◌, ◌^◌, ◌<◌, ◌≤◌, Bool, true, false, cond, ◌&&◌, nat_lt, List, [], ◌∷◌, ◌++◌, length, Some, None, Result, Ok, Err, refl, sym, ap, subst, ◌∙◌, arith}
 use Rattle.std.proofs.lemmas.Bool.{le-ltb}
 use Rattle.std.proofs.Math.Dec.{eqb-suc-zero}
-use Rattle.amqp_values.specs.declared.code.Size.{Size}
-use Rattle.amqp_values.specs.declared.code.Size.TheVariants as size
-use Rattle.amqp_values.specs.declared.code.Code.TheVariants as code
-use Rattle.amqp_values.specs.declared.code.Kind.TheVariants as kind
-use Rattle.amqp_values.specs.Codes.{code_of as constructor_of}
-use Rattle.amqp_values.specs.Data as d
-use Rattle.amqp_values.specs.Data.{Data}
-use Rattle.amqp_values.specs.View.{plain_part}
+use Rattle.amqp_model.specs.declared.code.Size.{Size}
+use Rattle.amqp_model.specs.declared.code.Size.TheVariants as size
+use Rattle.amqp_model.specs.declared.code.Code.TheVariants as code
+use Rattle.amqp_model.specs.declared.code.Kind.TheVariants as kind
+use Rattle.amqp_model.specs.Codes.{code_of as constructor_of}
+use Rattle.amqp_model.specs.Data as d
+use Rattle.amqp_model.specs.Data.{Data}
+use Rattle.amqp_model.specs.View.{plain_part}
 use Rattle.amqp_types.specs.Reading.{to, size_at, value_at}
 use Rattle.amqp_types.specs.Spells.{Spelling, IsNumber, Fills}
-use Rattle.amqp_types.specs.Spelling.{constructed, compound_piece, wide_sizes, list_text, spelling}
+use Rattle.amqp_model.specs.ValueSpelling.{constructed, compound_piece, wide_sizes, list_text, spelling}
 use Rattle.amqp_types.specs.Fitting.{FitsIn}
 use Rattle.amqp_types.proofs.Complete.{size_complete, sized_complete, code_complete}
 use Rattle.amqp_types.proofs.RoundTrip.{compound_wide, compound_narrow, value_at-spelling}
-use Rattle.amqp_perf.specs.declared.fault.PerfFault.{PerfFault}
-use Rattle.amqp_perf.specs.declared.fault.PerfFault.TheVariants as fault
-use Rattle.amqp_perf.specs.declared.descriptor.Descriptor.{Descriptor}
-use Rattle.amqp_perf.specs.declared.descriptor.Descriptor.TheVariants as is
+use Rattle.amqp_model.specs.declared.perf_fault.PerfFault.{PerfFault}
+use Rattle.amqp_model.specs.declared.perf_fault.PerfFault.TheVariants as fault
+use Rattle.amqp_model.specs.declared.descriptor.Descriptor.{Descriptor}
+use Rattle.amqp_model.specs.declared.descriptor.Descriptor.TheVariants as is
 use Rattle.amqp_perf.specs.declared.opening.Opening.TheVariants as opening
-use Rattle.amqp_perf.specs.Descriptors.{code_of, named}
-use Rattle.amqp_perf.specs.Faults.{outer, inner, by_fault, ◌>>=◌}
+use Rattle.amqp_model.specs.Descriptors.{code_of, named}
+use Rattle.amqp_perf.specs.Faults.{inner, by_fault, ◌>>=◌}
+use Rattle.amqp_model.specs.PerfFaults.{outer}
 use Rattle.amqp_perf.specs.Fields.{At, name_of, opening_at, listed, listed_by, counted}
-use Rattle.amqp_perf.specs.Texts.{FieldText, given, given_by, joined, described_text}
+use Rattle.amqp_model.specs.Texts.{FieldText, given, given_by, joined, described_text}
 use Rattle.amqp_perf.specs.Fitting.{IsShort}
 use Rattle.amqp_perf.proofs.WrittenPlaces.{found, place}
 

@@ -1,31 +1,31 @@
 -- Performatives that were written, read again.
 use Rattle.std.proofs.Common.{◌≡◌, ℕ, ◌-◌, ◌<◌, ◌≤◌, List, [], ◌∷◌, ◌++◌, length, Some, Ok, refl, ap, ◌∙◌, arith}
 use Rattle.std.proofs.lemmas.List.{length-append}
-use Rattle.amqp_values.specs.Data as d
-use Rattle.amqp_perf.specs.declared.fault.PerfFault.TheVariants as fault
-use Rattle.amqp_perf.specs.declared.descriptor.Descriptor.{Descriptor}
-use Rattle.amqp_perf.specs.declared.descriptor.Descriptor.TheVariants as is
-use Rattle.amqp_perf.specs.declared.state.DeliveryState.{DeliveryState}
-use Rattle.amqp_perf.specs.declared.perf.Perf.{Perf}
-use Rattle.amqp_perf.specs.declared.perf.Perf.TheVariants as perf
-use Rattle.amqp_perf.specs.declared.perf.Open.{Open}
-use Rattle.amqp_perf.specs.declared.perf.Begin.{Begin}
-use Rattle.amqp_perf.specs.declared.perf.Flow.{Flow}
-use Rattle.amqp_perf.specs.declared.perf.Transfer.{Transfer}
-use Rattle.amqp_perf.specs.declared.perf.Disposition.{Disposition}
-use Rattle.amqp_perf.specs.declared.perf.Detach.{Detach}
-use Rattle.amqp_perf.specs.declared.perf.End.{End}
-use Rattle.amqp_perf.specs.declared.perf.Close.{Close}
-use Rattle.amqp_perf.specs.declared.perf.SaslMechanisms.{SaslMechanisms}
-use Rattle.amqp_perf.specs.declared.perf.SaslInit.{SaslInit}
-use Rattle.amqp_perf.specs.declared.perf.SaslChallenge.{SaslChallenge}
-use Rattle.amqp_perf.specs.declared.perf.SaslResponse.{SaslResponse}
-use Rattle.amqp_perf.specs.declared.perf.SaslOutcome.{SaslOutcome}
-use Rattle.amqp_perf.specs.declared.perf.Attach.{Attach}
+use Rattle.amqp_model.specs.Data as d
+use Rattle.amqp_model.specs.declared.perf_fault.PerfFault.TheVariants as fault
+use Rattle.amqp_model.specs.declared.descriptor.Descriptor.{Descriptor}
+use Rattle.amqp_model.specs.declared.descriptor.Descriptor.TheVariants as is
+use Rattle.amqp_model.specs.declared.state.DeliveryState.{DeliveryState}
+use Rattle.amqp_model.specs.declared.perf.Perf.{Perf}
+use Rattle.amqp_model.specs.declared.perf.Perf.TheVariants as perf
+use Rattle.amqp_model.specs.declared.perf.Open.{Open}
+use Rattle.amqp_model.specs.declared.perf.Begin.{Begin}
+use Rattle.amqp_model.specs.declared.perf.Flow.{Flow}
+use Rattle.amqp_model.specs.declared.perf.Transfer.{Transfer}
+use Rattle.amqp_model.specs.declared.perf.Disposition.{Disposition}
+use Rattle.amqp_model.specs.declared.perf.Detach.{Detach}
+use Rattle.amqp_model.specs.declared.perf.End.{End}
+use Rattle.amqp_model.specs.declared.perf.Close.{Close}
+use Rattle.amqp_model.specs.declared.perf.SaslMechanisms.{SaslMechanisms}
+use Rattle.amqp_model.specs.declared.perf.SaslInit.{SaslInit}
+use Rattle.amqp_model.specs.declared.perf.SaslChallenge.{SaslChallenge}
+use Rattle.amqp_model.specs.declared.perf.SaslResponse.{SaslResponse}
+use Rattle.amqp_model.specs.declared.perf.SaslOutcome.{SaslOutcome}
+use Rattle.amqp_model.specs.declared.perf.Attach.{Attach}
 use Rattle.amqp_perf.specs.Faults.{◌>>=◌}
 use Rattle.amqp_perf.specs.Performative.{ends_at, holdings_at, extras_fields, open_fields, begin_fields, flow_fields, transfer_fields, disposition_fields, detach_fields, end_fields, close_fields, sasl_mechanisms_fields, sasl_init_fields, sasl_challenge_fields, sasl_response_fields, sasl_outcome_fields, attach_fields, limit_of, body, behind, performative_by, performative_at, performative, some_state, state}
-use Rattle.amqp_perf.specs.Texts.{FieldText, spelt, mapped, ubyte_unless, ushort_unless, uint_unless, flag_text, symbols_text, described_text}
-use Rattle.amqp_perf.specs.Spelling.{source_text, target_text, unsettled_text, role_text, error_text, state_text, state_spelling, open_texts, begin_texts, flow_texts, transfer_texts, disposition_texts, detach_texts, end_texts, close_texts, sasl_mechanisms_texts, sasl_init_texts, sasl_challenge_texts, sasl_response_texts, sasl_outcome_texts, attach_texts, spelling}
+use Rattle.amqp_model.specs.Texts.{FieldText, spelt, mapped, ubyte_unless, ushort_unless, uint_unless, flag_text, symbols_text, described_text}
+use Rattle.amqp_model.specs.PerfSpelling.{source_text, target_text, unsettled_text, role_text, error_text, state_text, state_spelling, open_texts, begin_texts, flow_texts, transfer_texts, disposition_texts, detach_texts, end_texts, close_texts, sasl_mechanisms_texts, sasl_init_texts, sasl_challenge_texts, sasl_response_texts, sasl_outcome_texts, attach_texts, spelling}
 use Rattle.amqp_perf.specs.Fitting.{IsShort, FitsOpen, FitsBegin, FitsFlow, FitsTransfer, FitsDisposition, FitsDetach, FitsEnd, FitsClose, FitsSaslMechanisms, FitsSaslInit, FitsSaslChallenge, FitsSaslResponse, FitsSaslOutcome, FitsAttach, FitsState, Fits}
 use Rattle.amqp_perf.proofs.WrittenPlaces.{found, place, place_ended}
 use Rattle.amqp_perf.proofs.WrittenFields.{flag_again, role_again, ubyte_again, ubyte_unless_again, ulong_again, required_ubyte_again, ushort_again, ushort_unless_again, uint_again, uint_unless_again, required_uint_again, text_again, required_text_again, required_symbol_again, binary_again, required_binary_again, tag_again, map_again, symbols_again, required_symbols_again, unless_or}

@@ -1,17 +1,17 @@
 -- Fields that were written, read again: the places among them.
 use Rattle.std.proofs.Common.{◌≡◌, ℕ, suc, ◌-◌, cond, ◌==◌, List, [], ◌∷◌, ◌++◌, length, Option, Some, None, Result, Ok, refl, ap, ◌∙◌, arith}
 use Rattle.std.proofs.Math.Dec.{eqb-suc-zero}
-use Rattle.amqp_values.specs.Data as d
-use Rattle.amqp_values.specs.Data.{Data}
-use Rattle.amqp_values.specs.View.{plain_part}
+use Rattle.amqp_model.specs.Data as d
+use Rattle.amqp_model.specs.Data.{Data}
+use Rattle.amqp_model.specs.View.{plain_part}
 use Rattle.amqp_types.specs.Reading.{to}
-use Rattle.amqp_types.specs.Spelling.{spelling}
+use Rattle.amqp_model.specs.ValueSpelling.{spelling}
 use Rattle.amqp_types.specs.Fitting.{FitsIn}
 use Rattle.amqp_types.proofs.RoundTrip.{value_at-spelling}
-use Rattle.amqp_perf.specs.declared.fault.PerfFault.{PerfFault}
+use Rattle.amqp_model.specs.declared.perf_fault.PerfFault.{PerfFault}
 use Rattle.amqp_perf.specs.Faults.{inner, within, by_fault, ◌>>=◌}
 use Rattle.amqp_perf.specs.Fields.{At, ended, next, value, plain, plain_only, unless_null, in_place}
-use Rattle.amqp_perf.specs.Texts.{FieldText, given, given_by, joined, spelt}
+use Rattle.amqp_model.specs.Texts.{FieldText, given, given_by, joined, spelt}
 
 abbrev pub found : {A : Type 0} → A → Result A PerfFault
 found x = Ok x

@@ -1,31 +1,32 @@
 -- Errors and delivery states that were written, read again.
 use Rattle.std.proofs.Common.{◌≡◌, ℕ, suc, ◌-◌, ◌≤◌, Bool, true, false, cond, nat_lt, ◌==◌, List, [], ◌∷◌, ◌++◌, length, Option, Some, None, Ok, refl, sym, ap, subst, ◌∙◌, append_assoc, true≢false, arith}
-use Rattle.amqp_values.specs.Codes.{code_of as constructor_of}
-use Rattle.amqp_values.specs.Data as d
-use Rattle.amqp_values.specs.Data.{Data}
-use Rattle.amqp_values.specs.View.{plain_part}
+use Rattle.amqp_model.specs.Codes.{code_of as constructor_of}
+use Rattle.amqp_model.specs.Data as d
+use Rattle.amqp_model.specs.Data.{Data}
+use Rattle.amqp_model.specs.View.{plain_part}
 use Rattle.amqp_types.specs.Reading.{to, value_at}
-use Rattle.amqp_values.specs.declared.code.Kind.TheVariants as kind
-use Rattle.amqp_types.specs.Spelling.{constructed, piece_by, spelling}
+use Rattle.amqp_model.specs.declared.code.Kind.TheVariants as kind
+use Rattle.amqp_model.specs.ValueSpelling.{constructed, piece_by, spelling}
 use Rattle.std.specs.Int.{w32, w64, to_be_bytes}
 use Rattle.std.proofs.lemmas.List.{length-append}
 use Rattle.amqp_types.specs.Fitting.{FitsIn}
 use Rattle.amqp_types.proofs.RoundTrip.{value_at-spelling}
-use Rattle.amqp_perf.specs.declared.fault.PerfFault.TheVariants as fault
-use Rattle.amqp_perf.specs.declared.descriptor.Descriptor.{Descriptor}
-use Rattle.amqp_perf.specs.declared.descriptor.Descriptor.TheVariants as is
+use Rattle.amqp_model.specs.declared.perf_fault.PerfFault.TheVariants as fault
+use Rattle.amqp_model.specs.declared.descriptor.Descriptor.{Descriptor}
+use Rattle.amqp_model.specs.declared.descriptor.Descriptor.TheVariants as is
 use Rattle.amqp_perf.specs.declared.opening.Opening.TheVariants as opening
-use Rattle.amqp_perf.specs.declared.state.Fault.{Fault}
-use Rattle.amqp_perf.specs.declared.state.Received.{Received}
-use Rattle.amqp_perf.specs.declared.state.Rejected.{Rejected}
-use Rattle.amqp_perf.specs.declared.state.Modified.{Modified}
-use Rattle.amqp_perf.specs.declared.state.DeliveryState.{DeliveryState}
-use Rattle.amqp_perf.specs.declared.state.DeliveryState.TheVariants as state
-use Rattle.amqp_perf.specs.Faults.{outer, by_fault, ◌>>=◌}
+use Rattle.amqp_model.specs.declared.state.Fault.{Fault}
+use Rattle.amqp_model.specs.declared.state.Received.{Received}
+use Rattle.amqp_model.specs.declared.state.Rejected.{Rejected}
+use Rattle.amqp_model.specs.declared.state.Modified.{Modified}
+use Rattle.amqp_model.specs.declared.state.DeliveryState.{DeliveryState}
+use Rattle.amqp_model.specs.declared.state.DeliveryState.TheVariants as state
+use Rattle.amqp_perf.specs.Faults.{by_fault, ◌>>=◌}
+use Rattle.amqp_model.specs.PerfFaults.{outer}
 use Rattle.amqp_perf.specs.Fields.{ended, name_of, opening_at, carried}
 use Rattle.amqp_perf.specs.States.{error_fields, error_by, error_in, error_at, received_fields, rejected_fields, modified_fields, state_by, state_in, state_at}
-use Rattle.amqp_perf.specs.Texts.{FieldText, given, field_bytes, spelt, flag_text, mapped, described_text}
-use Rattle.amqp_perf.specs.Spelling.{error_texts, error_text, received_texts, rejected_texts, modified_texts, state_spelling, state_text}
+use Rattle.amqp_model.specs.Texts.{FieldText, given, field_bytes, spelt, flag_text, mapped, described_text}
+use Rattle.amqp_model.specs.PerfSpelling.{error_texts, error_text, received_texts, rejected_texts, modified_texts, state_spelling, state_text}
 use Rattle.amqp_perf.specs.Fitting.{Each, IsMap, IsShort, FitsError, FitsReceived, FitsRejected, FitsModified, FitsState, names_state}
 use Rattle.amqp_perf.proofs.WrittenPlaces.{found, place, place_ended, in_place-text, in_place-some, in_place-none}
 use Rattle.amqp_perf.proofs.WrittenFields.{flag_again, required_uint_again, required_ulong_again, text_again, required_symbol_again, map_again}

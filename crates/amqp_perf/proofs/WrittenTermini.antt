@@ -3,28 +3,29 @@ use Rattle.std.proofs.Common.{◌≡◌, ℕ, suc, Bool, true, false, cond, nat_
 use Rattle.std.specs.Option.{unwrap_or}
 use Rattle.std.specs.Cmp.Lexicographic.{pointwise, pointwise_decides}
 use Rattle.std.proofs.lemmas.Bool.Decides.{Decides-eqb}
-use Rattle.amqp_values.specs.Data as d
-use Rattle.amqp_values.specs.Data.{Data}
-use Rattle.amqp_values.specs.View.{plain_part}
-use Rattle.amqp_types.specs.Spelling.{spelling}
+use Rattle.amqp_model.specs.Data as d
+use Rattle.amqp_model.specs.Data.{Data}
+use Rattle.amqp_model.specs.View.{plain_part}
+use Rattle.amqp_model.specs.ValueSpelling.{spelling}
 use Rattle.amqp_types.specs.Fitting.{FitsIn}
-use Rattle.amqp_perf.specs.declared.fault.PerfFault.TheVariants as fault
-use Rattle.amqp_perf.specs.declared.descriptor.Descriptor.{Descriptor}
-use Rattle.amqp_perf.specs.declared.descriptor.Descriptor.TheVariants as is
+use Rattle.amqp_model.specs.declared.perf_fault.PerfFault.TheVariants as fault
+use Rattle.amqp_model.specs.declared.descriptor.Descriptor.{Descriptor}
+use Rattle.amqp_model.specs.declared.descriptor.Descriptor.TheVariants as is
 use Rattle.amqp_perf.specs.declared.opening.Opening.TheVariants as opening
-use Rattle.amqp_perf.specs.declared.terminus.Address.{Address}
-use Rattle.amqp_perf.specs.declared.terminus.Address.TheVariants as address
-use Rattle.amqp_perf.specs.declared.terminus.Source.{Source}
-use Rattle.amqp_perf.specs.declared.terminus.Target.{Target}
-use Rattle.amqp_perf.specs.declared.terminus.SourceTerminus.{SourceTerminus}
-use Rattle.amqp_perf.specs.declared.terminus.SourceTerminus.TheVariants as source
-use Rattle.amqp_perf.specs.declared.terminus.TargetTerminus.{TargetTerminus}
-use Rattle.amqp_perf.specs.declared.terminus.TargetTerminus.TheVariants as target
+use Rattle.amqp_model.specs.declared.terminus.Address.{Address}
+use Rattle.amqp_model.specs.declared.terminus.Address.TheVariants as address
+use Rattle.amqp_model.specs.declared.terminus.Source.{Source}
+use Rattle.amqp_model.specs.declared.terminus.Target.{Target}
+use Rattle.amqp_model.specs.declared.terminus.SourceTerminus.{SourceTerminus}
+use Rattle.amqp_model.specs.declared.terminus.SourceTerminus.TheVariants as source
+use Rattle.amqp_model.specs.declared.terminus.TargetTerminus.{TargetTerminus}
+use Rattle.amqp_model.specs.declared.terminus.TargetTerminus.TheVariants as target
 use Rattle.amqp_perf.specs.Faults.{◌>>=◌}
 use Rattle.amqp_perf.specs.Fields.{name_of, plain, carried, judged, is_symbol, symbol, unless_null, address_of, address_at}
-use Rattle.amqp_perf.specs.Termini.{session_end, node_at, choices_fields, source_fields, source_by, source_in, source_at, target_fields, target_by, target_in, target_at}
-use Rattle.amqp_perf.specs.Texts.{FieldText, spelt, mapped, uint_unless, flag_text, symbols_text, described_text}
-use Rattle.amqp_perf.specs.Spelling.{address_text, policy_text, state_text, source_texts, target_texts, source_text, target_text}
+use Rattle.amqp_perf.specs.Termini.{node_at, choices_fields, source_fields, source_by, source_in, source_at, target_fields, target_by, target_in, target_at}
+use Rattle.amqp_model.specs.PerfSpelling.{session_end}
+use Rattle.amqp_model.specs.Texts.{FieldText, spelt, mapped, uint_unless, flag_text, symbols_text, described_text}
+use Rattle.amqp_model.specs.PerfSpelling.{address_text, policy_text, state_text, source_texts, target_texts, source_text, target_text}
 use Rattle.amqp_perf.specs.Fitting.{Each, IsSymbol, IsOther, is_address_value, FitsAddress, names_source, names_target, FitsSource, FitsTarget, FitsSourceTerminus, FitsTargetTerminus}
 use Rattle.amqp_perf.proofs.WrittenPlaces.{found, place, place_ended, value-some, value-none, in_place-some, in_place-none}
 use Rattle.amqp_perf.proofs.WrittenFields.{kind-some, kind-none, flag_again, uint_unless_again, symbol_again, map_again, symbols_again, unless_or}

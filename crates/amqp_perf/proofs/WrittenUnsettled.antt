@@ -5,26 +5,28 @@ use Rattle.std.proofs.lemmas.Bool.Decides.{Decides-eqb}
 use Rattle.std.proofs.lemmas.List.{append-nil}
 use Rattle.std.proofs.lemmas.List.Folds.{list_any-append}
 use Rattle.arrayvec.specs.ArrayVec.{ArrayVec}
-use Rattle.amqp_values.specs.declared.code.Size.{Size}
-use Rattle.amqp_values.specs.declared.code.Size.TheVariants as size
-use Rattle.amqp_values.specs.declared.code.Code.TheVariants as code
-use Rattle.amqp_values.specs.declared.code.Kind.TheVariants as kind
-use Rattle.amqp_values.specs.Codes.{code_of as constructor_of}
-use Rattle.amqp_values.specs.Data as d
-use Rattle.amqp_values.specs.Data.{Data, Pairs, no_pairs, pair}
+use Rattle.amqp_model.specs.declared.code.Size.{Size}
+use Rattle.amqp_model.specs.declared.code.Size.TheVariants as size
+use Rattle.amqp_model.specs.declared.code.Code.TheVariants as code
+use Rattle.amqp_model.specs.declared.code.Kind.TheVariants as kind
+use Rattle.amqp_model.specs.Codes.{code_of as constructor_of}
+use Rattle.amqp_model.specs.Data as d
+use Rattle.amqp_model.specs.Data.{Data, Pairs, no_pairs, pair}
 use Rattle.amqp_types.specs.Reading.{after, code_at, size_at, value_at}
-use Rattle.amqp_types.specs.Spells.{pair_count, Fills}
-use Rattle.amqp_types.specs.Spelling.{constructed, compound_piece, wide_sizes, spelling, pair_spellings}
+use Rattle.amqp_types.specs.Spells.{Fills}
+use Rattle.amqp_model.specs.Data.{pair_count}
+use Rattle.amqp_model.specs.ValueSpelling.{constructed, compound_piece, wide_sizes, spelling, pair_spellings}
 use Rattle.amqp_types.specs.Fitting.{FitsIn, AllPairs}
 use Rattle.amqp_types.proofs.Complete.{size_complete, sized_complete, code_complete}
 use Rattle.amqp_types.proofs.RoundTrip.{compound_wide, compound_narrow, value_at-spelling}
-use Rattle.amqp_perf.specs.declared.fault.PerfFault.{PerfFault}
-use Rattle.amqp_perf.specs.declared.fault.PerfFault.TheVariants as fault
-use Rattle.amqp_perf.specs.declared.state.UnsettledDelivery.{UnsettledDelivery}
-use Rattle.amqp_perf.specs.Faults.{outer, inner, by_fault, ◌>>=◌}
+use Rattle.amqp_model.specs.declared.perf_fault.PerfFault.{PerfFault}
+use Rattle.amqp_model.specs.declared.perf_fault.PerfFault.TheVariants as fault
+use Rattle.amqp_model.specs.declared.state.UnsettledDelivery.{UnsettledDelivery}
+use Rattle.amqp_perf.specs.Faults.{inner, by_fault, ◌>>=◌}
+use Rattle.amqp_model.specs.PerfFaults.{outer}
 use Rattle.amqp_perf.specs.States.{state_at, some_tag, tag_key, is_among, not_among, deliveries_at, unsettled_by, unsettled_in, unsettled_at}
-use Rattle.amqp_perf.specs.Texts.{FieldText, given, field_bytes, joined, spelt}
-use Rattle.amqp_perf.specs.Spelling.{state_text, deliveries_text, unsettled_text}
+use Rattle.amqp_model.specs.Texts.{FieldText, given, field_bytes, joined, spelt}
+use Rattle.amqp_model.specs.PerfSpelling.{state_text, deliveries_text, unsettled_text}
 use Rattle.amqp_perf.specs.Fitting.{Each, IsTag, AllDeliveries, TagsDiffer, FitsUnsettled}
 use Rattle.amqp_perf.proofs.WrittenPlaces.{found, place, in_place-some, in_place-none}
 use Rattle.amqp_perf.proofs.WrittenFields.{tag_again}

@@ -1,18 +1,18 @@
 -- What is written of an error or a delivery state encodes a value.
 use Rattle.std.proofs.Common.{◌≡◌, ℕ, suc, ◌+◌, ◌^◌, ◌<◌, Bool, true, false, List, [], ◌∷◌, ◌++◌, length, Option, Some, None, refl, sym, ap, subst, ◌∙◌, arith}
-use Rattle.amqp_values.specs.Data as d
-use Rattle.amqp_values.specs.Data.{Data, Items, no_items, item}
-use Rattle.amqp_types.specs.Spells.{count}
-use Rattle.amqp_types.specs.Spelling.{list_text, spelling, spellings}
+use Rattle.amqp_model.specs.Data as d
+use Rattle.amqp_model.specs.Data.{Data, Items, no_items, item}
+use Rattle.amqp_model.specs.Data.{count}
+use Rattle.amqp_model.specs.ValueSpelling.{list_text, spelling, spellings}
 use Rattle.amqp_types.specs.Fitting.{FitsIn, AllItems}
-use Rattle.amqp_perf.specs.declared.descriptor.Descriptor.{Descriptor}
-use Rattle.amqp_perf.specs.declared.descriptor.Descriptor.TheVariants as is
-use Rattle.amqp_perf.specs.declared.state.Fault.{Fault}
-use Rattle.amqp_perf.specs.declared.state.DeliveryState.{DeliveryState}
-use Rattle.amqp_perf.specs.declared.state.DeliveryState.TheVariants as state
-use Rattle.amqp_perf.specs.Descriptors.{code_of}
-use Rattle.amqp_perf.specs.Texts.{FieldText, given, given_by, field_bytes, joined, described_text, mapped, flag_text}
-use Rattle.amqp_perf.specs.Spelling.{error_texts, error_text, received_texts, rejected_texts, modified_texts, state_spelling, state_text}
+use Rattle.amqp_model.specs.declared.descriptor.Descriptor.{Descriptor}
+use Rattle.amqp_model.specs.declared.descriptor.Descriptor.TheVariants as is
+use Rattle.amqp_model.specs.declared.state.Fault.{Fault}
+use Rattle.amqp_model.specs.declared.state.DeliveryState.{DeliveryState}
+use Rattle.amqp_model.specs.declared.state.DeliveryState.TheVariants as state
+use Rattle.amqp_model.specs.Descriptors.{code_of}
+use Rattle.amqp_model.specs.Texts.{FieldText, given, given_by, field_bytes, joined, described_text, mapped, flag_text}
+use Rattle.amqp_model.specs.PerfSpelling.{error_texts, error_text, received_texts, rejected_texts, modified_texts, state_spelling, state_text}
 use Rattle.amqp_perf.specs.Fitting.{Each, IsText, IsMap, IsShort, FitsError, FitsState}
 use Rattle.amqp_perf.proofs.WrittenLists.{descriptor_spelled, descriptor_fits, given-shorter}
 use Rattle.amqp_perf.proofs.WrittenStates.{less_two, nothing_short, received_short}

@@ -1,7 +1,7 @@
 -- How a reader's answer relates to the definition.
 use Rattle.std.specs.Prelude.{◌≡◌, Result, Ok, Err}
-use Rattle.amqp_perf.specs.declared.fault.PerfFault.{PerfFault}
-use Rattle.amqp_perf.specs.declared.fault.PerfFault.TheVariants as fault
+use Rattle.amqp_model.specs.declared.perf_fault.PerfFault.{PerfFault}
+use Rattle.amqp_model.specs.declared.perf_fault.PerfFault.TheVariants as fault
 
 -- what a function answers is what the definition gives, unless memory was refused
 abbrev pub Gives : {A : Type 0} → Result A PerfFault → Result A PerfFault → Type 0

@@ -1,25 +1,10 @@
--- The faults of performatives, and what becomes of a value's own.
-use Rattle.std.specs.Prelude.{ℕ, Result, Ok, Err}
-use Rattle.amqp_values.specs.declared.fault.TypeFault.{TypeFault}
-use Rattle.amqp_values.specs.declared.fault.TypeFault.TheVariants as type_fault
-use Rattle.amqp_perf.specs.declared.fault.PerfFault.{PerfFault}
-use Rattle.amqp_perf.specs.declared.fault.PerfFault.TheVariants as fault
-
--- a fault's number
-abbrev pub fault_number : PerfFault → ℕ
-fault_number (fault.Spelling f) = 1
-fault_number fault.NotPerformative = 2
-fault_number fault.MissingField = 3
-fault_number fault.WrongKind = 4
-fault_number fault.TooManyFields = 5
-fault_number fault.TagTooLong = 6
-fault_number fault.DuplicateTag = 7
-fault_number fault.Memory = 8
-
--- a value's own fault, where no list is around it
-abbrev pub outer : TypeFault → PerfFault
-outer type_fault.Memory = fault.Memory
-outer f = fault.Spelling f
+-- What becomes of a fault within a list, and of a value's own.
+use Rattle.std.specs.Prelude.{Result, Ok, Err}
+use Rattle.amqp_model.specs.declared.type_fault.TypeFault.{TypeFault}
+use Rattle.amqp_model.specs.declared.type_fault.TypeFault.TheVariants as type_fault
+use Rattle.amqp_model.specs.declared.perf_fault.PerfFault.{PerfFault}
+use Rattle.amqp_model.specs.declared.perf_fault.PerfFault.TheVariants as fault
+use Rattle.amqp_model.specs.PerfFaults.{outer}
 
 -- A value's own fault within a list: where the bytes end there, the list's size is wrong.
 abbrev pub inner : TypeFault → PerfFault

@@ -2,25 +2,26 @@
 -- part 1, section 1.4). A reader answers what it read, and the place after it.
 use Rattle.std.specs.Prelude.{ℕ, ◌-◌, Bool, false, List, [], ◌∷◌, length, Option, Some, None, Result, Ok, Err, nat_lt, ◌==◌, if◌then◌else◌, unwrap_or}
 use Rattle.arrayvec.specs.ArrayVec.{ArrayVec}
-use Rattle.amqp_values.specs.declared.fault.TypeFault.TheVariants as type_fault
-use Rattle.amqp_values.specs.declared.code.Leaf.TheVariants as leaf
-use Rattle.amqp_values.specs.declared.code.Code.{Code}
-use Rattle.amqp_values.specs.declared.code.Code.TheVariants as code
-use Rattle.amqp_values.specs.declared.code.Kind.TheVariants as kind
-use Rattle.amqp_values.specs.Data as d
-use Rattle.amqp_values.specs.Data.{Data, Items, no_items, item}
-use Rattle.amqp_values.specs.View.{plain_part}
+use Rattle.amqp_model.specs.declared.type_fault.TypeFault.TheVariants as type_fault
+use Rattle.amqp_model.specs.declared.code.Leaf.TheVariants as leaf
+use Rattle.amqp_model.specs.declared.code.Code.{Code}
+use Rattle.amqp_model.specs.declared.code.Code.TheVariants as code
+use Rattle.amqp_model.specs.declared.code.Kind.TheVariants as kind
+use Rattle.amqp_model.specs.Data as d
+use Rattle.amqp_model.specs.Data.{Data, Items, no_items, item}
+use Rattle.amqp_model.specs.View.{plain_part}
 use Rattle.amqp_types.specs.Reading.{to, after, code_at, size_at, sized_at, value_at}
-use Rattle.amqp_types.specs.Spelling.{spelling}
-use Rattle.amqp_perf.specs.declared.fault.PerfFault.{PerfFault}
-use Rattle.amqp_perf.specs.declared.fault.PerfFault.TheVariants as fault
-use Rattle.amqp_perf.specs.declared.descriptor.Descriptor.{Descriptor}
+use Rattle.amqp_model.specs.ValueSpelling.{spelling}
+use Rattle.amqp_model.specs.declared.perf_fault.PerfFault.{PerfFault}
+use Rattle.amqp_model.specs.declared.perf_fault.PerfFault.TheVariants as fault
+use Rattle.amqp_model.specs.declared.descriptor.Descriptor.{Descriptor}
 use Rattle.amqp_perf.specs.declared.opening.Opening.{Opening}
 use Rattle.amqp_perf.specs.declared.opening.Opening.TheVariants as opening
-use Rattle.amqp_perf.specs.declared.terminus.Address.{Address}
-use Rattle.amqp_perf.specs.declared.terminus.Address.TheVariants as address
-use Rattle.amqp_perf.specs.Descriptors.{named, symbol_named}
-use Rattle.amqp_perf.specs.Faults.{outer, inner, within, by_fault, ◌>>=◌}
+use Rattle.amqp_model.specs.declared.terminus.Address.{Address}
+use Rattle.amqp_model.specs.declared.terminus.Address.TheVariants as address
+use Rattle.amqp_model.specs.Descriptors.{named, symbol_named}
+use Rattle.amqp_perf.specs.Faults.{inner, within, by_fault, ◌>>=◌}
+use Rattle.amqp_model.specs.PerfFaults.{outer}
 
 -- a place among the fields of a list: how many levels a field's value may have, how many items are left, and the bytes
 -- from there on

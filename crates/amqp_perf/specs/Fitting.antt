@@ -5,51 +5,51 @@
 use Rattle.std.specs.Prelude.{◌≡◌, ℕ, ◌+◌, ◌-◌, ◌*◌, ◌^◌, ◌<◌, ◌≤◌, Bool, true, false, List, [], ◌∷◌, length, Option, Some, None, Result, Ok}
 use Rattle.std.specs.Str.{is_utf8}
 use Rattle.arrayvec.specs.ArrayVec.{ArrayVec}
-use Rattle.amqp_values.specs.declared.code.Kind.TheVariants as kind
-use Rattle.amqp_values.specs.Data as d
-use Rattle.amqp_values.specs.Data.{Data, Pairs}
-use Rattle.amqp_values.specs.View.{plain_part}
+use Rattle.amqp_model.specs.declared.code.Kind.TheVariants as kind
+use Rattle.amqp_model.specs.Data as d
+use Rattle.amqp_model.specs.Data.{Data, Pairs}
+use Rattle.amqp_model.specs.View.{plain_part}
 use Rattle.amqp_types.specs.Reading.{all_ascii}
-use Rattle.amqp_types.specs.Spelling.{constructed, spelling, pieces}
+use Rattle.amqp_model.specs.ValueSpelling.{constructed, spelling, pieces}
 use Rattle.amqp_types.specs.Fitting.{FitsIn}
-use Rattle.amqp_perf.specs.declared.fault.PerfFault.{PerfFault}
-use Rattle.amqp_perf.specs.declared.descriptor.Descriptor.{Descriptor}
-use Rattle.amqp_perf.specs.declared.descriptor.Descriptor.TheVariants as is
-use Rattle.amqp_perf.specs.declared.state.Fault.{Fault}
-use Rattle.amqp_perf.specs.declared.state.DeliveryState.{DeliveryState}
-use Rattle.amqp_perf.specs.declared.state.DeliveryState.TheVariants as state
-use Rattle.amqp_perf.specs.declared.state.Received.{Received}
-use Rattle.amqp_perf.specs.declared.state.Rejected.{Rejected}
-use Rattle.amqp_perf.specs.declared.state.Modified.{Modified}
-use Rattle.amqp_perf.specs.declared.perf.Open.{Open}
-use Rattle.amqp_perf.specs.declared.perf.Begin.{Begin}
-use Rattle.amqp_perf.specs.declared.perf.Flow.{Flow}
-use Rattle.amqp_perf.specs.declared.perf.Transfer.{Transfer}
-use Rattle.amqp_perf.specs.declared.perf.Disposition.{Disposition}
-use Rattle.amqp_perf.specs.declared.perf.Detach.{Detach}
-use Rattle.amqp_perf.specs.declared.perf.End.{End}
-use Rattle.amqp_perf.specs.declared.perf.Close.{Close}
-use Rattle.amqp_perf.specs.declared.perf.SaslMechanisms.{SaslMechanisms}
-use Rattle.amqp_perf.specs.declared.perf.SaslInit.{SaslInit}
-use Rattle.amqp_perf.specs.declared.perf.SaslChallenge.{SaslChallenge}
-use Rattle.amqp_perf.specs.declared.perf.SaslResponse.{SaslResponse}
-use Rattle.amqp_perf.specs.declared.perf.SaslOutcome.{SaslOutcome}
-use Rattle.amqp_perf.specs.declared.perf.Attach.{Attach}
-use Rattle.amqp_perf.specs.declared.state.UnsettledDelivery.{UnsettledDelivery}
-use Rattle.amqp_perf.specs.declared.terminus.Address.{Address}
-use Rattle.amqp_perf.specs.declared.terminus.Source.{Source}
-use Rattle.amqp_perf.specs.declared.terminus.Target.{Target}
-use Rattle.amqp_perf.specs.declared.terminus.SourceTerminus.{SourceTerminus}
-use Rattle.amqp_perf.specs.declared.terminus.TargetTerminus.{TargetTerminus}
-use Rattle.amqp_perf.specs.declared.terminus.Address.TheVariants as address
-use Rattle.amqp_perf.specs.declared.terminus.SourceTerminus.TheVariants as source
-use Rattle.amqp_perf.specs.declared.terminus.TargetTerminus.TheVariants as target
-use Rattle.amqp_perf.specs.declared.perf.Perf.{Perf}
-use Rattle.amqp_perf.specs.declared.perf.Perf.TheVariants as perf
+use Rattle.amqp_model.specs.declared.perf_fault.PerfFault.{PerfFault}
+use Rattle.amqp_model.specs.declared.descriptor.Descriptor.{Descriptor}
+use Rattle.amqp_model.specs.declared.descriptor.Descriptor.TheVariants as is
+use Rattle.amqp_model.specs.declared.state.Fault.{Fault}
+use Rattle.amqp_model.specs.declared.state.DeliveryState.{DeliveryState}
+use Rattle.amqp_model.specs.declared.state.DeliveryState.TheVariants as state
+use Rattle.amqp_model.specs.declared.state.Received.{Received}
+use Rattle.amqp_model.specs.declared.state.Rejected.{Rejected}
+use Rattle.amqp_model.specs.declared.state.Modified.{Modified}
+use Rattle.amqp_model.specs.declared.perf.Open.{Open}
+use Rattle.amqp_model.specs.declared.perf.Begin.{Begin}
+use Rattle.amqp_model.specs.declared.perf.Flow.{Flow}
+use Rattle.amqp_model.specs.declared.perf.Transfer.{Transfer}
+use Rattle.amqp_model.specs.declared.perf.Disposition.{Disposition}
+use Rattle.amqp_model.specs.declared.perf.Detach.{Detach}
+use Rattle.amqp_model.specs.declared.perf.End.{End}
+use Rattle.amqp_model.specs.declared.perf.Close.{Close}
+use Rattle.amqp_model.specs.declared.perf.SaslMechanisms.{SaslMechanisms}
+use Rattle.amqp_model.specs.declared.perf.SaslInit.{SaslInit}
+use Rattle.amqp_model.specs.declared.perf.SaslChallenge.{SaslChallenge}
+use Rattle.amqp_model.specs.declared.perf.SaslResponse.{SaslResponse}
+use Rattle.amqp_model.specs.declared.perf.SaslOutcome.{SaslOutcome}
+use Rattle.amqp_model.specs.declared.perf.Attach.{Attach}
+use Rattle.amqp_model.specs.declared.state.UnsettledDelivery.{UnsettledDelivery}
+use Rattle.amqp_model.specs.declared.terminus.Address.{Address}
+use Rattle.amqp_model.specs.declared.terminus.Source.{Source}
+use Rattle.amqp_model.specs.declared.terminus.Target.{Target}
+use Rattle.amqp_model.specs.declared.terminus.SourceTerminus.{SourceTerminus}
+use Rattle.amqp_model.specs.declared.terminus.TargetTerminus.{TargetTerminus}
+use Rattle.amqp_model.specs.declared.terminus.Address.TheVariants as address
+use Rattle.amqp_model.specs.declared.terminus.SourceTerminus.TheVariants as source
+use Rattle.amqp_model.specs.declared.terminus.TargetTerminus.TheVariants as target
+use Rattle.amqp_model.specs.declared.perf.Perf.{Perf}
+use Rattle.amqp_model.specs.declared.perf.Perf.TheVariants as perf
 use Rattle.amqp_perf.specs.Fields.{name_of}
 use Rattle.amqp_perf.specs.States.{is_among}
-use Rattle.amqp_perf.specs.Texts.{FieldText, given, joined, symbol_items}
-use Rattle.amqp_perf.specs.Spelling.{error_texts, rejected_texts, modified_texts, source_texts, target_texts, attach_texts, deliveries_text, open_texts, begin_texts, flow_texts, transfer_texts, disposition_texts, detach_texts, end_texts, close_texts, sasl_mechanisms_texts, sasl_init_texts, sasl_challenge_texts, sasl_response_texts, sasl_outcome_texts}
+use Rattle.amqp_model.specs.Texts.{FieldText, given, joined, symbol_items}
+use Rattle.amqp_model.specs.PerfSpelling.{error_texts, rejected_texts, modified_texts, source_texts, target_texts, attach_texts, deliveries_text, open_texts, begin_texts, flow_texts, transfer_texts, disposition_texts, detach_texts, end_texts, close_texts, sasl_mechanisms_texts, sasl_init_texts, sasl_challenge_texts, sasl_response_texts, sasl_outcome_texts}
 
 -- what holds of a field, where it holds anything
 abbrev pub Each : {A : Type 0} → (A → Type 0) → Option A → Type 0

@@ -2,40 +2,40 @@
 -- section 5.3.3), and which bytes encode a performative, a SASL body or a delivery state by them. A number of a few choices,
 -- as a settle mode, is any number of its type.
 use Rattle.std.specs.Prelude.{◌≡◌, ℕ, false, List, [], ◌∷◌, ◌++◌, codes}
-use Rattle.amqp_values.specs.Data as d
-use Rattle.amqp_values.specs.Data.{Data, Pairs, no_pairs, pair}
+use Rattle.amqp_model.specs.Data as d
+use Rattle.amqp_model.specs.Data.{Data, Pairs, no_pairs, pair}
 use Rattle.amqp_types.specs.Spells.{Spells}
-use Rattle.amqp_perf.specs.declared.descriptor.Descriptor.{Descriptor}
-use Rattle.amqp_perf.specs.declared.descriptor.Descriptor.TheVariants as is
-use Rattle.amqp_perf.specs.declared.state.Fault.{Fault}
-use Rattle.amqp_perf.specs.declared.state.Received.{Received}
-use Rattle.amqp_perf.specs.declared.state.Rejected.{Rejected}
-use Rattle.amqp_perf.specs.declared.state.Modified.{Modified}
-use Rattle.amqp_perf.specs.declared.state.DeliveryState.{DeliveryState}
-use Rattle.amqp_perf.specs.declared.state.DeliveryState.TheVariants as state
-use Rattle.amqp_perf.specs.declared.state.UnsettledDelivery.{UnsettledDelivery}
-use Rattle.amqp_perf.specs.declared.terminus.Source.{Source}
-use Rattle.amqp_perf.specs.declared.terminus.Target.{Target}
-use Rattle.amqp_perf.specs.declared.terminus.SourceTerminus.{SourceTerminus}
-use Rattle.amqp_perf.specs.declared.terminus.SourceTerminus.TheVariants as source
-use Rattle.amqp_perf.specs.declared.terminus.TargetTerminus.{TargetTerminus}
-use Rattle.amqp_perf.specs.declared.terminus.TargetTerminus.TheVariants as target
-use Rattle.amqp_perf.specs.declared.perf.Open.{Open}
-use Rattle.amqp_perf.specs.declared.perf.Begin.{Begin}
-use Rattle.amqp_perf.specs.declared.perf.Attach.{Attach}
-use Rattle.amqp_perf.specs.declared.perf.Flow.{Flow}
-use Rattle.amqp_perf.specs.declared.perf.Transfer.{Transfer}
-use Rattle.amqp_perf.specs.declared.perf.Disposition.{Disposition}
-use Rattle.amqp_perf.specs.declared.perf.Detach.{Detach}
-use Rattle.amqp_perf.specs.declared.perf.End.{End}
-use Rattle.amqp_perf.specs.declared.perf.Close.{Close}
-use Rattle.amqp_perf.specs.declared.perf.SaslMechanisms.{SaslMechanisms}
-use Rattle.amqp_perf.specs.declared.perf.SaslInit.{SaslInit}
-use Rattle.amqp_perf.specs.declared.perf.SaslChallenge.{SaslChallenge}
-use Rattle.amqp_perf.specs.declared.perf.SaslResponse.{SaslResponse}
-use Rattle.amqp_perf.specs.declared.perf.SaslOutcome.{SaslOutcome}
-use Rattle.amqp_perf.specs.declared.perf.Perf.{Perf}
-use Rattle.amqp_perf.specs.declared.perf.Perf.TheVariants as perf
+use Rattle.amqp_model.specs.declared.descriptor.Descriptor.{Descriptor}
+use Rattle.amqp_model.specs.declared.descriptor.Descriptor.TheVariants as is
+use Rattle.amqp_model.specs.declared.state.Fault.{Fault}
+use Rattle.amqp_model.specs.declared.state.Received.{Received}
+use Rattle.amqp_model.specs.declared.state.Rejected.{Rejected}
+use Rattle.amqp_model.specs.declared.state.Modified.{Modified}
+use Rattle.amqp_model.specs.declared.state.DeliveryState.{DeliveryState}
+use Rattle.amqp_model.specs.declared.state.DeliveryState.TheVariants as state
+use Rattle.amqp_model.specs.declared.state.UnsettledDelivery.{UnsettledDelivery}
+use Rattle.amqp_model.specs.declared.terminus.Source.{Source}
+use Rattle.amqp_model.specs.declared.terminus.Target.{Target}
+use Rattle.amqp_model.specs.declared.terminus.SourceTerminus.{SourceTerminus}
+use Rattle.amqp_model.specs.declared.terminus.SourceTerminus.TheVariants as source
+use Rattle.amqp_model.specs.declared.terminus.TargetTerminus.{TargetTerminus}
+use Rattle.amqp_model.specs.declared.terminus.TargetTerminus.TheVariants as target
+use Rattle.amqp_model.specs.declared.perf.Open.{Open}
+use Rattle.amqp_model.specs.declared.perf.Begin.{Begin}
+use Rattle.amqp_model.specs.declared.perf.Attach.{Attach}
+use Rattle.amqp_model.specs.declared.perf.Flow.{Flow}
+use Rattle.amqp_model.specs.declared.perf.Transfer.{Transfer}
+use Rattle.amqp_model.specs.declared.perf.Disposition.{Disposition}
+use Rattle.amqp_model.specs.declared.perf.Detach.{Detach}
+use Rattle.amqp_model.specs.declared.perf.End.{End}
+use Rattle.amqp_model.specs.declared.perf.Close.{Close}
+use Rattle.amqp_model.specs.declared.perf.SaslMechanisms.{SaslMechanisms}
+use Rattle.amqp_model.specs.declared.perf.SaslInit.{SaslInit}
+use Rattle.amqp_model.specs.declared.perf.SaslChallenge.{SaslChallenge}
+use Rattle.amqp_model.specs.declared.perf.SaslResponse.{SaslResponse}
+use Rattle.amqp_model.specs.declared.perf.SaslOutcome.{SaslOutcome}
+use Rattle.amqp_model.specs.declared.perf.Perf.{Perf}
+use Rattle.amqp_model.specs.declared.perf.Perf.TheVariants as perf
 use Rattle.amqp_perf.specs.States.{is_among}
 use Rattle.amqp_perf.specs.Tables.{Kind, Field, mandatory, optional, defaulted, multiple, IsList, IsCarried, SpellsList, boolean, ubyte, ushort, uint, ulong, string, symbol, binary, map, some_symbols, tag, role_kind, node_address}
 

@@ -3,35 +3,36 @@
 use Rattle.std.specs.Prelude.{ℕ, ◌-◌, Bool, true, false, List, length, Option, Some, None, Result, Ok, Err}
 use Rattle.std.specs.Option.{unwrap_or}
 use Rattle.amqp_types.specs.Reading.{after, value_at}
-use Rattle.amqp_perf.specs.declared.fault.PerfFault.{PerfFault}
-use Rattle.amqp_perf.specs.declared.fault.PerfFault.TheVariants as fault
-use Rattle.amqp_perf.specs.declared.descriptor.Descriptor.{Descriptor}
-use Rattle.amqp_perf.specs.declared.descriptor.Descriptor.TheVariants as is
+use Rattle.amqp_model.specs.declared.perf_fault.PerfFault.{PerfFault}
+use Rattle.amqp_model.specs.declared.perf_fault.PerfFault.TheVariants as fault
+use Rattle.amqp_model.specs.declared.descriptor.Descriptor.{Descriptor}
+use Rattle.amqp_model.specs.declared.descriptor.Descriptor.TheVariants as is
 use Rattle.amqp_perf.specs.declared.opening.Opening.{Opening}
 use Rattle.amqp_perf.specs.declared.opening.Opening.TheVariants as opening
-use Rattle.amqp_perf.specs.declared.perf.Open.{Open}
-use Rattle.amqp_perf.specs.declared.perf.Begin.{Begin}
-use Rattle.amqp_perf.specs.declared.perf.Attach.{Attach}
-use Rattle.amqp_perf.specs.declared.perf.Flow.{Flow}
-use Rattle.amqp_perf.specs.declared.perf.Transfer.{Transfer}
-use Rattle.amqp_perf.specs.declared.perf.Disposition.{Disposition}
-use Rattle.amqp_perf.specs.declared.perf.Detach.{Detach}
-use Rattle.amqp_perf.specs.declared.perf.End.{End}
-use Rattle.amqp_perf.specs.declared.perf.Close.{Close}
-use Rattle.amqp_perf.specs.declared.perf.SaslMechanisms.{SaslMechanisms}
-use Rattle.amqp_perf.specs.declared.perf.SaslInit.{SaslInit}
-use Rattle.amqp_perf.specs.declared.perf.SaslChallenge.{SaslChallenge}
-use Rattle.amqp_perf.specs.declared.perf.SaslResponse.{SaslResponse}
-use Rattle.amqp_perf.specs.declared.perf.SaslOutcome.{SaslOutcome}
+use Rattle.amqp_model.specs.declared.perf.Open.{Open}
+use Rattle.amqp_model.specs.declared.perf.Begin.{Begin}
+use Rattle.amqp_model.specs.declared.perf.Attach.{Attach}
+use Rattle.amqp_model.specs.declared.perf.Flow.{Flow}
+use Rattle.amqp_model.specs.declared.perf.Transfer.{Transfer}
+use Rattle.amqp_model.specs.declared.perf.Disposition.{Disposition}
+use Rattle.amqp_model.specs.declared.perf.Detach.{Detach}
+use Rattle.amqp_model.specs.declared.perf.End.{End}
+use Rattle.amqp_model.specs.declared.perf.Close.{Close}
+use Rattle.amqp_model.specs.declared.perf.SaslMechanisms.{SaslMechanisms}
+use Rattle.amqp_model.specs.declared.perf.SaslInit.{SaslInit}
+use Rattle.amqp_model.specs.declared.perf.SaslChallenge.{SaslChallenge}
+use Rattle.amqp_model.specs.declared.perf.SaslResponse.{SaslResponse}
+use Rattle.amqp_model.specs.declared.perf.SaslOutcome.{SaslOutcome}
 use Rattle.amqp_perf.specs.declared.read_perfs.LinkEnds.{LinkEnds}
 use Rattle.amqp_perf.specs.declared.read_perfs.LinkHoldings.{LinkHoldings}
 use Rattle.amqp_perf.specs.declared.read_perfs.LinkExtras.{LinkExtras}
-use Rattle.amqp_perf.specs.declared.perf.Role.{Role}
-use Rattle.amqp_perf.specs.declared.perf.Role.TheVariants as role
-use Rattle.amqp_perf.specs.declared.perf.Perf.{Perf}
-use Rattle.amqp_perf.specs.declared.perf.Perf.TheVariants as perf
-use Rattle.amqp_perf.specs.declared.state.DeliveryState.{DeliveryState}
-use Rattle.amqp_perf.specs.Faults.{outer, by_fault, ◌>>=◌}
+use Rattle.amqp_model.specs.declared.perf.Role.{Role}
+use Rattle.amqp_model.specs.declared.perf.Role.TheVariants as role
+use Rattle.amqp_model.specs.declared.perf.Perf.{Perf}
+use Rattle.amqp_model.specs.declared.perf.Perf.TheVariants as perf
+use Rattle.amqp_model.specs.declared.state.DeliveryState.{DeliveryState}
+use Rattle.amqp_perf.specs.Faults.{by_fault, ◌>>=◌}
+use Rattle.amqp_model.specs.PerfFaults.{outer}
 use Rattle.amqp_perf.specs.Fields.{At, Takes, ended, opening_at, listed, flag, required_flag, ubyte, required_ubyte, ushort, uint, required_uint, ulong, text, required_text, required_symbol, symbols, required_symbols, binary, required_binary, tag, map}
 use Rattle.amqp_perf.specs.States.{error_at, state_at, state_in, unsettled_at}
 use Rattle.amqp_perf.specs.Termini.{source_at, target_at}

@@ -1,7 +1,7 @@
 -- A reader's place, and how its answer relates to the definition.
 use Rattle.std.specs.Prelude.{◌≡◌, Result, Ok, Err}
-use Rattle.amqp_perf.specs.declared.fault.PerfFault.{PerfFault}
-use Rattle.amqp_perf.specs.declared.fault.PerfFault.TheVariants as fault
+use Rattle.amqp_model.specs.declared.perf_fault.PerfFault.{PerfFault}
+use Rattle.amqp_model.specs.declared.perf_fault.PerfFault.TheVariants as fault
 use Rattle.amqp_perf.specs.declared.fields.Fields.{Fields}
 use Rattle.amqp_perf.specs.Fields.{At}
 

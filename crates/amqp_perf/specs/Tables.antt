@@ -2,19 +2,19 @@
 -- default (AMQP 1.0 part 1, section 1.4). The fields hold by the table where each value is one that its line allows.
 use Rattle.std.specs.Prelude.{◌≡◌, ◌⊎◌, ℕ, ◌≤◌, Bool, true, false, List, [], ◌∷◌, length, Option, Some, None, codes}
 use Rattle.arrayvec.specs.ArrayVec.{ArrayVec}
-use Rattle.amqp_values.specs.declared.code.Kind.TheVariants as kind
-use Rattle.amqp_values.specs.Data as d
-use Rattle.amqp_values.specs.Data.{Data, Items, no_items, item, Pairs}
+use Rattle.amqp_model.specs.declared.code.Kind.TheVariants as kind
+use Rattle.amqp_model.specs.Data as d
+use Rattle.amqp_model.specs.Data.{Data, Items, no_items, item, Pairs}
 use Rattle.amqp_types.specs.Spells.{Spells}
-use Rattle.amqp_types.specs.Spelling.{spelling}
-use Rattle.amqp_perf.specs.declared.descriptor.Descriptor.{Descriptor}
-use Rattle.amqp_perf.specs.declared.descriptor.Descriptor.TheVariants as is
-use Rattle.amqp_perf.specs.declared.perf.Role.{Role}
-use Rattle.amqp_perf.specs.declared.perf.Role.TheVariants as role
-use Rattle.amqp_perf.specs.declared.terminus.Address.{Address}
-use Rattle.amqp_perf.specs.declared.terminus.Address.TheVariants as address
-use Rattle.amqp_perf.specs.Descriptors.{code_of}
-use Rattle.amqp_perf.specs.Texts.{symbol_items}
+use Rattle.amqp_model.specs.ValueSpelling.{spelling}
+use Rattle.amqp_model.specs.declared.descriptor.Descriptor.{Descriptor}
+use Rattle.amqp_model.specs.declared.descriptor.Descriptor.TheVariants as is
+use Rattle.amqp_model.specs.declared.perf.Role.{Role}
+use Rattle.amqp_model.specs.declared.perf.Role.TheVariants as role
+use Rattle.amqp_model.specs.declared.terminus.Address.{Address}
+use Rattle.amqp_model.specs.declared.terminus.Address.TheVariants as address
+use Rattle.amqp_model.specs.Descriptors.{code_of}
+use Rattle.amqp_model.specs.Texts.{symbol_items}
 use Rattle.amqp_perf.specs.Fitting.{is_address_value}
 
 -- a kind: which values mean x

@@ -4,7 +4,7 @@ use Rattle.std.specs.Ordering.{nat_cmp}
 use Rattle.std.specs.Cmp.Lexicographic.{slice_cmp}
 use Rattle.std.specs.BTreeSet.{BTreeSet, contains}
 use Rattle.arrayvec.specs.ArrayVec.{ArrayVec}
-use Rattle.amqp_perf.specs.declared.state.UnsettledDelivery.{UnsettledDelivery}
+use Rattle.amqp_model.specs.declared.state.UnsettledDelivery.{UnsettledDelivery}
 use Rattle.amqp_perf.specs.States.{is_among}
 
 -- the set has the tags of the deliveries, and no others

@@ -1,26 +1,23 @@
 -- Sources and targets, field by field (AMQP 1.0 part 3, sections 3.5.3 and 3.5.4).
-use Rattle.std.specs.Prelude.{ℕ, ◌-◌, List, Option, Some, None, Result, Ok, codes}
+use Rattle.std.specs.Prelude.{ℕ, ◌-◌, List, Option, Some, None, Result, Ok}
 use Rattle.std.specs.Option.{unwrap_or}
-use Rattle.amqp_perf.specs.declared.fault.PerfFault.{PerfFault}
-use Rattle.amqp_perf.specs.declared.fault.PerfFault.TheVariants as fault
-use Rattle.amqp_perf.specs.declared.descriptor.Descriptor.TheVariants as is
+use Rattle.amqp_model.specs.declared.perf_fault.PerfFault.{PerfFault}
+use Rattle.amqp_model.specs.declared.perf_fault.PerfFault.TheVariants as fault
+use Rattle.amqp_model.specs.declared.descriptor.Descriptor.TheVariants as is
 use Rattle.amqp_perf.specs.declared.opening.Opening.{Opening}
 use Rattle.amqp_perf.specs.declared.opening.Opening.TheVariants as opening
-use Rattle.amqp_perf.specs.declared.terminus.Source.{Source}
-use Rattle.amqp_perf.specs.declared.terminus.Target.{Target}
+use Rattle.amqp_model.specs.declared.terminus.Source.{Source}
+use Rattle.amqp_model.specs.declared.terminus.Target.{Target}
 use Rattle.amqp_perf.specs.declared.read_termini.NodeFields.{NodeFields}
 use Rattle.amqp_perf.specs.declared.read_termini.SourceChoices.{SourceChoices}
-use Rattle.amqp_perf.specs.declared.terminus.SourceTerminus.{SourceTerminus}
-use Rattle.amqp_perf.specs.declared.terminus.SourceTerminus.TheVariants as source
-use Rattle.amqp_perf.specs.declared.terminus.TargetTerminus.{TargetTerminus}
-use Rattle.amqp_perf.specs.declared.terminus.TargetTerminus.TheVariants as target
+use Rattle.amqp_model.specs.declared.terminus.SourceTerminus.{SourceTerminus}
+use Rattle.amqp_model.specs.declared.terminus.SourceTerminus.TheVariants as source
+use Rattle.amqp_model.specs.declared.terminus.TargetTerminus.{TargetTerminus}
+use Rattle.amqp_model.specs.declared.terminus.TargetTerminus.TheVariants as target
+use Rattle.amqp_model.specs.PerfSpelling.{session_end}
 use Rattle.amqp_perf.specs.Faults.{◌>>=◌}
 use Rattle.amqp_perf.specs.Fields.{At, Takes, ended, in_place, refused, carried, opening_at, listed, flag, uint, symbol, symbols, map, address_at}
 use Rattle.amqp_perf.specs.States.{state_at}
-
--- the default expiry policy of a terminus
-abbrev pub session_end : List ℕ
-session_end = codes "session-end"
 
 -- the fields that a source and a target begin with
 unfoldable pub node_at : Takes NodeFields

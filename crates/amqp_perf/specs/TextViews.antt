@@ -1,10 +1,10 @@
 -- What a writer's field stands for.
 use Rattle.std.specs.Prelude.{List, map, Some, None}
-use Rattle.amqp_values.specs.View.{plain_view}
-use Rattle.amqp_types.specs.Spelling.{spelling}
+use Rattle.amqp_model.specs.View.{plain_view}
+use Rattle.amqp_model.specs.ValueSpelling.{spelling}
 use Rattle.amqp_perf.specs.declared.text.Field.{Field}
 use Rattle.amqp_perf.specs.declared.text.Field.TheVariants as field
-use Rattle.amqp_perf.specs.Texts.{FieldText}
+use Rattle.amqp_model.specs.Texts.{FieldText}
 
 abbrev pub field_view : Field → FieldText
 field_view field.Null = None

@@ -1,16 +1,14 @@
 //! Reading fields, front to back over the bytes of a list: one reader for each kind of field. No value is built for the
 //! list, and none for a field that holds no other values.
 ghost use Rattle.std.specs.Prelude.{◌≡◌, option_map, IfOk};
-ghost use Rattle.amqp_values.specs.View.{items_view, plain_view, view};
-ghost use Rattle.amqp_types.specs.Spelling.{spelling};
+ghost use Rattle.amqp_model.specs.View.{items_view, plain_view, view};
+ghost use Rattle.amqp_model.specs.ValueSpelling.{spelling};
 ghost use Rattle.amqp_perf.specs.Contract.{Gives};
 ghost use Rattle.amqp_perf.specs.Places.{Took, at_of};
 ghost use Rattle.amqp_perf.specs.Fields as fields;
 
-use crate::fault::{PerfFault, within_list};
-use crate::leaf::{AnyValue, Binary, Map, Symbol, Symbols, Text};
-use crate::state::DeliveryTag;
-use crate::terminus::Address;
+use crate::fault::within_list;
+use amqp_model::{Address, AnyValue, Binary, DeliveryTag, Map, PerfFault, Symbol, Symbols, Text};
 use amqp_types::{Kind, Plain, TypeFault, Value, encode, front_of, value_of};
 use std::alloc::{AllocError, Global};
 

@@ -1,12 +1,12 @@
 //! What holds of all that is written. These functions do nothing: their contracts are the laws.
 
 ghost use Rattle.std.specs.Prelude.{◌≡◌, ◌≤◌, ◌++◌, length, take, List, ℕ, Err};
-ghost use Rattle.amqp_values.specs.declared.fault.TypeFault.TheVariants as type_fault;
-ghost use Rattle.amqp_perf.specs.declared.fault.PerfFault.{PerfFault};
-ghost use Rattle.amqp_perf.specs.declared.fault.PerfFault.TheVariants as fault;
-ghost use Rattle.amqp_perf.specs.declared.perf.Perf.{Perf};
-ghost use Rattle.amqp_perf.specs.declared.state.DeliveryState.{DeliveryState};
-ghost use Rattle.amqp_perf.specs.Spelling.{spelling, state_spelling};
+ghost use Rattle.amqp_model.specs.declared.type_fault.TypeFault.TheVariants as type_fault;
+ghost use Rattle.amqp_model.specs.declared.perf_fault.PerfFault.{PerfFault};
+ghost use Rattle.amqp_model.specs.declared.perf_fault.PerfFault.TheVariants as fault;
+ghost use Rattle.amqp_model.specs.declared.perf.Perf.{Perf};
+ghost use Rattle.amqp_model.specs.declared.state.DeliveryState.{DeliveryState};
+ghost use Rattle.amqp_model.specs.PerfSpelling.{spelling, state_spelling};
 ghost use Rattle.amqp_perf.specs.Performative.{performative, state};
 ghost use Rattle.amqp_perf.specs.Fitting.{Fits, FitsState, read_as};
 ghost use Rattle.amqp_perf.specs.ListTables.{SpellsPerf, SpellsState};

@@ -1,17 +1,17 @@
 //! The length of an encoding, without writing it.
 ghost use Rattle.std.specs.Prelude.{◌≡◌, ◌^◌, ◌-◌, ◌+◌, nat_lt, if◌then◌else◌, length, min, is_none, true, IfOk, IsOk};
-ghost use Rattle.amqp_types.specs.Spelling as values;
-ghost use Rattle.amqp_values.specs.View.{plain_view};
-ghost use Rattle.amqp_perf.specs.declared.descriptor.Descriptor.{Descriptor};
-ghost use Rattle.amqp_perf.specs.declared.perf.Perf.TheVariants as perf;
-ghost use Rattle.amqp_perf.specs.Texts as texts;
-ghost use Rattle.amqp_perf.specs.Spelling as spellings;
+ghost use Rattle.amqp_model.specs.ValueSpelling as values;
+ghost use Rattle.amqp_model.specs.View.{plain_view};
+ghost use Rattle.amqp_model.specs.declared.descriptor.Descriptor.{Descriptor};
+ghost use Rattle.amqp_model.specs.declared.perf.Perf.TheVariants as perf;
+ghost use Rattle.amqp_model.specs.Texts as texts;
+ghost use Rattle.amqp_model.specs.PerfSpelling as spellings;
 ghost use Rattle.amqp_perf.specs.TextViews.{field_view, fields_view};
 
-use crate::perf::Transfer;
 use crate::text::{Field, given_of};
 use crate::write_perfs::transfer_fields;
 use crate::write_states::boxed_state_text;
+use amqp_model::Transfer;
 use amqp_types::Plain;
 use std::alloc::{AllocError, Global};
 
@@ -21,7 +21,7 @@ use std::alloc::{AllocError, Global};
 /// # Errors
 ///
 /// `AllocError` where memory was refused.
-#[tactic(auto, unfolding(crate::specs::Spelling::spelling))]
+#[tactic(auto, unfolding(amqp_model::specs::PerfSpelling::spelling))]
 pub fn transfer_len(alloc: Global, transfer: &Transfer) -> Result<usize, AllocError>
     ensures exact { IfOk result (λ len. len ≡ min (length (spellings.spelling (perf.Transfer transfer.now))) (2 ^ 64 - 1)) }
     ensures stateless { is_none transfer.now.state ≡ true → IsOk result }
@@ -31,7 +31,7 @@ pub fn transfer_len(alloc: Global, transfer: &Transfer) -> Result<usize, AllocEr
 }
 
 /// How many bytes the described list of these fields has.
-#[tactic(auto, unfolding(crate::specs::Texts::described_text))]
+#[tactic(auto, unfolding(amqp_model::specs::Texts::described_text))]
 fn described_len(fields: &[Field<'_>]) -> usize
     ensures { (name : Descriptor) → result ≡ min (length (texts.described_text name (fields_view fields.now))) (2 ^ 64 - 1) }
 {
@@ -69,7 +69,7 @@ fn field_len(field: Field<'_>) -> usize
 }
 
 /// How many bytes encode a value that holds no others.
-#[tactic(auto, unfolding(amqp_types::specs::Spelling::spelling))]
+#[tactic(auto, unfolding(amqp_model::specs::ValueSpelling::spelling))]
 fn plain_len(plain: Plain<'_>) -> usize
     ensures { result ≡ length (values.spelling (plain_view plain.entry)) }
 {

@@ -3,12 +3,11 @@ ghost use Rattle.std.specs.Prelude.{◌≡◌, option_map};
 ghost use Rattle.amqp_perf.specs.Contract.{GivesAs, Refuses};
 ghost use Rattle.amqp_perf.specs.Fields as fields;
 ghost use Rattle.amqp_perf.specs.Places.{at_of};
-ghost use Rattle.amqp_values.specs.View.{plain_view};
+ghost use Rattle.amqp_model.specs.View.{plain_view};
 
-use crate::descriptor::Descriptor;
-use crate::fault::{PerfFault, within_list};
+use crate::fault::within_list;
 use crate::fields::{Fields, spelt};
-use crate::leaf::AnyValue;
+use amqp_model::{AnyValue, Descriptor, PerfFault};
 use amqp_types::{Code, Leaf, Plain, code_of, front_of, size_of, sized_of, skip_at, value_of};
 use std::alloc::Global;
 

@@ -4,19 +4,15 @@ ghost use Rattle.amqp_perf.specs.Contract.{Gives, GivesAs};
 ghost use Rattle.amqp_perf.specs.Places.{at_of};
 ghost use Rattle.amqp_perf.specs.Performative.{performative, performative_at, state, body, sasl_body, limit_of};
 
-use crate::boxed::Boxed;
-use crate::descriptor::Descriptor;
-use crate::fault::PerfFault;
 use crate::fields::Fields;
 use crate::opening::{Opening, listed, opening_of};
-use crate::perf::Perf;
 use crate::read_perfs::{
     attach_fields, begin_fields, close_fields, detach_fields, disposition_fields, end_fields,
     flow_fields, open_fields, sasl_challenge_fields, sasl_init_fields, sasl_mechanisms_fields,
     sasl_outcome_fields, sasl_response_fields, transfer_fields,
 };
 use crate::read_states::state_of;
-use crate::state::DeliveryState;
+use amqp_model::{Boxed, DeliveryState, Descriptor, Perf, PerfFault};
 use amqp_types::skip_at;
 use std::alloc::Global;
 

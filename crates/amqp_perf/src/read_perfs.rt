@@ -4,15 +4,12 @@ ghost use Rattle.amqp_perf.specs.Contract.{Gives};
 ghost use Rattle.amqp_perf.specs.Places.{Took, at_of};
 ghost use Rattle.amqp_perf.specs.Performative as performatives;
 
-use crate::fault::PerfFault;
 use crate::fields::Fields;
-use crate::leaf::{Map, Symbols, Text};
-use crate::perf::{
-    Attach, Begin, Close, Detach, Disposition, End, Flow, Open, Role, SaslChallenge, SaslInit,
-    SaslMechanisms, SaslOutcome, SaslResponse, Transfer,
+use amqp_model::{
+    Attach, Begin, Close, Detach, Disposition, End, Flow, Map, Open, PerfFault, Role,
+    SaslChallenge, SaslInit, SaslMechanisms, SaslOutcome, SaslResponse, SourceTerminus, Symbols,
+    TargetTerminus, Text, Transfer, Unsettled,
 };
-use crate::state::Unsettled;
-use crate::terminus::{SourceTerminus, TargetTerminus};
 use std::alloc::Global;
 
 impl<'a> Fields<'a> {

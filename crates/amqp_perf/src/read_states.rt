@@ -1,18 +1,17 @@
 //! Reading errors, delivery states and unsettled maps, each by a list of calls of field readers.
 ghost use Rattle.std.specs.Prelude.{◌≡◌, ◌/◌, [], ◌∷◌, ◌++◌, List, IfOk, OnOk};
-ghost use Rattle.amqp_perf.specs.declared.state.UnsettledDelivery.{UnsettledDelivery};
+ghost use Rattle.amqp_model.specs.declared.state.UnsettledDelivery.{UnsettledDelivery};
 ghost use Rattle.amqp_perf.specs.Tags.{Has};
 ghost use Rattle.amqp_perf.specs.Contract.{Gives, GivesAs};
 ghost use Rattle.amqp_perf.specs.Places.{Took, at_of};
 ghost use Rattle.amqp_perf.specs.States as states;
 
-use crate::boxed::Boxed;
-use crate::descriptor::Descriptor;
-use crate::fault::{PerfFault, within_list};
+use crate::fault::{within, within_list};
 use crate::fields::Fields;
 use crate::opening::{Opening, carried, listed, opening_of, refused};
-use crate::state::{
-    DeliveryState, DeliveryTag, Fault, Modified, Received, Rejected, Unsettled, UnsettledDelivery,
+use amqp_model::{
+    Boxed, DeliveryState, DeliveryTag, Descriptor, Fault, Modified, PerfFault, Received, Rejected,
+    Unsettled, UnsettledDelivery,
 };
 use amqp_types::{Code, Leaf, code_of, size_of, sized_of, skip_at};
 use std::alloc::{AllocError, Global};
@@ -159,7 +158,7 @@ impl<'a> Fields<'a> {
             return Ok(None);
         }
         match error_of(alloc, self.depth, self.rest) {
-            Err(fault) => Err(fault.within()),
+            Err(fault) => Err(within(fault)),
             Ok((error, rest)) => {
                 self.left -= 1;
                 self.rest = rest;
@@ -178,7 +177,7 @@ impl<'a> Fields<'a> {
             return Ok(None);
         }
         match state_of(alloc, self.depth, self.rest) {
-            Err(fault) => Err(fault.within()),
+            Err(fault) => Err(within(fault)),
             Ok((state, rest)) => {
                 self.left -= 1;
                 self.rest = rest;
@@ -218,7 +217,7 @@ impl<'a> Fields<'a> {
             return Ok(None);
         }
         match unsettled_of(alloc, self.depth, self.rest) {
-            Err(fault) => Err(fault.within()),
+            Err(fault) => Err(within(fault)),
             Ok((unsettled, rest)) => {
                 self.left -= 1;
                 self.rest = rest;

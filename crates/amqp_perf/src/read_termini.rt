@@ -2,17 +2,18 @@
 ghost use Rattle.std.specs.Prelude.{◌≡◌};
 ghost use Rattle.amqp_perf.specs.Contract.{Gives, GivesAs};
 ghost use Rattle.amqp_perf.specs.Places.{Took, at_of};
+ghost use Rattle.amqp_model.specs.PerfSpelling.{session_end};
 ghost use Rattle.amqp_perf.specs.Termini as termini;
 ghost use Rattle.std.specs.Prelude.{OnOk, IfOk};
 ghost use Rattle.std.specs.Option.{unwrap_or};
 
-use crate::descriptor::Descriptor;
-use crate::fault::PerfFault;
+use crate::fault::within;
 use crate::fields::Fields;
-use crate::leaf::{Map, Symbol, Symbols};
 use crate::opening::{Opening, carried, listed, opening_of, refused};
-use crate::state::DeliveryState;
-use crate::terminus::{Address, Source, SourceTerminus, Target, TargetTerminus};
+use amqp_model::{
+    Address, DeliveryState, Descriptor, Map, PerfFault, Source, SourceTerminus, Symbol, Symbols,
+    Target, TargetTerminus,
+};
 use std::alloc::Global;
 
 /// The default expiry policy of a terminus (AMQP 1.0 part 3, section 3.5.3).
@@ -20,7 +21,7 @@ pub(crate) const SESSION_END: &str = "session-end";
 
 /// The expiry policy that is given, or the default.
 fn expiry_policy(alloc: Global, told: Option<Symbol>) -> Result<Symbol, PerfFault>
-    ensures { Gives result (Ok (unwrap_or told termini.session_end)) }
+    ensures { Gives result (Ok (unwrap_or told session_end)) }
 {
     match told {
         Some(policy) => Ok(policy),
@@ -202,7 +203,7 @@ impl<'a> Fields<'a> {
             return Ok(None);
         }
         match source_of(alloc, self.depth, self.rest) {
-            Err(fault) => Err(fault.within()),
+            Err(fault) => Err(within(fault)),
             Ok((source, rest)) => {
                 self.left -= 1;
                 self.rest = rest;
@@ -221,7 +222,7 @@ impl<'a> Fields<'a> {
             return Ok(None);
         }
         match target_of(alloc, self.depth, self.rest) {
-            Err(fault) => Err(fault.within()),
+            Err(fault) => Err(within(fault)),
             Ok((target, rest)) => {
                 self.left -= 1;
                 self.rest = rest;

@@ -1,21 +1,17 @@
 //! Writing a described list from a slice of its fields, each in its canonical encoding and without the nulls at the end.
 ghost use Rattle.std.specs.Prelude.{◌≡◌, ◌+◌, ◌-◌, ◌^◌, ◌<◌, ◌&&◌, ◌++◌, ◌∷◌, nat_lt, ℕ, List, [], length, min, is_none, option_map, IfOk, OnOk};
-ghost use Rattle.amqp_values.specs.Data as d;
-ghost use Rattle.amqp_values.specs.View.{items_view};
-ghost use Rattle.amqp_types.specs.Spelling.{list_text, wide_sizes};
-ghost use Rattle.amqp_perf.specs.Texts as texts;
-ghost use Rattle.amqp_perf.specs.Spelling as spellings;
+ghost use Rattle.amqp_model.specs.Data as d;
+ghost use Rattle.amqp_model.specs.View.{items_view};
+ghost use Rattle.amqp_model.specs.ValueSpelling.{list_text, wide_sizes};
+ghost use Rattle.amqp_model.specs.Texts as texts;
+ghost use Rattle.amqp_model.specs.PerfSpelling as spellings;
 ghost use Rattle.amqp_perf.specs.NestedViews.{nested_view};
 ghost use Rattle.amqp_perf.specs.TextViews.{field_view, fields_view};
 
-use crate::descriptor::Descriptor;
-use crate::leaf::{Binary, Map, Symbol, Symbols, Text};
 use crate::lengths::fields_len;
-use crate::perf::Role;
 use crate::read_termini::SESSION_END;
-use crate::state::DeliveryTag;
-use crate::terminus::Address;
 use crate::write_states::Nested;
+use amqp_model::{Address, Binary, DeliveryTag, Descriptor, Map, Role, Symbol, Symbols, Text};
 use amqp_types::{Kind, Plain, Value, encode, put_plain};
 use std::alloc::{AllocError, Global};
 
@@ -296,7 +292,7 @@ fn put_list_head(out: &mut Vec<u8>, count: usize, len: usize) -> Result<(), Allo
 }
 
 /// Appends the described list of these fields. It allocates nothing but room in `out`.
-#[tactic(auto, unfolding(crate::specs::Texts::described_text))]
+#[tactic(auto, unfolding(amqp_model::specs::Texts::described_text))]
 pub(crate) fn put_described(
     out: &mut Vec<u8>,
     descriptor: Descriptor,

@@ -1,15 +1,14 @@
 //! Writing a performative, or a delivery state.
 ghost use Rattle.std.specs.Prelude.{◌≡◌, ◌++◌, OnOk, OnErr};
-ghost use Rattle.amqp_perf.specs.Spelling.{spelling, state_spelling};
+ghost use Rattle.amqp_model.specs.PerfSpelling.{spelling, state_spelling};
 
-use crate::perf::Perf;
-use crate::state::DeliveryState;
 use crate::write_perfs::{
     put_attach, put_begin, put_close, put_detach, put_disposition, put_end, put_flow, put_open,
     put_sasl_challenge, put_sasl_init, put_sasl_mechanisms, put_sasl_outcome, put_sasl_response,
     put_transfer,
 };
 use crate::write_states::put_state;
+use amqp_model::{DeliveryState, Perf};
 use std::alloc::{AllocError, Global};
 
 /// Appends the canonical encoding of a performative: a field that has its default is null, and the nulls at the end are left
@@ -59,7 +58,7 @@ pub fn write_state(
     out.extend_from_slice(&text)
 }
 
-#[tactic(auto, unfolding(crate::specs::Spelling::spelling))]
+#[tactic(auto, unfolding(amqp_model::specs::PerfSpelling::spelling))]
 fn put_perf(alloc: Global, out: &mut Vec<u8>, perf: &Perf) -> Result<(), AllocError>
     ensures { OnOk result (out.new.items ≡ out.old.items ++ spelling perf.now) }
 {

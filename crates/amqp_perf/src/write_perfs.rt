@@ -1,19 +1,18 @@
 //! Writing performatives and SASL bodies.
 ghost use Rattle.std.specs.Prelude.{◌≡◌, ◌++◌, option_map, IfOk, OnOk, OnErr};
-ghost use Rattle.amqp_perf.specs.declared.descriptor.Descriptor.TheVariants as is;
-ghost use Rattle.amqp_perf.specs.Texts as texts;
-ghost use Rattle.amqp_perf.specs.Spelling as spellings;
+ghost use Rattle.amqp_model.specs.declared.descriptor.Descriptor.TheVariants as is;
+ghost use Rattle.amqp_model.specs.Texts as texts;
+ghost use Rattle.amqp_model.specs.PerfSpelling as spellings;
 ghost use Rattle.amqp_perf.specs.NestedViews.{nested_view};
 ghost use Rattle.amqp_perf.specs.TextViews.{fields_view};
 
-use crate::descriptor::Descriptor;
-use crate::perf::{
-    Attach, Begin, Close, Detach, Disposition, End, Flow, Open, SaslChallenge, SaslInit,
-    SaslMechanisms, SaslOutcome, SaslResponse, Transfer,
-};
 use crate::text::{Field, put_described, symbols_text};
 use crate::write_states::{Nested, boxed_state_text, error_text, state_text, unsettled_text};
 use crate::write_termini::{source_text, target_text};
+use amqp_model::{
+    Attach, Begin, Close, Descriptor, Detach, Disposition, End, Flow, Open, SaslChallenge,
+    SaslInit, SaslMechanisms, SaslOutcome, SaslResponse, Transfer,
+};
 use amqp_types::Plain;
 use std::alloc::{AllocError, Global};
 

@@ -1,17 +1,16 @@
 //! Writing errors, delivery states and unsettled maps.
 ghost use Rattle.std.specs.Prelude.{◌≡◌, ◌++◌, option_map, is_none, true, IfOk, IsOk, OnOk, OnErr};
-ghost use Rattle.amqp_perf.specs.declared.descriptor.Descriptor.TheVariants as is;
-ghost use Rattle.amqp_perf.specs.Texts as texts;
-ghost use Rattle.amqp_perf.specs.Spelling as spellings;
-ghost use Rattle.amqp_values.specs.Data as d;
+ghost use Rattle.amqp_model.specs.declared.descriptor.Descriptor.TheVariants as is;
+ghost use Rattle.amqp_model.specs.Texts as texts;
+ghost use Rattle.amqp_model.specs.PerfSpelling as spellings;
+ghost use Rattle.amqp_model.specs.Data as d;
 ghost use Rattle.amqp_perf.specs.NestedViews.{nested_view};
 
-use crate::boxed::Boxed;
-use crate::descriptor::Descriptor;
-use crate::state::{
-    DeliveryState, Fault, Modified, Received, Rejected, Unsettled, UnsettledDelivery,
-};
 use crate::text::{Field, put_described};
+use amqp_model::{
+    Boxed, DeliveryState, Descriptor, Fault, Modified, Received, Rejected, Unsettled,
+    UnsettledDelivery,
+};
 use amqp_types::{Plain, put_map, put_plain};
 use std::alloc::{AllocError, Global};
 
@@ -82,7 +81,7 @@ pub(crate) fn error_text(
 }
 
 /// The encoding of a delivery state.
-#[tactic(auto, unfolding(crate::specs::Spelling::state_spelling))]
+#[tactic(auto, unfolding(amqp_model::specs::PerfSpelling::state_spelling))]
 pub(crate) fn put_state(
     alloc: Global,
     out: &mut Vec<u8>,
@@ -101,7 +100,7 @@ pub(crate) fn put_state(
 }
 
 /// The encoding of a delivery state by itself.
-#[tactic(auto, unfolding(crate::specs::Spelling::state_spelling, crate::specs::Texts::described_text, crate::specs::Texts::given))]
+#[tactic(auto, unfolding(amqp_model::specs::PerfSpelling::state_spelling, amqp_model::specs::Texts::described_text, amqp_model::specs::Texts::given))]
 fn nested_state(alloc: Global, state: &DeliveryState) -> Result<Nested, AllocError>
     ensures { IfOk result (λ text. nested_view text ≡ spellings.state_spelling state.now) }
 {

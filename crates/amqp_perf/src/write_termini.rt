@@ -1,14 +1,13 @@
 //! Writing sources and targets.
 ghost use Rattle.std.specs.Prelude.{◌≡◌, ◌++◌, option_map, IfOk, OnOk, OnErr};
-ghost use Rattle.amqp_perf.specs.declared.descriptor.Descriptor.TheVariants as is;
-ghost use Rattle.amqp_perf.specs.Texts as texts;
-ghost use Rattle.amqp_perf.specs.Spelling as spellings;
+ghost use Rattle.amqp_model.specs.declared.descriptor.Descriptor.TheVariants as is;
+ghost use Rattle.amqp_model.specs.Texts as texts;
+ghost use Rattle.amqp_model.specs.PerfSpelling as spellings;
 ghost use Rattle.amqp_perf.specs.NestedViews.{nested_view};
 
-use crate::descriptor::Descriptor;
-use crate::terminus::{Source, SourceTerminus, Target, TargetTerminus};
 use crate::text::{Field, put_described, symbols_text};
 use crate::write_states::{Nested, state_text};
+use amqp_model::{Descriptor, Source, SourceTerminus, Target, TargetTerminus};
 use std::alloc::{AllocError, Global};
 
 fn put_source(alloc: Global, out: &mut Vec<u8>, source: &Source) -> Result<(), AllocError>

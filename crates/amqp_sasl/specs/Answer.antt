@@ -1,8 +1,8 @@
 -- A server's answers (AMQP 1.0 part 5, section 5.3.2).
 use Rattle.std.specs.Prelude.{ℕ, List, Option, Some, None}
-use Rattle.amqp_perf.specs.declared.perf.Perf.{Perf}
-use Rattle.amqp_perf.specs.declared.perf.Perf.TheVariants as perf
-use Rattle.amqp_perf.specs.declared.perf.SaslInit.{SaslInit}
+use Rattle.amqp_model.specs.declared.perf.Perf.{Perf}
+use Rattle.amqp_model.specs.declared.perf.Perf.TheVariants as perf
+use Rattle.amqp_model.specs.declared.perf.SaslInit.{SaslInit}
 use Rattle.amqp_sasl.specs.declared.code.SaslCode.TheVariants as code
 use Rattle.amqp_sasl.specs.declared.server.SaslAnswer.{SaslAnswer}
 use Rattle.amqp_sasl.specs.declared.server.SaslAnswer.TheVariants as answer

@@ -1,6 +1,6 @@
 -- Which user a peer's first message proves it to be (AMQP 1.0 part 5, section 5.3.3.2; RFC 4505; RFC 4616).
 use Rattle.std.specs.Prelude.{◌≡◌, ℕ, ◌⊎◌, List, [], Option, Some, None, Contains, codes}
-use Rattle.amqp_perf.specs.declared.perf.SaslInit.{SaslInit}
+use Rattle.amqp_model.specs.declared.perf.SaslInit.{SaslInit}
 use Rattle.amqp_sasl.specs.declared.mechanism.Mechanism.{Mechanism}
 use Rattle.amqp_sasl.specs.declared.mechanism.Mechanism.TheVariants.{Anonymous, Plain}
 use Rattle.amqp_sasl.specs.declared.user.User.{User}

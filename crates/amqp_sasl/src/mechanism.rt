@@ -3,7 +3,7 @@ ghost use Rattle.std.specs.Prelude.{◌≡◌, find, IfOk, map};
 ghost use Rattle.std.specs.Str.{bytes_eq};
 ghost use Rattle.amqp_sasl.specs.Names.{name_of};
 
-use amqp_perf::{SaslMechanisms, Symbol, Symbols};
+use amqp_model::{SaslMechanisms, Symbol, Symbols};
 use std::alloc::{AllocError, Global};
 
 /// A SASL mechanism (AMQP 1.0 part 5, section 5.3.3).

@@ -9,7 +9,7 @@ use crate::code::SaslCode;
 use crate::mechanism::{Mechanism, chosen, offer};
 use crate::plain::read_plain;
 use crate::user::{User, place_of};
-use amqp_perf::{Perf, SaslInit, SaslMechanisms, Text};
+use amqp_model::{Perf, SaslInit, SaslMechanisms, Text};
 use std::alloc::{AllocError, Global};
 use std::marker::Model;
 

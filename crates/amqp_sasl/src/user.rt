@@ -3,7 +3,7 @@ ghost use Rattle.std.specs.Prelude.{◌≡◌, ◌↔◌, ℕ, IsTrue, IfSome, I
 ghost use Rattle.amqp_sasl.specs.Users.{HasUser};
 
 use crate::compare::same_bytes;
-use amqp_perf::Text;
+use amqp_model::Text;
 use std::fmt;
 use std::marker::Model;
 

@@ -4,19 +4,20 @@ use Rattle.std.specs.Int.{byte_len, from_be_bytes}
 use Rattle.std.proofs.lemmas.Bool.{le-ltb, ne_eqb}
 use Rattle.std.proofs.lemmas.List.{length-append, append-nil}
 use Rattle.std.proofs.Math.Seq.{take-append_seam, drop-append_seam}
-use Rattle.amqp_values.specs.declared.fault.TypeFault.TheVariants as fault
-use Rattle.amqp_values.specs.declared.code.Size.{Size}
-use Rattle.amqp_values.specs.declared.code.Leaf.{Leaf}
-use Rattle.amqp_values.specs.declared.code.Code.{Code}
-use Rattle.amqp_values.specs.declared.code.Code.TheVariants as code
-use Rattle.amqp_values.specs.declared.code.Layout.{Layout}
-use Rattle.amqp_values.specs.declared.code.Layout.TheVariants as layout
-use Rattle.amqp_values.specs.declared.code.Kind.{Kind}
-use Rattle.amqp_values.specs.Codes.{code_of, width, layout_of, kind_of, is_without_bytes}
-use Rattle.amqp_values.specs.Data as d
-use Rattle.amqp_values.specs.Data.{Data, Items, no_items, item, Pairs, no_pairs, pair}
+use Rattle.amqp_model.specs.declared.type_fault.TypeFault.TheVariants as fault
+use Rattle.amqp_model.specs.declared.code.Size.{Size}
+use Rattle.amqp_model.specs.declared.code.Leaf.{Leaf}
+use Rattle.amqp_model.specs.declared.code.Code.{Code}
+use Rattle.amqp_model.specs.declared.code.Code.TheVariants as code
+use Rattle.amqp_model.specs.declared.code.Layout.{Layout}
+use Rattle.amqp_model.specs.declared.code.Layout.TheVariants as layout
+use Rattle.amqp_model.specs.declared.code.Kind.{Kind}
+use Rattle.amqp_model.specs.Codes.{code_of, width, layout_of, kind_of, is_without_bytes}
+use Rattle.amqp_model.specs.Data as d
+use Rattle.amqp_model.specs.Data.{Data, Items, no_items, item, Pairs, no_pairs, pair}
 use Rattle.amqp_types.specs.Reading.{◌>>=◌, Reads, to, made, bytes_at, size_at, sized_at, known, code_at, chunk_at, content_of, leaf_at, whole, elements_of, element_kind, value_by, one_by, items_at, pair_at, pairs_at, list_in, map_in, array_in, described_at, body_by, body_at, value_at}
-use Rattle.amqp_types.specs.Spells.{Spelling, count, pair_count, IsNumber, IsSized, IsChunk, IsLeaf, Constructed, AreItems, ArePairs, IsListInside, IsMapInside, IsArrayInside, IsDescribed, Fills, BodyBy, Behind, Spells}
+use Rattle.amqp_types.specs.Spells.{Spelling, IsNumber, IsSized, IsChunk, IsLeaf, Constructed, AreItems, ArePairs, IsListInside, IsMapInside, IsArrayInside, IsDescribed, Fills, BodyBy, Behind, Spells}
+use Rattle.amqp_model.specs.Data.{count, pair_count}
 use Rattle.amqp_types.proofs.Tools.{done, whole-all}
 
 abbrev pub Complete : {A : Type 0} → Reads A → (List ℕ → A → Type 0) → Type 0

@@ -2,10 +2,10 @@
 use Rattle.std.proofs.Common.{◌≡◌, ℕ, ◌-◌, ◌≤◌, List, ◌++◌, length, take, Result, Ok, Err, IfOk, refl, sym, ap, subst, ◌∙◌, arith}
 use Rattle.std.proofs.lemmas.List.{length-append}
 use Rattle.std.proofs.Math.Seq.{take-append_seam}
-use Rattle.amqp_values.specs.declared.fault.TypeFault.{TypeFault}
-use Rattle.amqp_values.specs.Data.{Data}
-use Rattle.amqp_values.specs.View.{view}
-use Rattle.amqp_values.specs.declared.value.Value.{Value}
+use Rattle.amqp_model.specs.declared.type_fault.TypeFault.{TypeFault}
+use Rattle.amqp_model.specs.Data.{Data}
+use Rattle.amqp_model.specs.View.{view}
+use Rattle.amqp_model.specs.declared.value.Value.{Value}
 use Rattle.amqp_types.specs.Reading.{Gives, Same, after, measured, length_of, value_at}
 use Rattle.amqp_types.specs.Spells.{Spells}
 use Rattle.amqp_types.proofs.Tools.{done, bind_ok, ok_is}

@@ -1,11 +1,11 @@
 -- Reading one value after another, as a loop does; and one level of reading.
 use Rattle.std.proofs.Common.{◌≡◌, ℕ, zero, suc, ◌-◌, ◌+◌, ◌≤◌, ◌<◌, List, [], ◌∷◌, ◌++◌, Result, Ok, Err, refl, sym, ap, ◌∙◌, arith}
-use Rattle.amqp_values.specs.declared.fault.TypeFault.{TypeFault}
-use Rattle.amqp_values.specs.declared.fault.TypeFault.TheVariants as fault
-use Rattle.amqp_values.specs.declared.code.Code.{Code}
-use Rattle.amqp_values.specs.declared.value.Value.{Value}
-use Rattle.amqp_values.specs.Data.{Data, Items, no_items, item, Pairs, no_pairs, pair}
-use Rattle.amqp_values.specs.View.{view, items_view, pairs_view}
+use Rattle.amqp_model.specs.declared.type_fault.TypeFault.{TypeFault}
+use Rattle.amqp_model.specs.declared.type_fault.TypeFault.TheVariants as fault
+use Rattle.amqp_model.specs.declared.code.Code.{Code}
+use Rattle.amqp_model.specs.declared.value.Value.{Value}
+use Rattle.amqp_model.specs.Data.{Data, Items, no_items, item, Pairs, no_pairs, pair}
+use Rattle.amqp_model.specs.View.{view, items_view, pairs_view}
 use Rattle.amqp_types.specs.Reading.{◌>>=◌, Reads, to, body_by, body_at, items_at, pair_at, pairs_at}
 
 pub body_at_deeper : (depth : ℕ) (c : Code) (bytes : List ℕ) → 0 < depth → body_at depth c bytes ≡ body_by (body_at (depth - 1)) c bytes

@@ -1,16 +1,16 @@
 -- Values that hold others, distinguished by their constructors.
 use Rattle.std.proofs.Common.{◌≡◌, ℕ, zero, suc, ◌-◌, ◌/◌, ◌%◌, ◌<◌, cond, List, [], Result, Ok, Err, Option, Some, None, refl, sym, ap, subst, ◌∙◌, arith, ◌==◌}
-use Rattle.amqp_values.specs.declared.fault.TypeFault.{TypeFault}
-use Rattle.amqp_values.specs.declared.fault.TypeFault.TheVariants as fault
-use Rattle.amqp_values.specs.declared.code.Code.{Code}
-use Rattle.amqp_values.specs.declared.code.Code.TheVariants as code
-use Rattle.amqp_values.specs.declared.code.Leaf.{Leaf}
-use Rattle.amqp_values.specs.declared.code.Size.{Size}
-use Rattle.amqp_values.specs.declared.plain.Plain.{Plain}
-use Rattle.amqp_values.specs.declared.plain.Plain.TheVariants as plain
-use Rattle.amqp_values.specs.Data as d
-use Rattle.amqp_values.specs.Data.{Data, Items, no_items, Pairs}
-use Rattle.amqp_values.specs.View.{plain_view, plain_part}
+use Rattle.amqp_model.specs.declared.type_fault.TypeFault.{TypeFault}
+use Rattle.amqp_model.specs.declared.type_fault.TypeFault.TheVariants as fault
+use Rattle.amqp_model.specs.declared.code.Code.{Code}
+use Rattle.amqp_model.specs.declared.code.Code.TheVariants as code
+use Rattle.amqp_model.specs.declared.code.Leaf.{Leaf}
+use Rattle.amqp_model.specs.declared.code.Size.{Size}
+use Rattle.amqp_model.specs.declared.plain.Plain.{Plain}
+use Rattle.amqp_model.specs.declared.plain.Plain.TheVariants as plain
+use Rattle.amqp_model.specs.Data as d
+use Rattle.amqp_model.specs.Data.{Data, Items, no_items, Pairs}
+use Rattle.amqp_model.specs.View.{plain_view, plain_part}
 use Rattle.amqp_types.specs.Reading.{◌>>=◌, Reads, to, after, size_at, sized_at, code_at, element_kind, leaf_at, whole, value_by, one_by, items_at, pairs_at, list_in, map_in, array_in, described_at, body_by, body_at}
 use Rattle.amqp_types.specs.Opening.{opening_by}
 use Rattle.amqp_types.proofs.Tools.{bind_ok, ok_is, to_ok, made_ok, whole_ok, guard_ok}

@@ -1,12 +1,12 @@
 -- The bytes after a value, given without the value.
 use Rattle.std.proofs.Common.{◌≡◌, ℕ, suc, ◌-◌, ◌+◌, ◌/◌, ◌%◌, ◌≤◌, ◌<◌, cond, List, Result, Ok, Err, Some, None, refl, sym, ap, ◌∙◌, arith, ◌==◌, true, false, Bool}
-use Rattle.amqp_values.specs.declared.fault.TypeFault.{TypeFault}
-use Rattle.amqp_values.specs.declared.fault.TypeFault.TheVariants as fault
-use Rattle.amqp_values.specs.declared.code.Code.{Code}
-use Rattle.amqp_values.specs.declared.code.Code.TheVariants as code
-use Rattle.amqp_values.specs.declared.code.Size.{Size}
-use Rattle.amqp_values.specs.Data as d
-use Rattle.amqp_values.specs.Data.{Data, Items, item, Pairs, pair}
+use Rattle.amqp_model.specs.declared.type_fault.TypeFault.{TypeFault}
+use Rattle.amqp_model.specs.declared.type_fault.TypeFault.TheVariants as fault
+use Rattle.amqp_model.specs.declared.code.Code.{Code}
+use Rattle.amqp_model.specs.declared.code.Code.TheVariants as code
+use Rattle.amqp_model.specs.declared.code.Size.{Size}
+use Rattle.amqp_model.specs.Data as d
+use Rattle.amqp_model.specs.Data.{Data, Items, item, Pairs, pair}
 use Rattle.amqp_types.specs.Reading.{◌>>=◌, Reads, to, made, after, size_at, sized_at, code_at, element_kind, leaf_at, whole, value_by, one_by, items_at, pair_at, pairs_at, list_in, map_in, array_in, described_at, body_by, body_at}
 use Rattle.amqp_types.proofs.Loops.{body_at_deeper}
 

@@ -7,21 +7,22 @@ use Rattle.std.proofs.lemmas.List.{length-append}
 use Rattle.std.proofs.lemmas.Nat.{from_be_bytes-to_be_bytes_2, from_be_bytes-to_be_bytes_4, from_be_bytes-to_be_bytes_8}
 use Rattle.std.proofs.Math.Facts.{Fits-of_z, to_z-of_z}
 use Rattle.std.proofs.lemmas.Int.{ints}
-use Rattle.amqp_values.specs.declared.code.Size.{Size}
-use Rattle.amqp_values.specs.declared.code.Size.TheVariants as size
-use Rattle.amqp_values.specs.declared.code.Leaf.{Leaf}
-use Rattle.amqp_values.specs.declared.code.Leaf.TheVariants as leaf
-use Rattle.amqp_values.specs.declared.code.Code.{Code}
-use Rattle.amqp_values.specs.declared.code.Code.TheVariants as code
-use Rattle.amqp_values.specs.declared.code.Kind.{Kind}
-use Rattle.amqp_values.specs.declared.code.Kind.TheVariants as kind
-use Rattle.amqp_values.specs.Codes.{narrow_code, wide_code, code_of, layout_of, kind_of, is_without_bytes}
-use Rattle.amqp_values.specs.Data as d
-use Rattle.amqp_values.specs.Data.{Data, Items, no_items, item, Pairs, no_pairs, pair}
+use Rattle.amqp_model.specs.declared.code.Size.{Size}
+use Rattle.amqp_model.specs.declared.code.Size.TheVariants as size
+use Rattle.amqp_model.specs.declared.code.Leaf.{Leaf}
+use Rattle.amqp_model.specs.declared.code.Leaf.TheVariants as leaf
+use Rattle.amqp_model.specs.declared.code.Code.{Code}
+use Rattle.amqp_model.specs.declared.code.Code.TheVariants as code
+use Rattle.amqp_model.specs.declared.code.Kind.{Kind}
+use Rattle.amqp_model.specs.declared.code.Kind.TheVariants as kind
+use Rattle.amqp_model.specs.Codes.{narrow_code, wide_code, code_of, layout_of, kind_of, is_without_bytes}
+use Rattle.amqp_model.specs.Data as d
+use Rattle.amqp_model.specs.Data.{Data, Items, no_items, item, Pairs, no_pairs, pair}
 use Rattle.amqp_types.specs.Reading.{char_of, content_of, value_at}
-use Rattle.amqp_values.specs.declared.fault.TypeFault.TheVariants as fault
-use Rattle.amqp_types.specs.Spells.{Spelling, count, pair_count, IsNumber, IsSized, IsChunk, IsLeaf, Constructed, AreItems, ArePairs, IsListInside, IsMapInside, IsArrayInside, Fills, BodyBy, Behind, Spells}
-use Rattle.amqp_types.specs.Spelling.{Piece, constructed, single, piece_by, number_piece, signed_piece, is_small, sized_piece, wide_sizes, compound_piece, list_text, boolean_byte, spelling, spellings, pair_spellings, piece, pieces}
+use Rattle.amqp_model.specs.declared.type_fault.TypeFault.TheVariants as fault
+use Rattle.amqp_types.specs.Spells.{Spelling, IsNumber, IsSized, IsChunk, IsLeaf, Constructed, AreItems, ArePairs, IsListInside, IsMapInside, IsArrayInside, Fills, BodyBy, Behind, Spells}
+use Rattle.amqp_model.specs.Data.{count, pair_count}
+use Rattle.amqp_model.specs.ValueSpelling.{Piece, constructed, single, piece_by, number_piece, signed_piece, is_small, sized_piece, wide_sizes, compound_piece, list_text, boolean_byte, spelling, spellings, pair_spellings, piece, pieces}
 use Rattle.amqp_types.specs.Fitting.{value_kind, AllItems, AllPairs, AreOf, FitsBy, FitsIn}
 use Rattle.amqp_types.proofs.Tools.{done}
 use Rattle.amqp_types.proofs.Complete.{value_at-Spells}

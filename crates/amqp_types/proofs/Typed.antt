@@ -2,16 +2,16 @@
 use Rattle.std.proofs.Common.{◌≡◌, ℕ, zero, suc, Bool, true, false, cond, ◌==◌, List, Some, Ok, Err, refl, sym, ap, subst, ◌∙◌}
 use Rattle.std.specs.Int.{w8, w16, w32, w64, from_be_bytes, cast_signed}
 use Rattle.std.specs.Str.{is_utf8}
-use Rattle.amqp_values.specs.declared.fault.TypeFault.TheVariants as fault
-use Rattle.amqp_values.specs.declared.code.Leaf.{Leaf}
-use Rattle.amqp_values.specs.declared.code.Leaf.TheVariants as leaf
-use Rattle.amqp_values.specs.declared.code.Code.{Code}
-use Rattle.amqp_values.specs.declared.code.Code.TheVariants as code
-use Rattle.amqp_values.specs.declared.code.Kind.{Kind}
-use Rattle.amqp_values.specs.declared.code.Kind.TheVariants as kind
-use Rattle.amqp_values.specs.Codes.{leaf_kind, kind_of}
-use Rattle.amqp_values.specs.Data as d
-use Rattle.amqp_values.specs.Data.{Data, Items, no_items, item, Pairs, no_pairs, pair}
+use Rattle.amqp_model.specs.declared.type_fault.TypeFault.TheVariants as fault
+use Rattle.amqp_model.specs.declared.code.Leaf.{Leaf}
+use Rattle.amqp_model.specs.declared.code.Leaf.TheVariants as leaf
+use Rattle.amqp_model.specs.declared.code.Code.{Code}
+use Rattle.amqp_model.specs.declared.code.Code.TheVariants as code
+use Rattle.amqp_model.specs.declared.code.Kind.{Kind}
+use Rattle.amqp_model.specs.declared.code.Kind.TheVariants as kind
+use Rattle.amqp_model.specs.Codes.{leaf_kind, kind_of}
+use Rattle.amqp_model.specs.Data as d
+use Rattle.amqp_model.specs.Data.{Data, Items, no_items, item, Pairs, no_pairs, pair}
 use Rattle.amqp_types.specs.Reading.{is_scalar, all_ascii, boolean_of, content_of}
 use Rattle.amqp_types.specs.Spells.{Spelling, Constructed, AreItems, ArePairs, BodyBy, Behind, Spells}
 use Rattle.amqp_types.specs.Fitting.{value_kind, AllItems, AllPairs, TypedBy, IsTyped}

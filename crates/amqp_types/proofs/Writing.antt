@@ -2,15 +2,15 @@
 use Rattle.std.proofs.Common.{◌≡◌, ℕ, suc, ◌+◌, ◌*◌, ◌<◌, Bool, true, false, ◌&&◌, List, [], ◌∷◌, ◌++◌, length, take, get_or, Vec, Box, refl, sym, ap, ◌∙◌, append_assoc, rules}
 use Rattle.std.specs.declared.alloc.Global.{Global}
 use Rattle.std.proofs.lemmas.List.{append-nil, take_more}
-use Rattle.amqp_values.specs.declared.code.Kind.{Kind}
-use Rattle.amqp_values.specs.declared.code.Kind.TheVariants as kind
-use Rattle.amqp_values.specs.declared.value.Value.{Value, the_lemmas}
-use Rattle.amqp_values.specs.declared.value.Value.TheViews as value
-use Rattle.amqp_values.specs.Data as d
-use Rattle.amqp_values.specs.Data.{Data, Items, no_items, item, Pairs, no_pairs, pair}
-use Rattle.amqp_values.specs.View.{view, items_view, pairs_view}
-use Rattle.amqp_types.specs.Spells.{count, pair_count}
-use Rattle.amqp_types.specs.Spelling.{spelling, spellings, pair_spellings, piece, pieces, Piece, join, no_piece, constructed, compound_piece, list_text}
+use Rattle.amqp_model.specs.declared.code.Kind.{Kind}
+use Rattle.amqp_model.specs.declared.code.Kind.TheVariants as kind
+use Rattle.amqp_model.specs.declared.value.Value.{Value, the_lemmas}
+use Rattle.amqp_model.specs.declared.value.Value.TheViews as value
+use Rattle.amqp_model.specs.Data as d
+use Rattle.amqp_model.specs.Data.{Data, Items, no_items, item, Pairs, no_pairs, pair}
+use Rattle.amqp_model.specs.View.{view, items_view, pairs_view}
+use Rattle.amqp_model.specs.Data.{count, pair_count}
+use Rattle.amqp_model.specs.ValueSpelling.{spelling, spellings, pair_spellings, piece, pieces, Piece, join, no_piece, constructed, compound_piece, list_text}
 
 view-List : (v : Vec Value Global) → view (value.List v) ≡ d.list (items_view v.items)
 view-List v = search (rules, the_lemmas)

@@ -3,13 +3,13 @@
 use Rattle.std.specs.Prelude.{◌≡◌, ℕ, zero, suc, ◌+◌, ◌*◌, ◌^◌, ◌<◌, ◌≤◌, true, length, Option, Some, None, FitsSigned}
 use Rattle.std.specs.Int.{w8, w16, w32, w64}
 use Rattle.std.specs.Str.{is_utf8}
-use Rattle.amqp_values.specs.declared.code.Kind.{Kind}
-use Rattle.amqp_values.specs.declared.code.Kind.TheVariants as kind
-use Rattle.amqp_values.specs.Data as d
-use Rattle.amqp_values.specs.Data.{Data, Items, no_items, item, Pairs, no_pairs, pair}
+use Rattle.amqp_model.specs.declared.code.Kind.{Kind}
+use Rattle.amqp_model.specs.declared.code.Kind.TheVariants as kind
+use Rattle.amqp_model.specs.Data as d
+use Rattle.amqp_model.specs.Data.{Data, Items, no_items, item, Pairs, no_pairs, pair}
 use Rattle.amqp_types.specs.Reading.{is_scalar, all_ascii}
-use Rattle.amqp_types.specs.Spells.{count, pair_count}
-use Rattle.amqp_types.specs.Spelling.{spellings, pair_spellings, pieces, constructed}
+use Rattle.amqp_model.specs.Data.{count, pair_count}
+use Rattle.amqp_model.specs.ValueSpelling.{spellings, pair_spellings, pieces, constructed}
 
 -- the type of a value; a described value has none of its own
 abbrev pub value_kind : Data → Option Kind

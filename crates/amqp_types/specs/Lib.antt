@@ -1,6 +1,5 @@
 pub mod Reading
 pub mod Opening
 pub mod Spells
-pub mod Spelling
 pub mod Pieces
 pub mod Fitting

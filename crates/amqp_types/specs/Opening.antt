@@ -1,10 +1,10 @@
 -- How a value that holds others begins: what stands before its items, elements or descriptor.
 use Rattle.std.specs.Prelude.{ℕ, zero, suc, List, [], Result, Ok, Err}
-use Rattle.amqp_values.specs.declared.fault.TypeFault.{TypeFault}
-use Rattle.amqp_values.specs.declared.fault.TypeFault.TheVariants as fault
-use Rattle.amqp_values.specs.declared.code.Size.{Size}
-use Rattle.amqp_values.specs.declared.code.Code.{Code}
-use Rattle.amqp_values.specs.declared.code.Code.TheVariants as code
+use Rattle.amqp_model.specs.declared.type_fault.TypeFault.{TypeFault}
+use Rattle.amqp_model.specs.declared.type_fault.TypeFault.TheVariants as fault
+use Rattle.amqp_model.specs.declared.code.Size.{Size}
+use Rattle.amqp_model.specs.declared.code.Code.{Code}
+use Rattle.amqp_model.specs.declared.code.Code.TheVariants as code
 use Rattle.amqp_types.specs.declared.opening.Opening.{Opening}
 use Rattle.amqp_types.specs.declared.opening.Opening.TheVariants as opening
 use Rattle.amqp_types.specs.Reading.{◌>>=◌, within, size_at, sized_at, code_at, element_kind}

@@ -4,20 +4,20 @@ use Rattle.std.specs.Prelude.{◌≡◌, ℕ, zero, suc, ◌-◌, ◌/◌, ◌%�
 use Rattle.std.specs.Int.{w8, w16, w32, w64, byte_len, from_be_bytes, cast_signed}
 use Rattle.std.specs.Str.{is_utf8}
 use Rattle.std.specs.List.{list_all}
-use Rattle.amqp_values.specs.declared.fault.TypeFault.{TypeFault}
-use Rattle.amqp_values.specs.declared.fault.TypeFault.TheVariants as fault
-use Rattle.amqp_values.specs.declared.code.Size.{Size}
-use Rattle.amqp_values.specs.declared.code.Leaf.{Leaf}
-use Rattle.amqp_values.specs.declared.code.Leaf.TheVariants as leaf
-use Rattle.amqp_values.specs.declared.code.Code.{Code}
-use Rattle.amqp_values.specs.declared.code.Code.TheVariants as code
-use Rattle.amqp_values.specs.declared.code.Layout.{Layout}
-use Rattle.amqp_values.specs.declared.code.Layout.TheVariants as layout
-use Rattle.amqp_values.specs.declared.code.Kind.{Kind}
-use Rattle.amqp_values.specs.Codes.{code_of, width, layout_of, kind_of, is_without_bytes}
-use Rattle.amqp_values.specs.Faults.{inner}
-use Rattle.amqp_values.specs.Data as d
-use Rattle.amqp_values.specs.Data.{Data, Items, no_items, item, Pairs, no_pairs, pair}
+use Rattle.amqp_model.specs.declared.type_fault.TypeFault.{TypeFault}
+use Rattle.amqp_model.specs.declared.type_fault.TypeFault.TheVariants as fault
+use Rattle.amqp_model.specs.declared.code.Size.{Size}
+use Rattle.amqp_model.specs.declared.code.Leaf.{Leaf}
+use Rattle.amqp_model.specs.declared.code.Leaf.TheVariants as leaf
+use Rattle.amqp_model.specs.declared.code.Code.{Code}
+use Rattle.amqp_model.specs.declared.code.Code.TheVariants as code
+use Rattle.amqp_model.specs.declared.code.Layout.{Layout}
+use Rattle.amqp_model.specs.declared.code.Layout.TheVariants as layout
+use Rattle.amqp_model.specs.declared.code.Kind.{Kind}
+use Rattle.amqp_model.specs.Codes.{code_of, width, layout_of, kind_of, is_without_bytes}
+use Rattle.amqp_model.specs.TypeFaults.{inner}
+use Rattle.amqp_model.specs.Data as d
+use Rattle.amqp_model.specs.Data.{Data, Items, no_items, item, Pairs, no_pairs, pair}
 
 infixl 10 ◌>>=◌
 abbrev pub ◌>>=◌ : {A B : Type 0} → Result A TypeFault → (A → Result B TypeFault) → Result B TypeFault

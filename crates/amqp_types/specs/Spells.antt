@@ -1,29 +1,20 @@
 -- Which bytes encode which value: one case for each constructor (AMQP 1.0 part 1, sections 1.2 and 1.6).
 use Rattle.std.specs.Prelude.{◌≡◌, ℕ, zero, suc, ◌*◌, ◌≤◌, true, List, [], ◌∷◌, ◌++◌, length, Some, Ok}
 use Rattle.std.specs.Int.{byte_len, from_be_bytes}
-use Rattle.amqp_values.specs.declared.code.Size.{Size}
-use Rattle.amqp_values.specs.declared.code.Leaf.{Leaf}
-use Rattle.amqp_values.specs.declared.code.Code.{Code}
-use Rattle.amqp_values.specs.declared.code.Code.TheVariants as code
-use Rattle.amqp_values.specs.declared.code.Layout.{Layout}
-use Rattle.amqp_values.specs.declared.code.Layout.TheVariants as layout
-use Rattle.amqp_values.specs.declared.code.Kind.{Kind}
-use Rattle.amqp_values.specs.Codes.{code_of, width, layout_of, kind_of, is_without_bytes}
-use Rattle.amqp_values.specs.Data as d
-use Rattle.amqp_values.specs.Data.{Data, Items, no_items, item, Pairs, no_pairs, pair}
+use Rattle.amqp_model.specs.declared.code.Size.{Size}
+use Rattle.amqp_model.specs.declared.code.Leaf.{Leaf}
+use Rattle.amqp_model.specs.declared.code.Code.{Code}
+use Rattle.amqp_model.specs.declared.code.Code.TheVariants as code
+use Rattle.amqp_model.specs.declared.code.Layout.{Layout}
+use Rattle.amqp_model.specs.declared.code.Layout.TheVariants as layout
+use Rattle.amqp_model.specs.declared.code.Kind.{Kind}
+use Rattle.amqp_model.specs.Codes.{code_of, width, layout_of, kind_of, is_without_bytes}
+use Rattle.amqp_model.specs.Data as d
+use Rattle.amqp_model.specs.Data.{Data, Items, no_items, item, Pairs, no_pairs, pair, count, pair_count}
 use Rattle.amqp_types.specs.Reading.{content_of}
 
 abbrev pub Spelling : Type 1
 Spelling = List ℕ → Data → Type 0
-
--- how many values there are
-abbrev pub count : Items → ℕ
-count no_items = 0
-count (item v vs) = suc (count vs)
-
-abbrev pub pair_count : Pairs → ℕ
-pair_count no_pairs = 0
-pair_count (pair k v ps) = suc (pair_count ps)
 
 -- a size or a count (section 1.6): a number of its width, the highest byte first
 pub record IsNumber (s : Size) (field : List ℕ) (n : ℕ) : Type 0 where

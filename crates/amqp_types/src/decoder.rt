@@ -2,14 +2,14 @@
 
 ghost use Rattle.std.specs.Prelude.{◌≡◌, ◌≤◌, ◌++◌, List, ℕ, Result, length, take, IfOk};
 ghost use Rattle.amqp_types.specs.Spells.{Spells};
-ghost use Rattle.amqp_values.specs.Codes.{kind_of};
-ghost use Rattle.amqp_values.specs.Data.{Data};
-ghost use Rattle.amqp_values.specs.View.{view, items_view, pairs_view};
-ghost use Rattle.amqp_values.specs.declared.fault.TypeFault.{TypeFault};
+ghost use Rattle.amqp_model.specs.Codes.{kind_of};
+ghost use Rattle.amqp_model.specs.Data.{Data};
+ghost use Rattle.amqp_model.specs.View.{view, items_view, pairs_view};
+ghost use Rattle.amqp_model.specs.declared.type_fault.TypeFault.{TypeFault};
 ghost use Rattle.amqp_types.specs.Reading.{Gives, Same, element_kind, whole, found_at, measured, value_at, body_at, value_by, one_by, items_at, pair_at, pairs_at, list_in, map_in, array_in, described_at};
 
 use crate::reader::{code_of, leaf_of, size_of, sized_of};
-use amqp_values::{Code, Kind, Size, TypeFault, Value};
+use amqp_model::{Code, Kind, Size, TypeFault, Value};
 use std::alloc::Global;
 
 /// The most elements without bytes that an array may have.

@@ -1,14 +1,14 @@
 //! Encoding values: each in its one canonical encoding.
 
 ghost use Rattle.std.specs.Prelude.{◌≡◌, ◌++◌, ◌∷◌, [], ◌*◌, OnOk, OnErr, IfOk};
-ghost use Rattle.amqp_values.specs.Data as d;
-ghost use Rattle.amqp_values.specs.View.{view, items_view, pairs_view, plain_view};
+ghost use Rattle.amqp_model.specs.Data as d;
+ghost use Rattle.amqp_model.specs.View.{view, items_view, pairs_view, plain_view};
 ghost use Rattle.amqp_types.specs.Pieces.{pieces_view};
-ghost use Rattle.amqp_types.specs.Spelling.{spelling, spellings, pair_spellings, piece, pieces, join, constructed, sized_piece, compound_piece, list_text};
-ghost use Rattle.amqp_values.specs.declared.code.Kind.TheVariants as kind;
+ghost use Rattle.amqp_model.specs.ValueSpelling.{spelling, spellings, pair_spellings, piece, pieces, join, constructed, sized_piece, compound_piece, list_text};
+ghost use Rattle.amqp_model.specs.declared.code.Kind.TheVariants as kind;
 
 use crate::pieces::{Pieces, put_wide_sizes};
-use amqp_values::{Kind, Plain, Value};
+use amqp_model::{Kind, Plain, Value};
 use std::alloc::{AllocError, Global};
 
 /// Bytes reserved before the contents of a compound are written.
@@ -36,7 +36,7 @@ pub fn encode(alloc: Global, value: &Value, out: &mut Vec<u8>) -> Result<(), All
 }
 
 #[cycle(put)]
-#[tactic(auto, using(crate::proofs::Writing::list_is, crate::proofs::Writing::map_is, crate::proofs::Writing::array_is, crate::proofs::Writing::described_is), unfolding(crate::specs::Spelling::spelling))]
+#[tactic(auto, using(crate::proofs::Writing::list_is, crate::proofs::Writing::map_is, crate::proofs::Writing::array_is, crate::proofs::Writing::described_is), unfolding(amqp_model::specs::ValueSpelling::spelling))]
 fn put_value(alloc: Global, out: &mut Vec<u8>, value: &Value) -> Result<(), AllocError>
     ensures { OnOk result (out.new.items ≡ out.old.items ++ spelling (view value.now)) }
 {
@@ -123,7 +123,7 @@ fn elements(alloc: Global, kind: Kind, items: &[Value]) -> Result<Vec<u8>, Alloc
 }
 
 #[cycle(put)]
-#[tactic(auto, using(crate::proofs::Writing::list_piece, crate::proofs::Writing::map_piece, crate::proofs::Writing::array_piece), unfolding(crate::specs::Spelling::piece))]
+#[tactic(auto, using(crate::proofs::Writing::list_piece, crate::proofs::Writing::map_piece, crate::proofs::Writing::array_piece), unfolding(amqp_model::specs::ValueSpelling::piece))]
 fn put_piece(alloc: Global, all: &mut Pieces, value: &Value) -> Result<(), AllocError>
     ensures { OnOk result (pieces_view all.new ≡ join (pieces_view all.old) (piece (view value.now))) }
 {
@@ -172,7 +172,7 @@ fn put_piece(alloc: Global, all: &mut Pieces, value: &Value) -> Result<(), Alloc
 
 /// Appends the canonical encoding of a value that holds no others.
 #[inline(always)]
-#[tactic(auto, unfolding(crate::specs::Spelling::spelling))]
+#[tactic(auto, unfolding(amqp_model::specs::ValueSpelling::spelling))]
 pub fn put_plain(out: &mut Vec<u8>, plain: Plain<'_>) -> Result<(), AllocError>
     ensures { OnOk result (out.new.items ≡ out.old.items ++ spelling (plain_view plain.entry)) }
 {
@@ -219,7 +219,7 @@ fn put_bytes(out: &mut Vec<u8>, code: u8, bytes: &[u8]) -> Result<(), AllocError
 }
 
 #[inline(always)]
-#[tactic(auto, unfolding(crate::specs::Spelling::spelling))]
+#[tactic(auto, unfolding(amqp_model::specs::ValueSpelling::spelling))]
 fn put_uint(out: &mut Vec<u8>, number: u32) -> Result<(), AllocError>
     ensures { OnOk result (out.new.items ≡ out.old.items ++ spelling (d.uint number)) }
 {
@@ -233,7 +233,7 @@ fn put_uint(out: &mut Vec<u8>, number: u32) -> Result<(), AllocError>
 }
 
 #[inline(always)]
-#[tactic(auto, unfolding(crate::specs::Spelling::spelling))]
+#[tactic(auto, unfolding(amqp_model::specs::ValueSpelling::spelling))]
 fn put_ulong(out: &mut Vec<u8>, number: u64) -> Result<(), AllocError>
     ensures { OnOk result (out.new.items ≡ out.old.items ++ spelling (d.ulong number)) }
 {
@@ -247,7 +247,7 @@ fn put_ulong(out: &mut Vec<u8>, number: u64) -> Result<(), AllocError>
 }
 
 #[inline(always)]
-#[tactic(auto, unfolding(crate::specs::Spelling::spelling))]
+#[tactic(auto, unfolding(amqp_model::specs::ValueSpelling::spelling))]
 fn put_int(out: &mut Vec<u8>, number: i32) -> Result<(), AllocError>
     ensures { OnOk result (out.new.items ≡ out.old.items ++ spelling (d.int number)) }
 {
@@ -259,7 +259,7 @@ fn put_int(out: &mut Vec<u8>, number: i32) -> Result<(), AllocError>
 }
 
 #[inline(always)]
-#[tactic(auto, unfolding(crate::specs::Spelling::spelling))]
+#[tactic(auto, unfolding(amqp_model::specs::ValueSpelling::spelling))]
 fn put_long(out: &mut Vec<u8>, number: i64) -> Result<(), AllocError>
     ensures { OnOk result (out.new.items ≡ out.old.items ++ spelling (d.long number)) }
 {

@@ -1,13 +1,13 @@
 //! What holds of all encodings. These functions do nothing: their contracts are the laws.
 
 ghost use Rattle.std.specs.Prelude.{◌≡◌, ◌++◌, List, ℕ, Err};
-ghost use Rattle.amqp_values.specs.Data.{Data};
+ghost use Rattle.amqp_model.specs.Data.{Data};
 ghost use Rattle.amqp_types.specs.Fitting.{FitsIn, IsTyped};
 ghost use Rattle.amqp_types.specs.Spells.{Spells};
-ghost use Rattle.amqp_types.specs.Spelling.{spelling};
+ghost use Rattle.amqp_model.specs.ValueSpelling.{spelling};
 ghost use Rattle.amqp_types.specs.Reading.{value_at, found_before};
-ghost use Rattle.amqp_values.specs.declared.fault.TypeFault.{TypeFault};
-ghost use Rattle.amqp_values.specs.declared.fault.TypeFault.TheVariants as fault;
+ghost use Rattle.amqp_model.specs.declared.type_fault.TypeFault.{TypeFault};
+ghost use Rattle.amqp_model.specs.declared.type_fault.TypeFault.TheVariants as fault;
 
 /// No encoding is a prefix of another: the value at the front is settled, whatever follows.
 pub fn none_begins_another()

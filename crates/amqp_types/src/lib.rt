@@ -9,7 +9,7 @@ mod pieces;
 mod reader;
 mod skipper;
 
-pub use amqp_values::{Code, Kind, Layout, Leaf, Plain, Size, TypeFault, Value};
+pub use amqp_model::{Code, Kind, Layout, Leaf, Plain, Size, TypeFault, Value};
 pub use decoder::{decode, value_of};
 pub use encoder::{encode, put_array, put_list, put_map, put_plain};
 pub use laws::{a_fault_stays, arrays_are_of_one_type, none_begins_another, written_is_read_again};

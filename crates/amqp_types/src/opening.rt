@@ -1,14 +1,14 @@
 //! How values that hold others begin, so that what they hold can be read in place.
 
 ghost use Rattle.std.specs.Prelude.{◌≡◌, option_map};
-ghost use Rattle.amqp_values.specs.View.{plain_view, plain_part};
+ghost use Rattle.amqp_model.specs.View.{plain_view, plain_part};
 ghost use Rattle.amqp_types.specs.Reading.{Same, to, value_at, body_at};
 ghost use Rattle.amqp_types.specs.Opening.{opening_view, opening_at, opening_by, list_opening, array_opening};
 
 use crate::decoder::kind_of_elements;
 use crate::reader::{code_of, leaf_of, size_of, sized_of};
 use crate::skipper::pass_body;
-use amqp_values::{Code, Plain, Size, TypeFault};
+use amqp_model::{Code, Plain, Size, TypeFault};
 
 /// How a value that holds others begins.
 #[derive(Clone, Copy, Debug, PartialEq)]

@@ -3,9 +3,9 @@
 ghost use Rattle.std.specs.Prelude.{◌≡◌, ◌++◌, ◌*◌, OnOk};
 ghost use Rattle.std.specs.Int.{w32, w64};
 ghost use Rattle.amqp_types.specs.Pieces.{pieces_view};
-ghost use Rattle.amqp_types.specs.Spelling.{no_piece, join, single, number_piece, signed_piece, sized_piece, compound_piece, wide_sizes, constructed};
+ghost use Rattle.amqp_model.specs.ValueSpelling.{no_piece, join, single, number_piece, signed_piece, sized_piece, compound_piece, wide_sizes, constructed};
 
-use amqp_values::Kind;
+use amqp_model::Kind;
 use std::alloc::{AllocError, Global};
 
 /// Elements of an array, without their constructor.

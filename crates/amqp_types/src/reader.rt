@@ -1,11 +1,11 @@
 //! Reading what needs no allocation: constructors, sizes, and values that hold no others.
 
 ghost use Rattle.std.specs.Prelude.{◌≡◌, length, IfOk};
-ghost use Rattle.amqp_values.specs.Codes.{IsLaid, layout_of};
-ghost use Rattle.amqp_values.specs.View.{plain_view};
+ghost use Rattle.amqp_model.specs.Codes.{IsLaid, layout_of};
+ghost use Rattle.amqp_model.specs.View.{plain_view};
 ghost use Rattle.amqp_types.specs.Reading.{Same, bytes_at, size_at, sized_at, code_at, chunk_at, leaf_at, content_of, boolean_of, char_of, string_of, symbol_of, all_ascii};
 
-use amqp_values::{Code, Layout, Leaf, Plain, Size, TypeFault, constructor};
+use amqp_model::{Code, Layout, Leaf, Plain, Size, TypeFault, constructor};
 
 /// The first bytes, as many as asked for.
 #[inline(always)]

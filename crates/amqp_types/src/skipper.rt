@@ -2,13 +2,13 @@
 
 ghost use Rattle.std.specs.Prelude.{◌≡◌, ◌≤◌, ◌++◌, List, ℕ, Result, length, take, IfOk};
 ghost use Rattle.amqp_types.specs.Spells.{Spells};
-ghost use Rattle.amqp_values.specs.Data.{Data};
-ghost use Rattle.amqp_values.specs.declared.fault.TypeFault.{TypeFault};
+ghost use Rattle.amqp_model.specs.Data.{Data};
+ghost use Rattle.amqp_model.specs.declared.type_fault.TypeFault.{TypeFault};
 ghost use Rattle.amqp_types.specs.Reading.{Same, after, behind, whole, length_of, value_at, body_at, value_by, one_by, items_at, pair_at, pairs_at, list_in, map_in, array_in, described_at};
 
 use crate::decoder::{MOST_LEVELS, kind_of_elements};
 use crate::reader::{code_of, leaf_of, size_of, sized_of};
-use amqp_values::{Code, Size, TypeFault};
+use amqp_model::{Code, Size, TypeFault};
 
 /// How many bytes encode the value at the front: the length and the faults of `decode`, without
 /// allocation.

@@ -1,11 +1,11 @@
 //! Opens the router over its journal.
 ghost use Rattle.std.specs.Prelude.{◌≡◌, ⊤, IfOk, IfErr};
-ghost use Rattle.router_core.specs.Handling.{counts_of};
-ghost use Rattle.router_counts.specs.Counting.{uncounted};
-ghost use Rattle.router_locked.specs.History.{IsOpened};
+ghost use Rattle.core_machine.specs.Opened.{IsOpened};
+ghost use Rattle.router_core.specs.Machine.{opening_of};
 ghost use Rattle.amqr_files.specs.Journals.{IsNotListed};
 
 use amqr_files::{JournalDisk, Refusal, journal_disk};
+use core_machine::Machine;
 use disk_core::{Disk, DiskFault, MemDisk};
 use gate_journal::format;
 use route_table::Config;
@@ -25,8 +25,7 @@ pub fn open_router<R: Files<File = File>>(
     journal: Option<&str>,
     config: &Config,
 ) -> Result<Core<JournalDisk>, Refusal>
-    ensures opened { IfOk result IsOpened }
-    ensures counts { IfOk result (λ core. counts_of core ≡ uncounted) }
+    ensures opened { IfOk result (λ core. IsOpened ⟦<Core<JournalDisk> as Machine>⟧.meaning (opening_of config.now core) core) }
 {
     let disk = match journal {
         Some(path) => JournalDisk::File(journal_disk(rt, alloc, path)?),
@@ -49,8 +48,7 @@ fn new_journal(alloc: Global) -> Result<MemDisk, DiskFault> {
 /// `NoJournal` where the disk has none; `Damaged` where an open gate has no batch after it; `Disk` where it failed; `Memory` where
 /// memory was refused.
 fn opened(alloc: Global, disk: JournalDisk, config: &Config) -> Result<Core<JournalDisk>, Refusal>
-    ensures opened { IfOk result IsOpened }
-    ensures counts { IfOk result (λ core. counts_of core ≡ uncounted) }
+    ensures opened { IfOk result (λ core. IsOpened ⟦<Core<JournalDisk> as Machine>⟧.meaning (opening_of config.now core) core) }
     ensures refusal { IfErr result (IsNotListed (⟦<JournalDisk as Disk>⟧.seen disk) ⊤) }
 {
     match Core::open(alloc, disk, config) {

@@ -1,17 +1,17 @@
 //! The command that serves clients.
 ghost use Rattle.std.specs.Prelude.{◌≡◌, ◌^◌};
-ghost use Rattle.router_core.specs.Handling.{counts_of};
-ghost use Rattle.router_counts.specs.Counting.{uncounted};
-ghost use Rattle.router_locked.specs.History.{IsOpened};
-ghost use Rattle.router_seats.specs.Blank.{AreOf};
+ghost use Rattle.core_machine.specs.Opened.{IsOpened};
+ghost use Rattle.router_core.specs.Machine.{opening_of};
+ghost use Rattle.serve_lock.specs.Blank.{AreOf};
 
 use crate::opening::open_router;
 use amqr_commands::{Refusal, Serving, Status, config_at, refuse};
 use amqr_files::JournalDisk;
-use amqr_sockets::{House, Hub, listen};
+use core_machine::Machine;
 use route_table::{Config, Listener, Role};
 use router_core::Core;
-use router_serve::{Blanks, Desk, Names};
+use router_serve::{Blanks, Names, Server};
+use serve_sockets::{Program, ProgramState, listen};
 use std::alloc::{AllocError, Global};
 use std::fs::File;
 use std::io::{self, Write};
@@ -73,8 +73,7 @@ fn serve_over<
     serving: Serving<'_>,
     output: &mut O,
 ) -> io::Result<Status>
-    requires opened { IsOpened core }
-    requires counts { counts_of core ≡ uncounted }
+    requires opened { IsOpened ⟦<Core<JournalDisk> as Machine>⟧.meaning (opening_of config core) core }
 {
     let Ok(own) = standard_listeners(alloc) else {
         drop(core);
@@ -166,8 +165,7 @@ fn start<
     sockets: &[TcpListener],
     serving: Serving<'_>,
 ) -> Result<Status, AllocError>
-    requires opened { IsOpened core }
-    requires counts { counts_of core ≡ uncounted }
+    requires opened { IsOpened ⟦<Core<JournalDisk> as Machine>⟧.meaning (opening_of config core) core }
 {
     let blanks = Blanks::new();
     counted::<Brand, R>(rt, alloc, config, own, sockets, serving, core, blanks)
@@ -187,33 +185,37 @@ fn counted<
     core: Core<JournalDisk>,
     blanks: Blanks,
 ) -> Result<Status, AllocError>
-    requires opened { IsOpened core }
-    requires counts { counts_of core ≡ uncounted }
+    requires opened { IsOpened ⟦<Core<JournalDisk> as Machine>⟧.meaning N.opening core }
     requires blanks { AreOf N.ups N.items N.downs N.ticks N.starts N.batches N.seats blanks }
     requires seats { N.seats ≡ 2 ^ 62 }
 {
-    let made: Result<Desk<JournalDisk, N>, AllocError> = Desk::new(alloc, core, blanks);
+    let made: Result<Server<Core<JournalDisk>, N>, AllocError> = Server::new(alloc, core, blanks);
     let Ok(router) = made else {
         drop(config);
         return Err(AllocError);
     };
-    let house = House::new(alloc, config, serving.connections, serving.quiet);
-    let hub = Hub { router, house };
+    let state = ProgramState::new(alloc, config, serving.connections, serving.quiet);
+    let program = Program { router, state };
     if serving.journal.is_none() {
-        hub.house.lines.say(rt, IN_MEMORY);
+        program.state.lines.say(rt, IN_MEMORY);
     }
-    hub.start(rt);
-    listen(rt, &hub, listeners_of(&hub.house.config, own), sockets);
-    if close(hub) {
+    program.start(rt);
+    listen(
+        rt,
+        &program,
+        listeners_of(&program.state.config, own),
+        sockets,
+    );
+    if close(program) {
         return Ok(Status::Failed);
     }
     Ok(Status::Done)
 }
 
 /// The seats that no thread uses come back, and all else is let go. It tells whether the router failed.
-fn close<N: Names>(hub: Hub<Desk<JournalDisk, N>>) -> bool {
-    let Hub { router, house } = hub;
-    drop(house);
+fn close<N: Names>(program: Program<Server<Core<JournalDisk>, N>>) -> bool {
+    let Program { router, state } = program;
+    drop(state);
     let closed = router.close();
     let failed = closed.core.is_failed();
     drop(closed);

@@ -4,8 +4,8 @@ use Rattle.std.specs.Prelude.{Option, Some, None, Result, Ok, Err, IfOk, OnOk, â
 use Rattle.amqr_files.specs.declared.status.Status.{Status}
 use Rattle.amqr_files.specs.declared.status.Status.TheVariants.{Failed}
 use Rattle.route_table.specs.Settings.{Settings}
-use Rattle.router_core.specs.declared.fault.CoreFault.{CoreFault}
-use Rattle.router_core.specs.declared.fault.CoreFault.TheVariants as router
+use Rattle.core_machine.specs.declared.fault.CoreFault.{CoreFault}
+use Rattle.core_machine.specs.declared.fault.CoreFault.TheVariants as router
 use Rattle.router_play.specs.Script.{PlaysAll, no_book}
 use Rattle.router_play.specs.Ending.{TellsOf}
 use Rattle.router_play.specs.declared.line.Line.{Line}

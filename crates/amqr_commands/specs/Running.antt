@@ -7,8 +7,8 @@ use Rattle.amqr_files.specs.declared.status.Status.{Status}
 use Rattle.amqr_files.specs.declared.status.Status.TheVariants.{Done, BadInput, BadWords, Failed}
 use Rattle.amqr_files.specs.declared.status.Refusal.TheVariants as refusal
 use Rattle.route_table.specs.Settings.{Settings}
-use Rattle.router_core.specs.declared.fault.CoreFault.{CoreFault}
-use Rattle.router_core.specs.declared.fault.CoreFault.TheVariants as router
+use Rattle.core_machine.specs.declared.fault.CoreFault.{CoreFault}
+use Rattle.core_machine.specs.declared.fault.CoreFault.TheVariants as router
 use Rattle.router_play.specs.Printing.{line_text}
 use Rattle.router_play.specs.Script.{PlaysAll, no_book}
 use Rattle.router_play.specs.declared.line.Line.{Line}

@@ -6,7 +6,7 @@ use Rattle.amqp_frames.specs.Cuts.{Cuts}
 use Rattle.amqp_frames.proofs.Fronts.{wrong_stays}
 use Rattle.amqp_frames.proofs.Steps.{front_nothing}
 use Rattle.amqp_frames.proofs.Streams.{cuts_append, leads_stays}
-use Rattle.amqp_frames.specs.declared.item.Item.{Item}
+use Rattle.amqp_model.specs.declared.item.Item.{Item}
 use Rattle.amqr_files.specs.Listing.{IsListing, line_of, lines_of_items}
 use Rattle.amqr_files.specs.declared.listing.ListingLine.{ListingLine}
 use Rattle.amqr_files.specs.declared.listing.ListingLine.TheVariants.{Rest}

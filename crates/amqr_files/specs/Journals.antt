@@ -1,12 +1,12 @@
 -- What the journal commands print: the lines of a journal, or why none is listed or made.
 use Rattle.std.specs.Prelude.{◌≡◌, ◌≢◌, ℕ, List, [], ◌∷◌, ◌++◌, map, length, codes, decimal, Option, Some, IfSome, ⊤, ◌⊎◌}
 use Rattle.std.specs.Io.KnownBytes.{Appends}
-use Rattle.book_core.specs.Act.{kind_of, number_of}
-use Rattle.book_core.specs.Book.{BookView}
-use Rattle.book_core.specs.declared.act.ActKind.{ActKind}
-use Rattle.book_core.specs.declared.act.ActKind.TheVariants as kind
+use Rattle.book_model.specs.Act.{kind_of, number_of}
+use Rattle.book_model.specs.Book.{BookView}
+use Rattle.book_model.specs.declared.act.ActKind.{ActKind}
+use Rattle.book_model.specs.declared.act.ActKind.TheVariants as kind
 use Rattle.disk_core.specs.Disk.{Only}
-use Rattle.act_codec.specs.Format.{fresh}
+use Rattle.journal_codec.specs.Format.{fresh}
 use Rattle.gate_journal.specs.Listed.{IsListed}
 use Rattle.gate_journal.specs.Opening.{Explains}
 use Rattle.gate_journal.specs.declared.fault.OpenFault.TheVariants as opening

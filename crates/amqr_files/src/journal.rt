@@ -7,7 +7,7 @@ ghost use Rattle.amqr_files.specs.Journals.{kind_name, act_line, end_line, IsJou
 use crate::input::MOST_BYTES;
 use crate::print::{print_lines, refuse};
 use crate::status::{Refusal, Status};
-use book_core::ActKind;
+use book_model::ActKind;
 use disk_core::{Disk, DiskFault, FileDisk};
 use gate_journal::{Entry, Listing, format, list};
 use std::alloc::{AllocError, Global};

@@ -5,8 +5,8 @@ ghost use Rattle.amqr_files.specs.Listing.{IsListing, Lists, is_bad, line_of, li
 
 use crate::print::{print_lines, refuse};
 use crate::status::{Refusal, Status};
-use amqp_frames::{FrameFault, FrameReader, Item};
-use amqp_perf::{Descriptor, Perf};
+use amqp_frames::FrameReader;
+use amqp_model::{Descriptor, FrameFault, Item, Perf};
 use std::alloc::{AllocError, Global};
 use std::fmt::{self, Display, Formatter};
 use std::io::{self, Write};

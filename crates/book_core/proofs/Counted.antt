@@ -6,13 +6,13 @@ use Rattle.std.specs.Option.{unwrap_or}
 use Rattle.std.specs.Ordering.{nat_cmp, is_eq}
 use Rattle.std.proofs.lemmas.Bool.Decides.{nat_tests}
 use Rattle.std.proofs.lemmas.List.Sums.{sum_by-cons, sum_by_push}
-use Rattle.amqp_perf.specs.declared.state.DeliveryState.{DeliveryState}
-use Rattle.book_core.specs.declared.row.Row.{Row}
-use Rattle.book_core.specs.declared.terminus.LinkRole.TheVariants.{Producer, Consumer}
-use Rattle.book_core.specs.declared.terminus.TerminusNumber.{TerminusNumber}
-use Rattle.book_core.specs.Book.{is_from, is_for, is_for_by, keeps, decided, forgotten, admitted, has_tag, row_at, with_row}
+use Rattle.amqp_model.specs.declared.state.DeliveryState.{DeliveryState}
+use Rattle.book_model.specs.declared.row.Row.{Row}
+use Rattle.book_model.specs.declared.terminus.LinkRole.TheVariants.{Producer, Consumer}
+use Rattle.book_model.specs.declared.terminus.TerminusNumber.{TerminusNumber}
+use Rattle.book_model.specs.Book.{is_from, is_for, is_for_by, keeps, decided, forgotten, admitted, has_tag, row_at, with_row}
 use Rattle.std.specs.List.{list_any}
-use Rattle.book_core.specs.declared.act.Admission.{Admission}
+use Rattle.book_model.specs.declared.act.Admission.{Admission}
 use Rattle.book_core.specs.declared.row_index.RowIndex.{RowIndex}
 use Rattle.book_core.specs.declared.row_name.RowName.{RowName}
 use Rattle.book_core.specs.Indexed.{one_for, left_by, IsIndexed}

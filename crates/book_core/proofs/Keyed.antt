@@ -12,12 +12,13 @@ use Rattle.std.proofs.lemmas.Map.Lookups.{exact_unsigned, exact_bytes}
 use Rattle.std.proofs.lemmas.Slice.Eq.{bytes_eq-Decides}
 use Rattle.book_core.specs.declared.numbers.Numbers.{Numbers}
 use Rattle.book_core.specs.declared.slot.TerminusSlot.{TerminusSlot}
-use Rattle.book_core.specs.declared.terminus.LinkKey.{LinkKey}
-use Rattle.book_core.specs.declared.terminus.LinkRole.{LinkRole}
-use Rattle.book_core.specs.declared.terminus.LinkRole.TheVariants.{Producer, Consumer}
-use Rattle.book_core.specs.declared.terminus.Terminus.{Terminus}
-use Rattle.book_core.specs.Book.{same_key, same_role, same_bytes, terminus_at, terminus_of}
-use Rattle.book_core.specs.Keys.{rank, key_cmp, keys_total, AllKeyed}
+use Rattle.book_model.specs.declared.terminus.LinkKey.{LinkKey}
+use Rattle.book_model.specs.declared.terminus.LinkRole.{LinkRole}
+use Rattle.book_model.specs.declared.terminus.LinkRole.TheVariants.{Producer, Consumer}
+use Rattle.book_model.specs.declared.terminus.Terminus.{Terminus}
+use Rattle.book_model.specs.Book.{same_key, same_role, same_bytes, terminus_at, terminus_of}
+use Rattle.book_core.specs.Keys.{AllKeyed}
+use Rattle.book_model.specs.Keys.{rank, key_cmp, keys_total}
 use Rattle.book_core.specs.Numbers.{number_at}
 use Rattle.book_core.specs.Rising.{Rises}
 use Rattle.book_core.specs.Slots.{termini_in}

@@ -1,11 +1,11 @@
 -- The lemmas of `Shown` at termini and at rows.
 use Rattle.std.proofs.Common.{[], ◌∷◌, refl, ap, ◌≡◌, ℕ, List, get_or, None}
 use Rattle.std.specs.Prelude.{filter}
-use Rattle.book_core.specs.declared.row.Row.{Row}
+use Rattle.book_model.specs.declared.row.Row.{Row}
 use Rattle.book_core.specs.declared.slot.RowSlot.{RowSlot}
 use Rattle.book_core.specs.declared.slot.TerminusSlot.{TerminusSlot}
-use Rattle.book_core.specs.declared.terminus.Terminus.{Terminus}
-use Rattle.book_core.specs.Book.{row_at, terminus_at, is_wanted}
+use Rattle.book_model.specs.declared.terminus.Terminus.{Terminus}
+use Rattle.book_model.specs.Book.{row_at, terminus_at, is_wanted}
 use Rattle.book_core.specs.Rising.{Rises, Lacks, IsAt}
 use Rattle.book_core.specs.Slots.{rows_in, termini_in}
 use Rattle.book_core.proofs.Shown as shown

@@ -5,16 +5,16 @@ use Rattle.std.specs.List.{list_any, cons_option}
 use Rattle.std.specs.Option.{unwrap_or}
 use Rattle.std.specs.Cmp.{IsTotalOrder}
 use Rattle.std.proofs.lemmas.Cmp.{then_total, on_total, nat_cmp_total, nat_list_cmp_total, tied_itself}
-use Rattle.amqp_perf.specs.declared.state.DeliveryState.{DeliveryState}
+use Rattle.amqp_model.specs.declared.state.DeliveryState.{DeliveryState}
 use Rattle.std.specs.Cmp.Lexicographic.{slice_cmp}
 use Rattle.std.specs.Ordering.{nat_cmp, is_eq}
 use Rattle.std.proofs.lemmas.Map.Lookups.{exact_pairs, exact_unsigned, exact_bytes}
 use Rattle.std.proofs.lemmas.Slice.Eq.{bytes_eq-Decides}
 use Rattle.book_core.specs.declared.numbers.Numbers.{Numbers}
-use Rattle.book_core.specs.declared.row.Row.{Row}
+use Rattle.book_model.specs.declared.row.Row.{Row}
 use Rattle.book_core.specs.declared.row_name.RowName.{RowName}
 use Rattle.book_core.specs.declared.slot.RowSlot.{RowSlot}
-use Rattle.book_core.specs.Book.{has_tag, row_at, row_named, with_row, decided, forgotten, same_bytes}
+use Rattle.book_model.specs.Book.{has_tag, row_at, row_named, with_row, decided, forgotten, same_bytes}
 use Rattle.book_core.specs.Named.{name_cmp, name_of, IsNamed, AllNamed}
 use Rattle.book_core.specs.Numbers.{number_at}
 use Rattle.book_core.specs.Rising.{Rises}

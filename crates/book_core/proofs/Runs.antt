@@ -1,9 +1,9 @@
 -- A walk over a list of acts.
 use Rattle.std.proofs.Common.{◌≡◌, ℕ, ◌+◌, ◌<◌, ◌≤◌, List, [], ◌∷◌, length, drop, get_or, Some, None, refl, ap, ◌∙◌, sym}
 use Rattle.std.proofs.lemmas.List.{at_drop_more, at_drop_all}
-use Rattle.book_core.specs.declared.act.Act.{Act}
-use Rattle.book_core.specs.declared.fault.BookFault.{BookFault}
-use Rattle.book_core.specs.Book.{BookView, refusal, effect, first_fault, effects, or_else}
+use Rattle.book_model.specs.declared.act.Act.{Act}
+use Rattle.book_model.specs.declared.fault.BookFault.{BookFault}
+use Rattle.book_model.specs.Book.{BookView, refusal, effect, first_fault, effects, or_else}
 
 first_more : (m : BookView) (act : Act) (acts : List Act) → first_fault m (act ∷ acts) ≡ or_else (refusal m act) (first_fault (effect m act) acts)
 unfolding first_fault

@@ -2,15 +2,16 @@
 use Rattle.std.proofs.Common.{◌≡◌, ℕ, ◌+◌, Bool, true, false, not, List, [], ◌∷◌, ◌++◌, get_or, set, Option, Some, None, ◌<◌, length, refl, ap, ◌∙◌, sym, subst, cond, arith}
 use Rattle.std.specs.Prelude.{filter, is_some, is_none, ◌-◌, ◌==◌, nat_lt, nat_le, count_by}
 use Rattle.std.specs.List.{list_any}
-use Rattle.amqp_perf.specs.declared.state.DeliveryState.{DeliveryState}
-use Rattle.book_core.specs.declared.act.Act.TheVariants.{Admit}
-use Rattle.book_core.specs.declared.fault.BookFault.TheVariants.{NoTerminus, NoRow, TagInUse, Limit}
-use Rattle.book_core.specs.declared.terminus.LinkRole.TheVariants.{Producer}
+use Rattle.amqp_model.specs.declared.state.DeliveryState.{DeliveryState}
+use Rattle.book_model.specs.declared.act.Act.TheVariants.{Admit}
+use Rattle.book_model.specs.declared.fault.BookFault.TheVariants.{NoTerminus, NoRow, TagInUse, Limit}
+use Rattle.book_model.specs.declared.terminus.LinkRole.TheVariants.{Producer}
 use Rattle.book_core.specs.declared.row_name.RowName.{RowName}
 use Rattle.std.specs.BTreeMap.{get}
 use Rattle.book_core.specs.declared.numbers.Numbers.{Numbers}
-use Rattle.book_core.specs.declared.terminus.LinkKey.{LinkKey}
-use Rattle.book_core.specs.Keys.{key_cmp, AllKeyed}
+use Rattle.book_model.specs.declared.terminus.LinkKey.{LinkKey}
+use Rattle.book_core.specs.Keys.{AllKeyed}
+use Rattle.book_model.specs.Keys.{key_cmp}
 use Rattle.book_core.specs.Numbers.{or_zero, number_at, earlier}
 use Rattle.std.specs.Ordering.{is_eq}
 use Rattle.book_core.proofs.Keyed.{keyed_same, keyed_left, keyed_more, keyed_at}
@@ -19,15 +20,15 @@ use Rattle.book_core.specs.declared.row_index.RowIndex.{RowIndex}
 use Rattle.book_core.specs.declared.tables.Counters.{Counters}
 use Rattle.book_core.proofs.Counted.{indexed_same, length_changed, length_more}
 use Rattle.book_core.proofs.Named.{rises_rows}
-use Rattle.book_core.specs.declared.row.Row.{Row}
+use Rattle.book_model.specs.declared.row.Row.{Row}
 use Rattle.book_core.specs.declared.slot.RowSlot.{RowSlot}
 use Rattle.book_core.specs.declared.slot.TerminusSlot.{TerminusSlot}
-use Rattle.book_core.specs.declared.terminus.Terminus.{Terminus}
-use Rattle.book_core.specs.declared.fault.BookFault.{BookFault}
-use Rattle.book_core.specs.declared.act.Admission.{Admission}
+use Rattle.book_model.specs.declared.terminus.Terminus.{Terminus}
+use Rattle.book_model.specs.declared.fault.BookFault.{BookFault}
+use Rattle.book_model.specs.declared.act.Admission.{Admission}
 use Rattle.book_core.specs.declared.table.Table.{Table}
 use Rattle.book_core.specs.declared.tables.Tables.{Tables}
-use Rattle.book_core.specs.Book.{BookView, row_at, terminus_at, with_row, unless, make_refusal, admit_refusal, forget_refusal, decide_refusal, is_undecided, same_key, has_short_texts, admitted, decided, forgotten, has_tag, effect, is_from, undecided_for, may_bind, has_role}
+use Rattle.book_model.specs.Book.{BookView, row_at, terminus_at, with_row, unless, make_refusal, admit_refusal, forget_refusal, decide_refusal, is_undecided, same_key, has_short_texts, admitted, decided, forgotten, has_tag, effect, is_from, undecided_for, may_bind, has_role}
 use Rattle.book_core.specs.Rising.{Rises, IsAt}
 use Rattle.book_core.specs.Slots.{rows_in, termini_in}
 use Rattle.book_core.specs.Table.{before}

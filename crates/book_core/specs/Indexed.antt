@@ -2,13 +2,13 @@
 use Rattle.std.specs.Prelude.{◌≡◌, ℕ, Bool, ◌==◌, Option, None, Some, List, count_by, if◌then◌else◌}
 use Rattle.std.specs.BTreeMap.{get}
 use Rattle.std.specs.Ordering.{nat_cmp}
-use Rattle.book_core.specs.Book.{is_from, keeps}
+use Rattle.book_model.specs.Book.{is_from, keeps}
 use Rattle.book_core.specs.Named.{name_cmp, AllNamed}
 use Rattle.book_core.specs.Numbers.{number_at, earlier}
-use Rattle.book_core.specs.declared.row.Row.{Row}
+use Rattle.book_model.specs.declared.row.Row.{Row}
 use Rattle.book_core.specs.declared.row_index.RowIndex.{RowIndex}
-use Rattle.book_core.specs.declared.terminus.LinkRole.TheVariants.{Producer, Consumer}
-use Rattle.book_core.specs.declared.terminus.TerminusNumber.{TerminusNumber}
+use Rattle.book_model.specs.declared.terminus.LinkRole.TheVariants.{Producer, Consumer}
+use Rattle.book_model.specs.declared.terminus.TerminusNumber.{TerminusNumber}
 
 -- one for this terminus, and none for others
 abbrev pub one_for : Option TerminusNumber → ℕ → ℕ

@@ -1,6 +1,3 @@
-pub mod Act
-pub mod Book
-pub mod Fault
 pub mod Indexed
 pub mod Keys
 pub mod Named

@@ -5,7 +5,7 @@ use Rattle.std.specs.List.{AllByRecursion}
 use Rattle.std.specs.Ordering.{nat_cmp, ordering_then}
 use Rattle.std.specs.declared.cmp.Ordering.{Ordering}
 use Rattle.book_core.specs.declared.numbers.Numbers.{Numbers}
-use Rattle.book_core.specs.declared.row.Row.{Row}
+use Rattle.book_model.specs.declared.row.Row.{Row}
 use Rattle.book_core.specs.declared.row_name.RowName.{RowName}
 use Rattle.book_core.specs.Numbers.{number_at}
 

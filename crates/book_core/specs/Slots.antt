@@ -1,9 +1,9 @@
 -- What the places of a table show.
 use Rattle.std.specs.Prelude.{List, filter_map}
-use Rattle.book_core.specs.declared.row.Row.{Row}
+use Rattle.book_model.specs.declared.row.Row.{Row}
 use Rattle.book_core.specs.declared.slot.RowSlot.{RowSlot}
 use Rattle.book_core.specs.declared.slot.TerminusSlot.{TerminusSlot}
-use Rattle.book_core.specs.declared.terminus.Terminus.{Terminus}
+use Rattle.book_model.specs.declared.terminus.Terminus.{Terminus}
 
 -- the rows that stand in these places
 abbrev pub rows_in : List RowSlot → List Row

@@ -1,14 +1,15 @@
 -- How the tables of a book relate to what it shows.
 use Rattle.std.specs.Prelude.{◌≡◌, ℕ, List, Option, Some, None, Result, Ok, Err, filter_map, length}
-use Rattle.book_core.specs.declared.fault.BookFault.{BookFault}
-use Rattle.book_core.specs.declared.fault.BookFault.TheVariants.{Memory}
+use Rattle.book_model.specs.declared.fault.BookFault.{BookFault}
+use Rattle.book_model.specs.declared.fault.BookFault.TheVariants.{Memory}
 use Rattle.book_core.specs.declared.slot.RowSlot.{RowSlot}
 use Rattle.book_core.specs.declared.slot.TerminusSlot.{TerminusSlot}
 use Rattle.book_core.specs.declared.tables.Tables.{Tables}
-use Rattle.book_core.specs.Book.{BookView, refusal, effect, first_fault, effects}
-use Rattle.book_core.specs.declared.act.Act.{Act}
+use Rattle.book_model.specs.Book.{BookView, refusal, effect, first_fault, effects}
+use Rattle.book_model.specs.declared.act.Act.{Act}
 use Rattle.std.specs.BTreeMap.{get}
-use Rattle.book_core.specs.Keys.{key_cmp, AllKeyed}
+use Rattle.book_core.specs.Keys.{AllKeyed}
+use Rattle.book_model.specs.Keys.{key_cmp}
 use Rattle.book_core.specs.Numbers.{earlier}
 use Rattle.book_core.specs.Indexed.{IsIndexed, IsIndexSettled, SameIndexBefore}
 use Rattle.book_core.specs.Rising.{Rises, AllBelow}

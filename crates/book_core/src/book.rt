@@ -1,20 +1,17 @@
 //! The book.
 ghost use Rattle.std.specs.Prelude.{◌≡◌, None, Some, OnOk, OnErr, IfErr, filter, length};
 ghost use Rattle.std.specs.Option.{option_copied};
-ghost use Rattle.book_core.specs.Book.{empty_book, first_fault, effects, make_refusal, admit_refusal, is_of, row_at, row_named, terminus_at, terminus_of};
+ghost use Rattle.book_model.specs.Book.{empty_book, first_fault, effects, make_refusal, admit_refusal, is_of, row_at, row_named, terminus_at, terminus_of};
 ghost use Rattle.book_core.specs.Rising.{Rises};
 ghost use Rattle.book_core.specs.Rows.{rows_left};
-ghost use Rattle.book_core.specs.declared.fault.BookFault.TheVariants as fault;
-ghost use Rattle.book_core.specs.declared.row.Row.{Row as ARow};
+ghost use Rattle.book_model.specs.declared.fault.BookFault.TheVariants as fault;
+ghost use Rattle.book_model.specs.declared.row.Row.{Row as ARow};
 
-use crate::act::{Act, Admission};
-use crate::fault::BookFault;
 use crate::look;
-use crate::row::{Row, RowNumber};
 use crate::rows::Rows;
 use crate::tables::Tables;
-use crate::terminus::{LinkKey, Terminus, TerminusNumber};
-use amqp_perf::DeliveryTag;
+use amqp_model::DeliveryTag;
+use book_model::{Act, Admission, BookFault, LinkKey, Row, RowNumber, Terminus, TerminusNumber};
 use std::alloc::Global;
 use std::marker::Model;
 
@@ -25,7 +22,7 @@ pub struct Book {
 }
 
 impl Model for Book {
-    ghost use Rattle.book_core.specs.Book.{BookView};
+    ghost use Rattle.book_model.specs.Book.{BookView};
 
     ghost Value = { BookView };
 

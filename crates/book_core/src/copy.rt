@@ -1,12 +1,10 @@
 //! Copies of what a book keeps. The bytes of a payload are shared.
 ghost use Rattle.std.specs.Prelude.{◌≡◌, IfOk};
 ghost use Rattle.std.specs.Option.{ForSome};
-ghost use Rattle.book_core.specs.Book.{admitted, decided, forgotten};
+ghost use Rattle.book_model.specs.Book.{admitted, decided, forgotten};
 
-use crate::act::Admission;
-use crate::row::Row;
-use crate::terminus::{LinkKey, Terminus};
-use amqp_perf::{DeliveryState, DeliveryTag, Text, copy_state};
+use amqp_model::{DeliveryState, DeliveryTag, Text, copy_state};
+use book_model::{Admission, LinkKey, Row, Terminus};
 use std::alloc::AllocError;
 
 pub(crate) fn text(text: &Text) -> Result<Text, AllocError>

@@ -3,26 +3,22 @@
 //! A book changes only by acts. A list of acts is applied whole or not at all.
 #![tactic(auto)]
 
-pub mod act;
 pub mod book;
 mod copy;
-pub mod fault;
-mod key_order;
+mod keys;
 mod look;
 mod numbers;
 mod place;
-pub mod row;
 mod row_index;
 mod row_name;
 pub mod rows;
 mod slot;
 mod table;
 mod tables;
-pub mod terminus;
 
-pub use act::{Act, ActKind, Admission, Decision};
 pub use book::Book;
-pub use fault::BookFault;
-pub use row::{Row, RowNumber};
+pub use book_model::{
+    Act, ActKind, Admission, BookFault, Decision, LinkKey, LinkRole, Row, RowNumber, Terminus,
+    TerminusNumber,
+};
 pub use rows::Rows;
-pub use terminus::{LinkKey, LinkRole, Terminus, TerminusNumber};

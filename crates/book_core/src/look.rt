@@ -2,7 +2,7 @@
 ghost use Rattle.std.specs.Prelude.{◌≡◌};
 ghost use Rattle.std.specs.Option.{option_copied};
 ghost use Rattle.std.specs.List.{list_any};
-ghost use Rattle.book_core.specs.Book.{terminus_at, terminus_of, row_at, row_named, same_role, same_key, is_from, is_for, has_tag, is_wanted};
+ghost use Rattle.book_model.specs.Book.{terminus_at, terminus_of, row_at, row_named, same_role, same_key, is_from, is_for, has_tag, is_wanted};
 ghost use Rattle.book_core.specs.Keys.{AllKeyed};
 ghost use Rattle.book_core.specs.Named.{AllNamed};
 ghost use Rattle.book_core.specs.Rising.{Rises};
@@ -10,11 +10,10 @@ ghost use Rattle.book_core.specs.Slots.{rows_in, termini_in};
 
 use crate::numbers::Numbers;
 use crate::place::{row_place, terminus_place};
-use crate::row::Row;
 use crate::row_name::RowName;
 use crate::slot::{RowSlot, TerminusSlot};
-use crate::terminus::{LinkKey, LinkRole, Terminus, TerminusNumber};
-use amqp_perf::DeliveryTag;
+use amqp_model::DeliveryTag;
+use book_model::{LinkKey, LinkRole, Row, Terminus, TerminusNumber};
 
 /// The terminus with a number.
 pub(crate) fn terminus(slots: &[TerminusSlot], number: TerminusNumber) -> Option<&Terminus>

@@ -3,18 +3,16 @@ ghost use Rattle.std.specs.Prelude.{◌≡◌, ◌+◌, ◌-◌, ◌∷◌, ◌+
 ghost use Rattle.std.specs.BTreeMap.{get};
 ghost use Rattle.std.specs.List.{list_any};
 ghost use Rattle.std.specs.Ordering.{nat_cmp};
-ghost use Rattle.amqp_perf.specs.declared.state.DeliveryState.{DeliveryState};
-ghost use Rattle.book_core.specs.Book.{admitted, decided, forgotten, has_tag, is_from, keeps, row_at, undecided_for, with_row};
+ghost use Rattle.amqp_model.specs.declared.state.DeliveryState.{DeliveryState};
+ghost use Rattle.book_model.specs.Book.{admitted, decided, forgotten, has_tag, is_from, keeps, row_at, undecided_for, with_row};
 ghost use Rattle.book_core.specs.Indexed.{IsIndexed, SameIndexBefore, IsIndexSettled, IsIndexBack, one_for, left_by};
 ghost use Rattle.book_core.specs.Numbers.{number_at, earlier};
 ghost use Rattle.book_core.specs.Rising.{Rises};
-ghost use Rattle.book_core.specs.declared.row.Row.{Row};
+ghost use Rattle.book_model.specs.declared.row.Row.{Row};
 
-use crate::act::Admission;
 use crate::numbers::Numbers;
-use crate::row::Row;
 use crate::row_name::{RowName, set_name};
-use crate::terminus::{LinkRole, TerminusNumber};
+use book_model::{Admission, LinkRole, Row, TerminusNumber};
 use std::alloc::{AllocError, Global};
 
 /// The numbers of rows by name, and how many rows each terminus has.

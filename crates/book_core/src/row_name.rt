@@ -6,8 +6,8 @@ ghost use Rattle.book_core.specs.Named.{name_cmp};
 ghost use Rattle.book_core.specs.Numbers.{number_at, earlier};
 
 use crate::numbers::Numbers;
-use crate::terminus::TerminusNumber;
-use amqp_perf::DeliveryTag;
+use amqp_model::DeliveryTag;
+use book_model::TerminusNumber;
 use std::alloc::AllocError;
 
 /// The terminus of the link on which a delivery came, and its delivery-tag. Names are ordered by these.

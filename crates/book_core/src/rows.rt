@@ -3,9 +3,8 @@ ghost use Rattle.book_core.specs.Rows.{rows_left};
 ghost use Rattle.std.specs.Iterator.{YieldsFirstRef, item_count};
 
 use crate::look::is_wanted_row;
-use crate::row::Row;
 use crate::slot::RowSlot;
-use crate::terminus::TerminusNumber;
+use book_model::{Row, TerminusNumber};
 
 /// The rows of a book, or those that came on the link of a terminus or are bound to it, by number.
 #[derive(Drop)]

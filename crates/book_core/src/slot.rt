@@ -2,8 +2,7 @@
 ghost use Rattle.std.specs.Prelude.{◌≡◌};
 ghost use Rattle.std.specs.Option.{ForSome};
 
-use crate::row::Row;
-use crate::terminus::Terminus;
+use book_model::{Row, Terminus};
 
 /// A slot for a row.
 #[derive(Drop)]

@@ -1,28 +1,29 @@
 //! The tables of a book, one act at a time.
 ghost use Rattle.std.specs.Prelude.{◌≡◌, ◌+◌, ◌-◌, if◌then◌else◌, ◌∷◌, ◌++◌, [], None, OnOk, OnErr, IfOk, IfErr, filter, not, ◌==◌, length, nat_le, is_some};
-ghost use Rattle.amqp_perf.specs.Spelling.{state_spelling};
-ghost use Rattle.book_core.specs.Book.{BookView, empty_book, refusal, effect, make_refusal, admit_refusal, decide_refusal, forget_refusal, drop_refusal, decided, forgotten, admitted, with_row, has_short_texts, has_role, may_bind, terminus_at, row_at};
+ghost use Rattle.amqp_model.specs.PerfSpelling.{state_spelling};
+ghost use Rattle.book_model.specs.Book.{BookView, empty_book, refusal, effect, make_refusal, admit_refusal, decide_refusal, forget_refusal, drop_refusal, decided, forgotten, admitted, with_row, has_short_texts, has_role, may_bind, terminus_at, row_at};
 ghost use Rattle.std.specs.BTreeMap.{get};
 ghost use Rattle.book_core.specs.Indexed.{IsIndexBack};
-ghost use Rattle.book_core.specs.Keys.{key_cmp};
+ghost use Rattle.book_model.specs.Keys.{key_cmp};
 ghost use Rattle.book_core.specs.Numbers.{earlier};
 ghost use Rattle.book_core.specs.Table.{before};
 ghost use Rattle.book_core.specs.Tables.{Shows, SameBefore, IsSettled, IsSwept, Stepped, Ran, row_number, terminus_number};
-ghost use Rattle.book_core.specs.declared.act.Act.TheVariants as act;
-ghost use Rattle.book_core.specs.declared.terminus.LinkRole.TheVariants as role;
+ghost use Rattle.book_model.specs.declared.act.Act.TheVariants as act;
+ghost use Rattle.book_model.specs.declared.terminus.LinkRole.TheVariants as role;
 
-use crate::act::{Act, Admission, Decision};
-use crate::fault::BookFault;
-use crate::key_order::set_key;
+use crate::keys::set_key;
 use crate::numbers::Numbers;
 use crate::place::{row_place, terminus_place};
-use crate::row::{Row, RowNumber};
 use crate::row_index::RowIndex;
 use crate::slot::{RowSlot, TerminusSlot};
 use crate::table::Table;
-use crate::terminus::{LinkKey, LinkRole, Terminus, TerminusNumber};
 use crate::{copy, look};
-use amqp_perf::{DeliveryState, write_state};
+use amqp_model::DeliveryState;
+use amqp_perf::write_state;
+use book_model::{
+    Act, Admission, BookFault, Decision, LinkKey, LinkRole, Row, RowNumber, Terminus,
+    TerminusNumber,
+};
 use std::alloc::{AllocError, Global};
 
 /// The most termini of a book.

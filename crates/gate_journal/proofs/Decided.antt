@@ -4,18 +4,18 @@ use Rattle.std.specs.Prelude.{nat_lt, ◌==◌}
 use Rattle.std.specs.Cmp.Lexicographic.{pointwise, bytes_decides}
 use Rattle.std.proofs.lemmas.Bool.Decides.{nat_tests}
 use Rattle.std.proofs.lemmas.List.{append-nil, take_at}
-use Rattle.book_core.specs.declared.act.Act.{Act}
-use Rattle.book_core.specs.declared.fault.BookFault.{BookFault}
-use Rattle.book_core.specs.Book.{BookView, empty_book, first_fault, effects}
+use Rattle.book_model.specs.declared.act.Act.{Act}
+use Rattle.book_model.specs.declared.fault.BookFault.{BookFault}
+use Rattle.book_model.specs.Book.{BookView, empty_book, first_fault, effects}
 use Rattle.gate_journal.specs.declared.fault.OpenFault.TheVariants.{NotAJournal}
-use Rattle.act_codec.specs.declared.read.ReadFault.{ReadFault}
-use Rattle.act_codec.specs.Format.{magic, in_4, acts_bytes, batch, front}
-use Rattle.act_codec.specs.Batches.{AreWritable, IsBatch, NoActs, Holds}
+use Rattle.journal_codec.specs.declared.read.ReadFault.{ReadFault}
+use Rattle.journal_codec.specs.Format.{magic, in_4, acts_bytes, batch, front}
+use Rattle.journal_codec.specs.Batches.{AreWritable, IsBatch, NoActs, Holds}
 use Rattle.gate_journal.specs.Opening.{NoBatch, IsDamagedAt, Explains}
-use Rattle.act_codec.specs.Reading.{act_at, inside_at}
+use Rattle.journal_codec.specs.Reading.{act_at, inside_at}
 use Rattle.gate_journal.specs.Scanning.{Walked}
-use Rattle.act_codec.proofs.Tools.{AreBytes, bytes_behind, bytes_take, by_test, is_less, is_not_less}
-use Rattle.act_codec.proofs.Scans.{no_more, none_fails, read_more, read_shorter, none_of_acts, inside_forth, batch_is, is_batch}
+use Rattle.journal_codec.proofs.Tools.{AreBytes, bytes_behind, bytes_take, by_test, is_less, is_not_less}
+use Rattle.journal_codec.proofs.Scans.{no_more, none_fails, read_more, read_shorter, none_of_acts, inside_forth, batch_is, is_batch}
 use Rattle.gate_journal.proofs.Walks.{walk_none, walk_more, walk_damaged, walk_ends, none_reads, none_applies, by_rest}
 
 by_result : {A P : Type 0} (r : Result A ReadFault) → ((x : A) → r ≡ Ok x → P) → ((fault : ReadFault) → r ≡ Err fault → P) → P

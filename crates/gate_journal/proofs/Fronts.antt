@@ -1,10 +1,10 @@
 -- One more batch.
 use Rattle.std.proofs.Common.{◌≡◌, ℕ, List, [], ◌∷◌, ◌++◌, None, refl, sym, ap, ◌∙◌, append_assoc, arith}
 use Rattle.std.proofs.lemmas.List.{append-nil}
-use Rattle.book_core.specs.declared.act.Act.{Act}
-use Rattle.book_core.specs.Book.{BookView, first_fault, effects}
-use Rattle.act_codec.specs.Format.{magic, batch, blocks, front}
-use Rattle.act_codec.specs.Batches.{IsBatch, AllApply, Holds, book_after}
+use Rattle.book_model.specs.declared.act.Act.{Act}
+use Rattle.book_model.specs.Book.{BookView, first_fault, effects}
+use Rattle.journal_codec.specs.Format.{magic, batch, blocks, front}
+use Rattle.journal_codec.specs.Batches.{IsBatch, AllApply, Holds, book_after}
 use Rattle.disk_core.specs.Disk.{overwritten}
 
 pub blocks_more : (bs : List (List Act)) (acts : List Act) → blocks (bs ++ acts ∷ []) ≡ blocks bs ++ 1 ∷ batch acts

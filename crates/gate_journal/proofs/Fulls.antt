@@ -2,9 +2,9 @@
 use Rattle.std.proofs.Common.{◌≡◌, ℕ, ◌+◌, ◌<◌, ◌&&◌, Bool, true, false, List, refl, sym, arith}
 use Rattle.std.specs.Prelude.{nat_lt, sum_by, IsTrue, ◌↔◌}
 use Rattle.std.proofs.lemmas.Bool.Decides.{nat_tests}
-use Rattle.book_core.specs.declared.act.Act.{Act}
+use Rattle.book_model.specs.declared.act.Act.{Act}
 use Rattle.gate_journal.specs.Reserve.{growth, release, journal_limit, batch_bytes, IsFull, is_full}
-use Rattle.act_codec.proofs.Tools.{is_less}
+use Rattle.journal_codec.proofs.Tools.{is_less}
 
 less : (a b : ℕ) → a < b → nat_lt a b ≡ true
 less a b l = grind (arith, nat_tests)

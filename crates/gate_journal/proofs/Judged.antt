@@ -1,13 +1,13 @@
 -- For a file one thing is true: it holds batches, it is damaged at a place, or it is no journal.
 use Rattle.std.proofs.Common.{◌≡◌, ◌≢◌, ◌⊎◌, ⊎_elim, ℕ, ◌<◌, List, [], ◌∷◌, ◌++◌, length, take, refl, sym, ap, ◌∙◌, subst, arith, append_assoc, length-append}
 use Rattle.std.proofs.lemmas.List.{append_cancel_left}
-use Rattle.book_core.specs.declared.act.Act.{Act}
-use Rattle.book_core.specs.Book.{BookView, empty_book, effects}
+use Rattle.book_model.specs.declared.act.Act.{Act}
+use Rattle.book_model.specs.Book.{BookView, empty_book, effects}
 use Rattle.gate_journal.specs.declared.fault.OpenFault.TheVariants.{NotAJournal}
-use Rattle.act_codec.specs.Format.{magic, batch, blocks, front}
-use Rattle.act_codec.specs.Batches.{AllApply, Holds, book_after}
+use Rattle.journal_codec.specs.Format.{magic, batch, blocks, front}
+use Rattle.journal_codec.specs.Batches.{AllApply, Holds, book_after}
 use Rattle.gate_journal.specs.Opening.{Begins, NoBatch, IsDamagedAt, Explains}
-use Rattle.act_codec.proofs.Unique.{batch_unique}
+use Rattle.journal_codec.proofs.Unique.{batch_unique}
 
 byte_same : (a b : ℕ) (r s : List ℕ) → a ∷ r ≡ b ∷ s → a ≡ b
 byte_same a b r s e = cc

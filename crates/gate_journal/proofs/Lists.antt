@@ -1,11 +1,11 @@
 -- The acts of a walk.
 use Rattle.std.proofs.Common.{◌≡◌, ◌≢◌, ℕ, ◌+◌, ◌-◌, List, [], ◌∷◌, ◌++◌, length, None, refl, sym, ap, ◌∙◌, arith, append_assoc, length-append}
 use Rattle.std.proofs.lemmas.List.{append-nil}
-use Rattle.book_core.specs.declared.act.Act.{Act}
-use Rattle.book_core.specs.Book.{BookView, empty_book, first_fault, effects}
+use Rattle.book_model.specs.declared.act.Act.{Act}
+use Rattle.book_model.specs.Book.{BookView, empty_book, first_fault, effects}
 use Rattle.gate_journal.specs.declared.listing.Entry.{Entry}
-use Rattle.act_codec.specs.Format.{magic, batch, blocks, front}
-use Rattle.act_codec.specs.Batches.{IsBatch, AllApply, book_after}
+use Rattle.journal_codec.specs.Format.{magic, batch, blocks, front}
+use Rattle.journal_codec.specs.Batches.{IsBatch, AllApply, book_after}
 use Rattle.gate_journal.specs.Listing.{placed, entries_from}
 use Rattle.gate_journal.specs.Listed.{IsListed}
 use Rattle.gate_journal.specs.Walking.{Listed}

@@ -1,9 +1,9 @@
 -- What batches that apply leave, and what the next one needs.
 use Rattle.std.proofs.Common.{◌≡◌, ℕ, ◌+◌, ◌-◌, List, [], ◌∷◌, ◌++◌, None, sym, ap, ◌∙◌, arith}
 use Rattle.std.specs.Prelude.{sum_by}
-use Rattle.book_core.specs.declared.act.Act.{Act}
-use Rattle.book_core.specs.Book.{BookView, empty_book, first_fault, effects}
-use Rattle.act_codec.specs.Batches.{IsBatch, IsNext, AllApply, book_after, HaveOutcomes, HaveTermini, AreWritable}
+use Rattle.book_model.specs.declared.act.Act.{Act}
+use Rattle.book_model.specs.Book.{BookView, empty_book, first_fault, effects}
+use Rattle.journal_codec.specs.Batches.{IsBatch, IsNext, AllApply, book_after, HaveOutcomes, HaveTermini, AreWritable}
 use Rattle.gate_journal.specs.Reserve.{reserve, growth, release}
 use Rattle.gate_journal.proofs.Fronts.{book_more}
 use Rattle.gate_journal.specs.Ordered.{IsOrdered}

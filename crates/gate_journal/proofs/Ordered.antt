@@ -2,11 +2,11 @@
 use Rattle.std.proofs.Common.{◌≡◌, ℕ, ◌<◌, Bool, true, false, cond, not, List, [], ◌∷◌, Option, Some, None, refl, sym, ap, subst, arith}
 use Rattle.std.specs.Prelude.{filter_map, is_some, ◌==◌}
 use Rattle.std.specs.List.{cons_option}
-use Rattle.amqp_perf.specs.declared.state.DeliveryState.{DeliveryState}
-use Rattle.book_core.specs.declared.act.Act.{Act}
-use Rattle.book_core.specs.declared.act.Act.TheVariants.{Make, Admit, Decide, Forget, Drop}
-use Rattle.book_core.specs.declared.row.Row.{Row}
-use Rattle.book_core.specs.Book.{BookView, empty_book, refusal, effect, decided, forgotten, admitted}
+use Rattle.amqp_model.specs.declared.state.DeliveryState.{DeliveryState}
+use Rattle.book_model.specs.declared.act.Act.{Act}
+use Rattle.book_model.specs.declared.act.Act.TheVariants.{Make, Admit, Decide, Forget, Drop}
+use Rattle.book_model.specs.declared.row.Row.{Row}
+use Rattle.book_model.specs.Book.{BookView, empty_book, refusal, effect, decided, forgotten, admitted}
 use Rattle.book_core.specs.Rising.{Rises, AllAbove, AllBelow}
 use Rattle.book_core.proofs.Shown as shown
 use Rattle.book_core.proofs.Steps.{makes_next, admits_next}

@@ -4,10 +4,10 @@ use Rattle.std.proofs.lemmas.List.{take_at, drop_at}
 use Rattle.disk_core.specs.Disk.{Spoilt, between, Agrees, overwritten, Only}
 use Rattle.disk_core.specs.SpoiltLaws.{spoilt_of}
 use Rattle.disk_core.specs.DiskLaws.{overwritten_inside}
-use Rattle.book_core.specs.declared.act.Act.{Act}
-use Rattle.book_core.specs.Book.{empty_book, first_fault}
-use Rattle.act_codec.specs.Format.{batch, front}
-use Rattle.act_codec.specs.Batches.{Holds, IsBatch, AllApply, book_after}
+use Rattle.book_model.specs.declared.act.Act.{Act}
+use Rattle.book_model.specs.Book.{empty_book, first_fault}
+use Rattle.journal_codec.specs.Format.{batch, front}
+use Rattle.journal_codec.specs.Batches.{Holds, IsBatch, AllApply, book_after}
 use Rattle.gate_journal.specs.Stands.{IsAt}
 use Rattle.gate_journal.proofs.Fronts.{front_more, all_more}
 

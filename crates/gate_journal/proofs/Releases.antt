@@ -2,12 +2,12 @@
 use Rattle.std.proofs.Common.{◌≡◌, ◌≢◌, ◌+◌, ◌*◌, ◌≤◌, List, [], ◌∷◌, ◌++◌, length, refl, arith, length-append}
 use Rattle.std.specs.Prelude.{sum_by}
 use Rattle.std.proofs.lemmas.List.Sums.{sum_by-cons}
-use Rattle.amqp_perf.specs.Spelling.{state_spelling}
-use Rattle.book_core.specs.declared.act.Act.{Act}
-use Rattle.book_core.specs.declared.act.Act.TheVariants.{Make, Admit, Decide, Forget, Drop}
-use Rattle.act_codec.specs.Format.{in_2, in_8, act_bytes, acts_bytes}
+use Rattle.amqp_model.specs.PerfSpelling.{state_spelling}
+use Rattle.book_model.specs.declared.act.Act.{Act}
+use Rattle.book_model.specs.declared.act.Act.TheVariants.{Make, Admit, Decide, Forget, Drop}
+use Rattle.journal_codec.specs.Format.{in_2, in_8, act_bytes, acts_bytes}
 use Rattle.gate_journal.specs.Reserve.{growth, release, Releases, OnlyRelease, Costs}
-use Rattle.act_codec.proofs.Spelled.{length-in_2, length-in_8}
+use Rattle.journal_codec.proofs.Spelled.{length-in_2, length-in_8}
 
 one_pays : (act : Act) → Releases act → length (act_bytes act) + 5 ≤ release act + growth act
 unfolding act_bytes

@@ -4,18 +4,18 @@ use Rattle.std.specs.Prelude.{find, filter, filter_map, sum_by, ◌==◌}
 use Rattle.std.specs.List.{cons_option}
 use Rattle.std.proofs.lemmas.Bool.Decides.{nat_tests}
 use Rattle.std.proofs.lemmas.List.Sums.{sum_by-cons, sum_by_push}
-use Rattle.amqp_perf.specs.declared.state.DeliveryState.{DeliveryState}
-use Rattle.book_core.specs.declared.act.Act.{Act}
-use Rattle.book_core.specs.declared.act.Act.TheVariants.{Make, Admit, Decide, Forget, Drop}
-use Rattle.book_core.specs.declared.fault.BookFault.{BookFault}
-use Rattle.book_core.specs.declared.row.Row.{Row}
-use Rattle.book_core.specs.declared.terminus.Terminus.{Terminus}
-use Rattle.book_core.specs.declared.terminus.TerminusNumber.{TerminusNumber}
-use Rattle.book_core.specs.Book.{BookView, refusal, effect, first_fault, effects, unless, or_else, row_at, terminus_at, decided, forgotten, admitted, decide_refusal, forget_refusal, drop_refusal, may_bind, has_role, is_undecided}
-use Rattle.book_core.specs.declared.terminus.LinkRole.TheVariants.{Consumer}
+use Rattle.amqp_model.specs.declared.state.DeliveryState.{DeliveryState}
+use Rattle.book_model.specs.declared.act.Act.{Act}
+use Rattle.book_model.specs.declared.act.Act.TheVariants.{Make, Admit, Decide, Forget, Drop}
+use Rattle.book_model.specs.declared.fault.BookFault.{BookFault}
+use Rattle.book_model.specs.declared.row.Row.{Row}
+use Rattle.book_model.specs.declared.terminus.Terminus.{Terminus}
+use Rattle.book_model.specs.declared.terminus.TerminusNumber.{TerminusNumber}
+use Rattle.book_model.specs.Book.{BookView, refusal, effect, first_fault, effects, unless, or_else, row_at, terminus_at, decided, forgotten, admitted, decide_refusal, forget_refusal, drop_refusal, may_bind, has_role, is_undecided}
+use Rattle.book_model.specs.declared.terminus.LinkRole.TheVariants.{Consumer}
 use Rattle.book_core.specs.Rising.{Rises, AllAbove}
 use Rattle.book_core.proofs.Shown as shown
-use Rattle.act_codec.specs.Batches.{HasTerminus, HaveTermini, IsAboveZero}
+use Rattle.journal_codec.specs.Batches.{HasTerminus, HaveTermini, IsAboveZero}
 use Rattle.gate_journal.specs.Reserve.{row_reserve, reserve, growth, release}
 use Rattle.gate_journal.specs.Ordered.{IsOrdered}
 use Rattle.gate_journal.proofs.Ordered.{ordered_step}

@@ -1,12 +1,12 @@
 -- One encoding: a file holds only one list of batches.
 use Rattle.std.proofs.Common.{◌≡◌, ◌≢◌, ℕ, ◌+◌, List, [], ◌∷◌, ◌++◌, length, refl, sym, ap, ◌∙◌, subst, append_assoc}
 use Rattle.std.proofs.lemmas.List.{append_cancel_left}
-use Rattle.book_core.specs.declared.act.Act.{Act}
-use Rattle.book_core.specs.Book.{BookView, empty_book, effects}
-use Rattle.act_codec.specs.Format.{magic, batch, blocks, front}
-use Rattle.act_codec.specs.Batches.{AllApply, Holds}
+use Rattle.book_model.specs.declared.act.Act.{Act}
+use Rattle.book_model.specs.Book.{BookView, empty_book, effects}
+use Rattle.journal_codec.specs.Format.{magic, batch, blocks, front}
+use Rattle.journal_codec.specs.Batches.{AllApply, Holds}
 use Rattle.gate_journal.specs.Opening.{IsFound}
-use Rattle.act_codec.proofs.Unique.{batch_unique}
+use Rattle.journal_codec.proofs.Unique.{batch_unique}
 
 -- Batches up to a gate that isn't open.
 blocks_unique : (b : BookView) (xs ys : List (List Act)) (g h : ℕ) (r s : List ℕ) → g ≢ 1 → h ≢ 1 → AllApply b xs → AllApply b ys → blocks xs ++ g ∷ r ≡ blocks ys ++ h ∷ s → xs ≡ ys

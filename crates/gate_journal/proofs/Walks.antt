@@ -1,19 +1,19 @@
 -- The walk over the batches of a file.
 use Rattle.std.proofs.Common.{◌≡◌, ◌≢◌, ℕ, ◌+◌, ◌-◌, ◌≤◌, Bool, true, false, List, [], ◌∷◌, ◌++◌, length, None, Some, refl, sym, ap, ◌∙◌, subst, arith, append_assoc, length-append}
-use Rattle.book_core.specs.declared.act.Act.{Act}
-use Rattle.book_core.specs.declared.fault.BookFault.{BookFault}
-use Rattle.book_core.specs.declared.fault.BookFault.TheVariants as books
+use Rattle.book_model.specs.declared.act.Act.{Act}
+use Rattle.book_model.specs.declared.fault.BookFault.{BookFault}
+use Rattle.book_model.specs.declared.fault.BookFault.TheVariants as books
 use Rattle.gate_journal.specs.declared.fault.OpenFault.{OpenFault}
 use Rattle.gate_journal.specs.declared.fault.OpenFault.TheVariants as opening
 use Rattle.std.specs.Prelude.{not, ◌==◌}
 use Rattle.std.specs.Cmp.Lexicographic.{pointwise, bytes_decides}
-use Rattle.book_core.specs.Book.{BookView, empty_book, first_fault, effects}
-use Rattle.act_codec.specs.Format.{magic, batch, blocks, front}
-use Rattle.act_codec.specs.Batches.{IsBatch, NoneBegins, AllApply, book_after}
+use Rattle.book_model.specs.Book.{BookView, empty_book, first_fault, effects}
+use Rattle.journal_codec.specs.Format.{magic, batch, blocks, front}
+use Rattle.journal_codec.specs.Batches.{IsBatch, NoneBegins, AllApply, book_after}
 use Rattle.gate_journal.specs.Opening.{NoBatch, IsDamagedAt, IsFound, Explains}
 use Rattle.gate_journal.specs.Scanning.{Walked, IsNoNext, refused_as}
 use Rattle.gate_journal.proofs.Fronts.{front_more, all_more, book_more}
-use Rattle.act_codec.proofs.Unique.{batch_unique}
+use Rattle.journal_codec.proofs.Unique.{batch_unique}
 
 -- before the first batch
 pub walk_none : (bytes behind : List ℕ) → bytes ≡ magic ++ behind → behind ≢ [] → Walked bytes behind empty_book 0

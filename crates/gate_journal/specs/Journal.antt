@@ -1,9 +1,9 @@
 -- A journal as its callers see it.
 use Rattle.std.specs.Prelude.{◌≡◌, ℕ, ◌+◌, Bool, List, length}
-use Rattle.book_core.specs.declared.act.Act.{Act}
-use Rattle.book_core.specs.Book.{empty_book}
+use Rattle.book_model.specs.declared.act.Act.{Act}
+use Rattle.book_model.specs.Book.{empty_book}
 use Rattle.gate_journal.specs.declared.journal.Journal.{Journal}
-use Rattle.act_codec.specs.Batches.{book_after}
+use Rattle.journal_codec.specs.Batches.{book_after}
 use Rattle.gate_journal.specs.Reserve.{reserve}
 use Rattle.gate_journal.specs.Stands.{IsAt}
 

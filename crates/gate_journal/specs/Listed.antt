@@ -1,10 +1,10 @@
 -- The contents of a journal's list.
 use Rattle.std.specs.Prelude.{◌≡◌, ℕ, List, length}
-use Rattle.book_core.specs.declared.act.Act.{Act}
-use Rattle.book_core.specs.Book.{BookView, empty_book}
+use Rattle.book_model.specs.declared.act.Act.{Act}
+use Rattle.book_model.specs.Book.{BookView, empty_book}
 use Rattle.gate_journal.specs.declared.listing.Entry.{Entry}
-use Rattle.act_codec.specs.Format.{front}
-use Rattle.act_codec.specs.Batches.{Holds, book_after}
+use Rattle.journal_codec.specs.Format.{front}
+use Rattle.journal_codec.specs.Batches.{Holds, book_after}
 use Rattle.gate_journal.specs.Listing.{entries_of}
 
 -- the acts of the batches of a file with their places, the place of the gate that ends them, and the book after them

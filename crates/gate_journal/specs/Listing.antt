@@ -1,8 +1,8 @@
 -- The acts of batches, each with the place of its batch's gate.
 use Rattle.std.specs.Prelude.{ℕ, ◌+◌, List, [], ◌∷◌, ◌++◌, length, map}
-use Rattle.book_core.specs.declared.act.Act.{Act}
+use Rattle.book_model.specs.declared.act.Act.{Act}
 use Rattle.gate_journal.specs.declared.listing.Entry.{Entry}
-use Rattle.act_codec.specs.Format.{batch}
+use Rattle.journal_codec.specs.Format.{batch}
 
 abbrev pub placed : ℕ → List Act → List Entry
 placed place acts = map (λ act. record { place = place; act = act }) acts

@@ -1,11 +1,11 @@
 -- What an opened file stands for, and why a file can't be opened.
 use Rattle.std.specs.Prelude.{◌≡◌, ◌≢◌, ◌⊎◌, ℕ, ◌<◌, List, ◌∷◌, ◌++◌, length, take, None}
-use Rattle.book_core.specs.declared.act.Act.{Act}
-use Rattle.book_core.specs.Book.{BookView, empty_book, first_fault}
+use Rattle.book_model.specs.declared.act.Act.{Act}
+use Rattle.book_model.specs.Book.{BookView, empty_book, first_fault}
 use Rattle.gate_journal.specs.declared.fault.OpenFault.{OpenFault}
 use Rattle.gate_journal.specs.declared.fault.OpenFault.TheVariants.{NotAJournal, Damaged, Disk, Memory}
-use Rattle.act_codec.specs.Format.{magic, batch, front}
-use Rattle.act_codec.specs.Batches.{IsBatch, AllApply, Holds, book_after}
+use Rattle.journal_codec.specs.Format.{magic, batch, front}
+use Rattle.journal_codec.specs.Batches.{IsBatch, AllApply, Holds, book_after}
 
 -- the bytes begin with a batch that applies to this book, and a gate after it
 pub record Begins (b : BookView) (bytes : List ℕ) (acts : List Act) : Type 0 where

@@ -1,8 +1,8 @@
 -- A book whose numbers rise, as that of each book is which acts made of nothing.
 use Rattle.std.specs.Prelude.{ℕ, ◌<◌}
-use Rattle.book_core.specs.declared.row.Row.{Row}
-use Rattle.book_core.specs.declared.terminus.Terminus.{Terminus}
-use Rattle.book_core.specs.Book.{BookView}
+use Rattle.book_model.specs.declared.row.Row.{Row}
+use Rattle.book_model.specs.declared.terminus.Terminus.{Terminus}
+use Rattle.book_model.specs.Book.{BookView}
 use Rattle.book_core.specs.Rising.{Rises, AllAbove, AllBelow}
 
 abbrev pub number_of_row : Row → ℕ

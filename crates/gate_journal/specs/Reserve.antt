@@ -1,12 +1,12 @@
 -- The room that a journal keeps free, so that what is begun can be finished: an undecided row can be decided, an unforgotten
 -- row forgotten, and a terminus dropped, each in a batch of its own.
-use Rattle.amqp_perf.specs.Spelling.{state_spelling}
+use Rattle.amqp_model.specs.PerfSpelling.{state_spelling}
 use Rattle.std.specs.Prelude.{ℕ, ◌+◌, ◌*◌, ◌≤◌, Bool, ◌&&◌, nat_lt, List, [], ◌∷◌, length, sum_by, if◌then◌else◌, ◌<◌}
-use Rattle.book_core.specs.declared.act.Act.{Act}
-use Rattle.book_core.specs.declared.act.Act.TheVariants.{Make, Admit, Decide, Forget, Drop}
-use Rattle.book_core.specs.declared.row.Row.{Row}
-use Rattle.book_core.specs.Book.{BookView, is_undecided}
-use Rattle.act_codec.specs.Format.{acts_bytes}
+use Rattle.book_model.specs.declared.act.Act.{Act}
+use Rattle.book_model.specs.declared.act.Act.TheVariants.{Make, Admit, Decide, Forget, Drop}
+use Rattle.book_model.specs.declared.row.Row.{Row}
+use Rattle.book_model.specs.Book.{BookView, is_undecided}
+use Rattle.journal_codec.specs.Format.{acts_bytes}
 
 -- the most bytes of a journal
 abbrev pub journal_limit : ℕ

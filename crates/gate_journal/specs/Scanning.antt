@@ -1,14 +1,14 @@
 -- What a scan of a file finds on the way.
 use Rattle.std.specs.Prelude.{◌≡◌, ◌≢◌, ℕ, List, [], ◌∷◌, ◌++◌, length}
-use Rattle.book_core.specs.declared.act.Act.{Act}
-use Rattle.book_core.specs.declared.fault.BookFault.{BookFault}
-use Rattle.book_core.specs.declared.fault.BookFault.TheVariants as books
+use Rattle.book_model.specs.declared.act.Act.{Act}
+use Rattle.book_model.specs.declared.fault.BookFault.{BookFault}
+use Rattle.book_model.specs.declared.fault.BookFault.TheVariants as books
 use Rattle.gate_journal.specs.declared.fault.OpenFault.{OpenFault}
 use Rattle.gate_journal.specs.declared.fault.OpenFault.TheVariants as opening
-use Rattle.book_core.specs.Book.{BookView, empty_book}
-use Rattle.act_codec.specs.Format.{acts_bytes, batch, front}
+use Rattle.book_model.specs.Book.{BookView, empty_book}
+use Rattle.journal_codec.specs.Format.{acts_bytes, batch, front}
 use Rattle.gate_journal.specs.Opening.{NoBatch}
-use Rattle.act_codec.specs.Batches.{IsBatch, NoneBegins, AllApply, book_after}
+use Rattle.journal_codec.specs.Batches.{IsBatch, NoneBegins, AllApply, book_after}
 
 -- Good batches come before the rest, and give this book.
 pub record Walked (bytes rest : List ℕ) (book : BookView) (count : ℕ) : Type 0 where

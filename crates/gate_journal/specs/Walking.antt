@@ -1,6 +1,6 @@
 -- What a walk that lists acts has listed so far.
 use Rattle.std.specs.Prelude.{◌≡◌, ℕ, List}
-use Rattle.book_core.specs.Book.{BookView}
+use Rattle.book_model.specs.Book.{BookView}
 use Rattle.gate_journal.specs.declared.listing.Entry.{Entry}
 use Rattle.gate_journal.specs.Listing.{entries_of}
 use Rattle.gate_journal.specs.Scanning.{Walked}

@@ -2,7 +2,8 @@
 ghost use Rattle.std.specs.Prelude.{◌≡◌, ◌+◌, ◌-◌, sum, sum_by, length, IfSome, IsTrue, ◌↔◌};
 ghost use Rattle.gate_journal.specs.Reserve.{row_reserve, reserve, growth, release};
 
-use book_core::{Act, Book, Row};
+use book_core::Book;
+use book_model::{Act, Row};
 
 /// The figures of a journal.
 #[derive(Clone, Copy, Debug)]

@@ -1,8 +1,8 @@
 //! A new journal.
 ghost use Rattle.std.specs.Prelude.{◌≡◌, ◌<◌, [], OnOk, IsErrOf};
 ghost use Rattle.disk_core.specs.Disk.{Only};
-ghost use Rattle.act_codec.specs.Format.{fresh};
-ghost use Rattle.act_codec.specs.Batches.{Holds};
+ghost use Rattle.journal_codec.specs.Format.{fresh};
+ghost use Rattle.journal_codec.specs.Batches.{Holds};
 ghost use Rattle.gate_journal.specs.Stands.{IsAt};
 
 use disk_core::{Disk, DiskFault};

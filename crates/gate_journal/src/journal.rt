@@ -1,10 +1,10 @@
 //! The journal.
 ghost use Rattle.std.specs.Prelude.{◌≡◌, ◌≢◌, ◌⊎◌, pos, ◌-ℤ◌, ◌+◌, ◌-◌, ◌<◌, ◌≤◌, sum_by, ◌++◌, [], ◌∷◌, ℕ, List, true, false, None, OnOk, OnErr, IfOk, IfErr, IfSome, IsTrue, ◌↔◌, IsErrOf, length};
 ghost use Rattle.disk_core.specs.Disk.{LeavesOnly, NoMore, Elapses};
-ghost use Rattle.book_core.specs.declared.act.Act.{Act};
-ghost use Rattle.book_core.specs.Book.{empty_book, first_fault, effects};
-ghost use Rattle.act_codec.specs.Format.{acts_bytes, front};
-ghost use Rattle.act_codec.specs.Batches.{Holds, HaveOutcomes, IsNext, book_after};
+ghost use Rattle.book_model.specs.declared.act.Act.{Act};
+ghost use Rattle.book_model.specs.Book.{empty_book, first_fault, effects};
+ghost use Rattle.journal_codec.specs.Format.{acts_bytes, front};
+ghost use Rattle.journal_codec.specs.Batches.{Holds, HaveOutcomes, IsNext, book_after};
 ghost use Rattle.gate_journal.specs.Ordered.{IsOrdered};
 ghost use Rattle.gate_journal.specs.Reserve.{reserve, batch_bytes, growth, release, IsFull, is_full};
 ghost use Rattle.gate_journal.specs.Journal.{Keeps, disk_of, batch_count, used_bytes, kept_bytes, has_failed};
@@ -16,9 +16,10 @@ use crate::figures::{Figures, growth_by, release_by, reserve_of, total};
 use crate::scan::{Found, scan};
 use crate::store::store;
 use crate::whole::read_all;
-use act_codec::{acts_len, block_of};
-use book_core::{Act, Book};
+use book_core::Book;
+use book_model::Act;
 use disk_core::{Crash, Disk};
+use journal_codec::{acts_len, block_of};
 use std::alloc::{AllocError, Global};
 
 /// The most bytes of a journal, including what it keeps free.

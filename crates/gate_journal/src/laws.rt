@@ -1,13 +1,13 @@
 //! Laws of the journal's definitions. Each is the clause of a function that does nothing.
 ghost use Rattle.std.specs.Prelude.{◌≡◌, ◌≢◌, ◌⊎◌, ◌↔◌, ◌+◌, ◌<◌, ◌≤◌, [], List, ℕ, true, None, Some, get_or, sum_by, length};
-ghost use Rattle.amqp_perf.specs.declared.state.DeliveryState.{DeliveryState};
+ghost use Rattle.amqp_model.specs.declared.state.DeliveryState.{DeliveryState};
 ghost use Rattle.amqp_perf.specs.Fitting.{FitsState};
-ghost use Rattle.amqp_perf.specs.Spelling.{state_spelling};
-ghost use Rattle.book_core.specs.declared.act.Act.{Act};
-ghost use Rattle.book_core.specs.Book.{empty_book, first_fault, effects};
-ghost use Rattle.act_codec.specs.Batches.{AllApply, Holds, IsTerminal, IsOutcome, book_after};
+ghost use Rattle.amqp_model.specs.PerfSpelling.{state_spelling};
+ghost use Rattle.book_model.specs.declared.act.Act.{Act};
+ghost use Rattle.book_model.specs.Book.{empty_book, first_fault, effects};
+ghost use Rattle.journal_codec.specs.Batches.{AllApply, Holds, IsTerminal, IsOutcome, book_after};
 ghost use Rattle.gate_journal.specs.Opening.{Explains, IsDamagedAt};
-ghost use Rattle.act_codec.specs.Outcome.{kept_outcome};
+ghost use Rattle.journal_codec.specs.Outcome.{kept_outcome};
 ghost use Rattle.gate_journal.specs.Ordered.{IsOrdered};
 ghost use Rattle.gate_journal.specs.Reserve.{OnlyRelease, Costs, IsFull, is_full, reserve, growth, release};
 ghost use Rattle.gate_journal.specs.declared.fault.OpenFault.TheVariants.{NotAJournal};

@@ -13,8 +13,8 @@ mod scan;
 mod store;
 mod whole;
 
-pub use act_codec::{acts_len, kept_outcome};
 pub use fault::{JournalFault, OpenFault};
 pub use fresh::format;
 pub use journal::Journal;
+pub use journal_codec::{acts_len, kept_outcome};
 pub use listing::{Entry, Listing, list};

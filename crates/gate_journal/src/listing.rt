@@ -8,7 +8,8 @@ ghost use Rattle.gate_journal.specs.Listed.{IsListed};
 use crate::fault::OpenFault;
 use crate::scan::{behind_gate, behind_head, next_batch};
 use crate::whole::read_all;
-use book_core::{Act, Book};
+use book_core::Book;
+use book_model::Act;
 use disk_core::Disk;
 use std::alloc::{AllocError, Global};
 

@@ -1,15 +1,16 @@
 //! The batches of a file, one after another.
 ghost use Rattle.std.specs.Prelude.{◌≡◌, ◌≢◌, ◌++◌, [], ◌∷◌, List, ℕ, ◌<◌, ◌⊎◌, length, take, None, IfNone, IfSome, IfOk, IfErr, IsErrOf};
-ghost use Rattle.book_core.specs.declared.act.Act.{Act};
-ghost use Rattle.book_core.specs.Book.{first_fault, effects};
-ghost use Rattle.act_codec.specs.Format.{magic, batch};
-ghost use Rattle.act_codec.specs.Batches.{IsBatch};
+ghost use Rattle.book_model.specs.declared.act.Act.{Act};
+ghost use Rattle.book_model.specs.Book.{first_fault, effects};
+ghost use Rattle.journal_codec.specs.Format.{magic, batch};
+ghost use Rattle.journal_codec.specs.Batches.{IsBatch};
 ghost use Rattle.gate_journal.specs.Opening.{Explains, IsFound};
 ghost use Rattle.gate_journal.specs.Scanning.{IsNoNext, refused_as};
 
 use crate::fault::OpenFault;
-use act_codec::{ReadFault, read_batch};
-use book_core::{Act, Book, BookFault};
+use book_core::Book;
+use book_model::{Act, BookFault};
+use journal_codec::{ReadFault, read_batch};
 use std::alloc::Global;
 
 /// The first bytes of each journal of this format.

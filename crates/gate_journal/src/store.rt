@@ -1,10 +1,10 @@
 //! Writes a batch to the disk: its bytes with a closed gate first, then the gate before it is opened.
 ghost use Rattle.std.specs.Prelude.{◌≡◌, ◌⊎◌, ◌+◌, ◌++◌, [], ◌∷◌, ℕ, List, OnOk, length, None};
 ghost use Rattle.disk_core.specs.Disk.{LeavesOnly, HasCause};
-ghost use Rattle.book_core.specs.declared.act.Act.{Act};
-ghost use Rattle.book_core.specs.Book.{empty_book, first_fault};
-ghost use Rattle.act_codec.specs.Format.{batch};
-ghost use Rattle.act_codec.specs.Batches.{Holds, IsBatch, book_after};
+ghost use Rattle.book_model.specs.declared.act.Act.{Act};
+ghost use Rattle.book_model.specs.Book.{empty_book, first_fault};
+ghost use Rattle.journal_codec.specs.Format.{batch};
+ghost use Rattle.journal_codec.specs.Batches.{Holds, IsBatch, book_after};
 ghost use Rattle.gate_journal.specs.Stands.{IsAt};
 
 use crate::device::put;

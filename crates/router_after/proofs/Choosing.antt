@@ -5,8 +5,8 @@ use Rattle.std.proofs.lemmas.Bool.{and_from, eqb-true}
 use Rattle.std.proofs.lemmas.Bool.Decides.{nat_tests}
 use Rattle.router_trace.specs.declared.handle.Attachment.{Attachment}
 use Rattle.router_trace.specs.Numbers.{Placed, first_placed, better, or_better, is_before}
-use Rattle.router_deliveries.specs.Finding.{IsFirst}
-use Rattle.router_deliveries.specs.Finding.{is_above}
+use Rattle.state_deliveries.specs.Finding.{IsFirst}
+use Rattle.state_deliveries.specs.Finding.{is_above}
 use Rattle.router_after.specs.declared.candidate.Candidate.{Candidate}
 use Rattle.router_after.specs.Soonest.{is_sooner, beats, sooner, Stands, IsSoonest, IsSoonestOn, IsSoonestUpTo}
 use Rattle.router_after.proofs.Orders.{is_soonest, is_sooner_too, not_before, behind_lower}

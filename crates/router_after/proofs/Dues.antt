@@ -1,8 +1,8 @@
 -- What is due first, by what was found.
 use Rattle.std.proofs.Common.{◌≡◌, ◌∙◌, ◌+◌, ℕ, true, false, refl, sym, ap, subst, List, [], ◌∷◌, Option, Some, None}
 use Rattle.std.specs.Prelude.{if◌then◌else◌, is_none, is_some, option_map}
-use Rattle.amqp_frames.specs.declared.item.Item.{Item}
-use Rattle.amqp_perf.specs.declared.perf.Transfer.{Transfer}
+use Rattle.amqp_model.specs.declared.item.Item.{Item}
+use Rattle.amqp_model.specs.declared.perf.Transfer.{Transfer}
 use Rattle.amqp_session.specs.declared.states.FlowState.{FlowState}
 use Rattle.amqp_session.specs.Session.{Session}
 use Rattle.router_trace.specs.declared.frames.LinkState.{LinkState}
@@ -15,13 +15,13 @@ use Rattle.router_trace.specs.Links.{Link, Happened, sends, receives, attachment
 use Rattle.router_trace.specs.Deliveries.{Delivery, bindings, delivery, next_id}
 use Rattle.router_trace.specs.DeliveryFrames.{first_transfer, later_transfer}
 use Rattle.router_trace.specs.Following.{is_to_be_told, tells, tells_of, tell, sends_due, send_of, send, transfer_of, drains_due, drain_by, drain_on, drain_of, link_of}
-use Rattle.router_deliveries.specs.Finding.{IsFirst}
-use Rattle.router_passing.specs.Asking.{drained_by, drained_state}
+use Rattle.state_deliveries.specs.Finding.{IsFirst}
+use Rattle.state_messages.specs.Asking.{drained_by, drained_state}
 use Rattle.router_after.specs.declared.candidate.Candidate.{Candidate}
 use Rattle.router_after.specs.Soonest.{IsSoonest}
 use Rattle.router_after.specs.Starting.{places}
 use Rattle.router_after.specs.Draining.{drains_at}
-use Rattle.router_deliveries.proofs.Numbers.{first_delivery_is}
+use Rattle.state_deliveries.proofs.Numbers.{first_delivery_is}
 use Rattle.router_after.proofs.Choosing.{placed, soonest_is}
 use Rattle.router_after.proofs.Going as going
 use Rattle.router_after.proofs.Owing as owing

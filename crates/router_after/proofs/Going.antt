@@ -9,10 +9,10 @@ use Rattle.router_trace.specs.Sessions.{session}
 use Rattle.router_trace.specs.Links.{Link, link, has_number, is_attached, numbered, place_of}
 use Rattle.router_trace.specs.Deliveries.{Delivery, bindings, delivery, sending, is_number}
 use Rattle.router_trace.specs.Following.{link_of, goes_on_at, is_going, takes_more, has_credit, can_start, is_wide, is_there, can_go, place_to_go, is_unsent_on}
-use Rattle.router_deliveries.specs.Finding.{IsFirst}
-use Rattle.router_deliveries.proofs.Numbers.{stands_below}
-use Rattle.router_deliveries.proofs.Unsent.{some_delivery}
-use Rattle.router_passing.specs.Asking.{has_unsent, goes_on}
+use Rattle.state_deliveries.specs.Finding.{IsFirst}
+use Rattle.state_deliveries.proofs.Numbers.{stands_below}
+use Rattle.state_deliveries.proofs.Unsent.{some_delivery}
+use Rattle.state_messages.specs.Asking.{has_unsent, goes_on}
 use Rattle.router_after.specs.Soonest.{IsSoonestOn, beats}
 use Rattle.router_after.specs.Starting.{is_same, goes_on_from, waits_at, starts_from, goes_from, places}
 use Rattle.router_after.proofs.Numbered.{number_is, place_is, stands_there}

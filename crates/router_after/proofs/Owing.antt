@@ -6,7 +6,7 @@ use Rattle.router_trace.specs.declared.handle.Attachment.{Attachment}
 use Rattle.router_trace.specs.Trace.{Trace}
 use Rattle.router_trace.specs.Links.{Link, has_number, is_attached, numbered, place_of, attachments}
 use Rattle.router_trace.specs.Following.{link_of, is_drained, place_drained, owes_one, first_delivery, is_unsent_on}
-use Rattle.router_passing.specs.Asking.{has_unsent, owes_on, owes_drain}
+use Rattle.state_messages.specs.Asking.{has_unsent, owes_on, owes_drain}
 use Rattle.router_after.specs.Soonest.{IsSoonestOn, beats}
 use Rattle.router_after.specs.Draining.{drains_at}
 use Rattle.router_after.proofs.Numbered.{number_is, is_low, place_is, stands_there}

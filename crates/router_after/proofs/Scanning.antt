@@ -3,8 +3,8 @@ use Rattle.std.proofs.Common.{◌≡◌, ◌∙◌, ◌≤◌, ℕ, Bool, true, 
 use Rattle.std.specs.Prelude.{◌&&◌, ◌==◌, nat_lt}
 use Rattle.std.proofs.lemmas.Bool.{and_from, eqb-true}
 use Rattle.std.proofs.lemmas.Bool.Decides.{nat_tests}
-use Rattle.router_deliveries.specs.Finding.{IsFirst}
-use Rattle.router_deliveries.specs.Finding.{is_above}
+use Rattle.state_deliveries.specs.Finding.{IsFirst}
+use Rattle.state_deliveries.specs.Finding.{is_above}
 
 pub not_true : (b : Bool) → (b ≡ true → ⊥) → b ≡ false
 not_true true no_way = absurd (no_way refl)

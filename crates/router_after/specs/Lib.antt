@@ -3,4 +3,4 @@ pub mod Soonest
 pub mod Starting
 pub mod Draining
 pub use Rattle.router_trace.specs.Trace
-pub use Rattle.router_sessions.specs.Windows
+pub use Rattle.state_sessions.specs.Windows

@@ -2,7 +2,7 @@
 use Rattle.std.specs.Prelude.{◌≡◌, ℕ, Bool, true, false, not, ◌&&◌, ◌||◌, nat_lt, if◌then◌else◌, Option, Some, None}
 use Rattle.router_trace.specs.declared.handle.Attachment.{Attachment}
 use Rattle.router_trace.specs.Numbers.{is_before}
-use Rattle.router_deliveries.specs.Finding.{is_above}
+use Rattle.state_deliveries.specs.Finding.{is_above}
 use Rattle.router_after.specs.declared.candidate.Candidate.{Candidate}
 
 abbrev pub is_sooner : ℕ → Attachment → Candidate → Bool

@@ -4,7 +4,7 @@ ghost use Rattle.router_trace.specs.Trace.{Entry, goes};
 ghost use Rattle.router_trace.specs.Sessions.{session};
 ghost use Rattle.router_trace.specs.Following.{link_of, drain_on, drains_due};
 ghost use Rattle.router_state.specs.Tables.{TablesFit};
-ghost use Rattle.router_passing.specs.Asking.{owes_drain};
+ghost use Rattle.state_messages.specs.Asking.{owes_drain};
 ghost use Rattle.router_after.specs.Draining.{drains_at};
 ghost use Rattle.router_after.specs.Soonest.{IsSoonest, IsSoonestOn};
 

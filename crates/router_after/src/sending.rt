@@ -9,10 +9,10 @@ ghost use Rattle.router_after.specs.Starting.{places};
 
 use crate::candidate::{Candidate, sooner};
 use crate::waiting::first_on;
-use amqp_perf::Transfer;
-use router_deliveries::Delivery;
-use router_frames::{delivery_frame, first_transfer, later_transfer};
+use amqp_model::Transfer;
+use reply_frames::{delivery_frame, first_transfer, later_transfer};
 use router_state::State;
+use state_deliveries::Delivery;
 use std::alloc::AllocError;
 
 /// The longest frame that the router writes, in bytes.

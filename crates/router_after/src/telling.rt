@@ -3,11 +3,11 @@ ghost use Rattle.std.specs.Prelude.{◌≡◌, false, List, [], OnOk, IfOk};
 ghost use Rattle.router_trace.specs.Trace.{Entry, goes};
 ghost use Rattle.router_trace.specs.Deliveries.{delivery};
 ghost use Rattle.router_trace.specs.Following.{is_to_be_told, tell, tells};
-ghost use Rattle.router_deliveries.specs.Finding.{IsFirst};
+ghost use Rattle.state_deliveries.specs.Finding.{IsFirst};
 ghost use Rattle.router_state.specs.Tables.{TablesFit};
 
-use amqp_perf::Role;
-use router_frames::outcome_item;
+use amqp_model::Role;
+use reply_frames::outcome_item;
 use router_state::State;
 use std::alloc::AllocError;
 

@@ -2,7 +2,7 @@
 ghost use Rattle.std.specs.Prelude.{◌≡◌, List, IfOk};
 ghost use Rattle.router_trace.specs.Trace.{Entry};
 ghost use Rattle.router_trace.specs.Deliveries.{delivery};
-ghost use Rattle.router_deliveries.specs.Finding.{IsFirst};
+ghost use Rattle.state_deliveries.specs.Finding.{IsFirst};
 ghost use Rattle.router_state.specs.Tables.{TablesFit};
 ghost use Rattle.router_after.specs.Soonest.{IsSoonestOn};
 ghost use Rattle.router_after.specs.Starting.{is_same, goes_on_from, waits_at, starts_from, goes_from, places};

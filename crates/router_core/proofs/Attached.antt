@@ -1,15 +1,15 @@
 -- The frames of an attach that is taken or refused may be written in their order, and so may those of incoming deliveries and dispositions.
 use Rattle.std.proofs.Common.{◌≡◌, ◌∙◌, sym, ap, refl, true≢false, ℕ, Bool, true, false, not, List, [], ◌∷◌}
 use Rattle.std.specs.Prelude.{Option, Some, None, if◌then◌else◌, nat_lt}
-use Rattle.amqp_perf.specs.declared.perf.Attach.{Attach as AnAttach}
-use Rattle.amqp_perf.specs.declared.perf.Role.TheVariants.{Receiver}
-use Rattle.amqp_perf.specs.declared.state.DeliveryState.{DeliveryState}
-use Rattle.amqp_perf.specs.declared.state.DeliveryState.TheVariants as state
-use Rattle.amqp_frames.specs.declared.item.Item.{Item}
+use Rattle.amqp_model.specs.declared.perf.Attach.{Attach as AnAttach}
+use Rattle.amqp_model.specs.declared.perf.Role.TheVariants.{Receiver}
+use Rattle.amqp_model.specs.declared.state.DeliveryState.{DeliveryState}
+use Rattle.amqp_model.specs.declared.state.DeliveryState.TheVariants as state
+use Rattle.amqp_model.specs.declared.item.Item.{Item}
 use Rattle.amqp_link.specs.declared.part.Delivery.{Delivery as Told}
 use Rattle.amqp_link.specs.declared.part.Part.{Part}
 use Rattle.amqp_link.specs.declared.part.Part.TheVariants as part
-use Rattle.book_core.specs.declared.row.RowNumber.{RowNumber}
+use Rattle.book_model.specs.declared.row.RowNumber.{RowNumber}
 use Rattle.router_trace.specs.declared.condition.Condition.{Condition}
 use Rattle.router_trace.specs.declared.condition.Condition.TheVariants.{FrameSizeTooSmall, ResourceLimitExceeded, MessageSizeExceeded}
 use Rattle.router_trace.specs.declared.handle.Attachment.{Attachment}
@@ -22,9 +22,9 @@ use Rattle.router_trace.specs.Links.{link, if_attached, last_of_key, free_handle
 use Rattle.router_trace.specs.Order.{unwritten, of_session, has_turn}
 use Rattle.router_trace.specs.Peers.{largest_frame}
 use Rattle.router_trace.specs.Settling.{unbound}
-use Rattle.router_transfers.specs.Transfers.{claimed_id, lasts_on, consumer_for, let_go, unless_many, ignored_put, released_by, unbound_put, part_put, settled_answers}
+use Rattle.reply_transfers.specs.Transfers.{claimed_id, lasts_on, consumer_for, let_go, unless_many, ignored_put, released_by, unbound_put, part_put, settled_answers}
 use Rattle.router_reply.specs.Replies.{stolen_by, attach_answer, taken, refused}
-use Rattle.router_conns.proofs.Lists.{by_test}
+use Rattle.state_connections.proofs.Lists.{by_test}
 use Rattle.router_core.proofs.Flowing.{AllFit, IsQuiet, fit_both}
 use Rattle.router_core.proofs.Linked.{holder_linked}
 use Rattle.router_core.proofs.Ordered.{Ordered, wrote, written_all}

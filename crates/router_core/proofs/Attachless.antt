@@ -1,22 +1,22 @@
 -- Outgoing items that contain no attach: those of rows, heartbeats and flows. They begin no link.
 use Rattle.std.proofs.Common.{◌≡◌, ◌∙◌, sym, ap, refl, true≢false, ℕ, zero, suc, Bool, true, false, List, [], ◌∷◌, ◌++◌, append-nil}
 use Rattle.std.specs.Prelude.{◌==◌, ◌&&◌, nat_lt, if◌then◌else◌, filter, Option, Some, None, is_some, is_none}
-use Rattle.amqp_perf.specs.declared.perf.Disposition.{Disposition as ADisposition}
-use Rattle.amqp_perf.specs.declared.perf.Perf.{Perf}
-use Rattle.amqp_perf.specs.declared.perf.Perf.TheVariants as perf
-use Rattle.amqp_perf.specs.declared.perf.Role.TheVariants.{Receiver}
-use Rattle.amqp_perf.specs.declared.perf.Transfer.{Transfer}
-use Rattle.amqp_perf.specs.declared.state.DeliveryState.{DeliveryState}
-use Rattle.amqp_perf.specs.declared.state.DeliveryState.TheVariants as state
-use Rattle.amqp_frames.specs.declared.item.Item.{Item}
-use Rattle.amqp_frames.specs.declared.item.Item.TheVariants as item
+use Rattle.amqp_model.specs.declared.perf.Disposition.{Disposition as ADisposition}
+use Rattle.amqp_model.specs.declared.perf.Perf.{Perf}
+use Rattle.amqp_model.specs.declared.perf.Perf.TheVariants as perf
+use Rattle.amqp_model.specs.declared.perf.Role.TheVariants.{Receiver}
+use Rattle.amqp_model.specs.declared.perf.Transfer.{Transfer}
+use Rattle.amqp_model.specs.declared.state.DeliveryState.{DeliveryState}
+use Rattle.amqp_model.specs.declared.state.DeliveryState.TheVariants as state
+use Rattle.amqp_model.specs.declared.item.Item.{Item}
+use Rattle.amqp_model.specs.declared.item.Item.TheVariants as item
 use Rattle.amqp_conn.specs.declared.conn.Conn.{Conn}
 use Rattle.amqp_link.specs.declared.part.Delivery.{Delivery as Told}
 use Rattle.amqp_link.specs.declared.part.Part.{Part}
 use Rattle.amqp_link.specs.declared.part.Part.TheVariants as part
 use Rattle.amqp_session.specs.Session.{Session}
-use Rattle.book_core.specs.declared.row.RowNumber.{RowNumber}
-use Rattle.book_core.specs.Book.{BookView}
+use Rattle.book_model.specs.declared.row.RowNumber.{RowNumber}
+use Rattle.book_model.specs.Book.{BookView}
 use Rattle.router_trace.specs.declared.condition.Condition.{Condition}
 use Rattle.router_trace.specs.declared.condition.Condition.TheVariants.{NotAllowed, ResourceLimitExceeded, MessageSizeExceeded}
 use Rattle.router_trace.specs.declared.event.Event.{Event}
@@ -33,18 +33,18 @@ use Rattle.router_trace.specs.Deliveries.{named, terminal, last_of, tag_in}
 use Rattle.router_trace.specs.DeliveryFrames.{outcome_item}
 use Rattle.router_trace.specs.Settling.{ids_between, is_open_id, names_open, unbound, middle_on, part_on, part_in}
 use Rattle.router_trace.specs.Sessions.{session, theirs}
-use Rattle.router_sessions.specs.Windows.{is_narrow, flow_due, flows_below, windows_over, windows}
+use Rattle.state_sessions.specs.Windows.{is_narrow, flow_due, flows_below, windows_over, windows}
 use Rattle.router_state.specs.Tables.{beat_if, beats_over}
-use Rattle.router_rows.specs.declared.answer.Answer.{Answer}
-use Rattle.router_rows.specs.declared.answer.Answer.TheVariants.{Nothing, Header, Open, Close, CloseWith, Begin, End, Flow, Attach, Refuse, Detach, LinkFlow, Taken, Settle}
-use Rattle.router_rows.specs.Rows.{Finds, said, item_reply}
-use Rattle.router_rows.specs.Finding.{finds}
-use Rattle.router_rows.specs.Booking.{repeats, booked_transfer}
+use Rattle.reply_rows.specs.declared.answer.Answer.{Answer}
+use Rattle.reply_rows.specs.declared.answer.Answer.TheVariants.{Nothing, Header, Open, Close, CloseWith, Begin, End, Flow, Attach, Refuse, Detach, LinkFlow, Taken, Settle}
+use Rattle.reply_rows.specs.Rows.{Finds, said, item_reply}
+use Rattle.reply_rows.specs.Finding.{finds}
+use Rattle.reply_rows.specs.Booking.{repeats, booked_transfer}
 use Rattle.router_reply.specs.Acts.{answer_of, found_journal}
-use Rattle.router_transfers.specs.Transfers.{claimed_id, lasts_on, consumer_for, let_go, unless_many, ignored_put, released_by, unbound_put, part_put, settled_answers}
+use Rattle.reply_transfers.specs.Transfers.{claimed_id, lasts_on, consumer_for, let_go, unless_many, ignored_put, released_by, unbound_put, part_put, settled_answers}
 use Rattle.router_reply.specs.Replies.{closing_of, row_found, links_put, item_row, own_row}
-use Rattle.router_core.specs.Laws.{is_attach_in, is_attach, brings_attach}
-use Rattle.router_conns.proofs.Lists.{by_test, filter_none}
+use Rattle.router_core.specs.Attaches.{is_attach_in, is_attach, brings_attach}
+use Rattle.state_connections.proofs.Lists.{by_test, filter_none}
 use Rattle.router_core.proofs.Due.{goes_on_link, AllOnLinks}
 use Rattle.router_core.proofs.Linked.{link_was, linked_before, none_if}
 

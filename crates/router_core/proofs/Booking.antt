@@ -1,6 +1,6 @@
 -- The acts of an event: what doesn't look at them is as before them.
 use Rattle.std.proofs.Common.{◌≡◌, ◌∙◌, refl, false, List, ◌∷◌}
-use Rattle.book_core.specs.declared.act.Act.{Act}
+use Rattle.book_model.specs.declared.act.Act.{Act}
 use Rattle.router_trace.specs.declared.event.Event.{Event}
 use Rattle.router_trace.specs.Trace.{Entry, Booked}
 use Rattle.router_trace.specs.Connection.{due, phase_found}

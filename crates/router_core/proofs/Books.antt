@@ -1,12 +1,12 @@
 -- The book of a trace and its start depend on the events only, not on what is put out.
 use Rattle.std.proofs.Common.{◌≡◌, ◌∙◌, sym, ap, refl, subst, ℕ, List, [], ◌∷◌, Bool, true, false, ◌⊎◌, inl, inr}
 use Rattle.std.specs.Prelude.{Option, Some, None, not, ◌||◌}
-use Rattle.amqp_frames.specs.declared.item.Item.{Item}
+use Rattle.amqp_model.specs.declared.item.Item.{Item}
 use Rattle.amqp_conn.specs.declared.conn.Conn.{Conn}
-use Rattle.book_core.specs.declared.act.Act.{Act}
-use Rattle.book_core.specs.Book.{BookView, effects}
+use Rattle.book_model.specs.declared.act.Act.{Act}
+use Rattle.book_model.specs.Book.{BookView, effects}
 use Rattle.gate_journal.specs.Reserve.{reserve}
-use Rattle.router_store.specs.Store.{OpensTo, book_of, count_of, used_of, kept_of, used_behind, batches_behind, exceeds}
+use Rattle.journal_store.specs.Store.{OpensTo, book_of, count_of, used_of, kept_of, used_behind, batches_behind, exceeds}
 use Rattle.router_trace.specs.declared.binding.Binding.{Binding}
 use Rattle.router_trace.specs.declared.event.Event.{Event}
 use Rattle.router_trace.specs.declared.event.Event.TheVariants as event
@@ -16,14 +16,14 @@ use Rattle.router_trace.specs.Links.{free_handle, first_free_below}
 use Rattle.router_trace.specs.Sessions.{free_channel}
 use Rattle.router_trace.specs.Refusing.{refuses}
 use Rattle.router_trace.specs.declared.condition.Condition.TheVariants.{ResourceLimitExceeded}
-use Rattle.router_rows.specs.Booking.{answer_at}
+use Rattle.reply_rows.specs.Booking.{answer_at}
 use Rattle.router_reply.specs.Acts.{Journaled, live_answer, planned_acts, event_answer, finds_full, journaled, book_in, acts_of, book_behind, booked, answer_by, answer_to_event}
 use Rattle.router_reply.specs.Admitting.{admits, event_admission}
 use Rattle.router_reply.specs.Replies.{closing_of, ends, heard, bound_by, own_row, replied}
-use Rattle.router_passing.specs.Passing.{with_bound}
+use Rattle.state_messages.specs.Passing.{with_bound}
 use Rattle.router_state.specs.Tables.{TablesFit}
 use Rattle.router_core.specs.Replies.{answered, handled}
-use Rattle.router_core.specs.Turns.{is_start, is_started, is_out_of_turn, declines}
+use Rattle.core_machine.specs.Turns.{is_start, is_started, is_out_of_turn, declines}
 use Rattle.router_core.specs.Handling.{Journals, Fits, with_admission, BeforeOrBehind, kept_book, state_of}
 use Rattle.router_core.specs.declared.router.Core.{Core}
 use Rattle.router_core.proofs.Booking.{booked_same}

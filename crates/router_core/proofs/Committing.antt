@@ -1,23 +1,23 @@
 -- The acts of an event, as they are planned and written.
 use Rattle.std.proofs.Common.{◌≡◌, ◌∙◌, ap, refl, sym, subst, ℕ, List, [], ◌∷◌, Bool, true, false, ◌⊎◌, inl, inr}
 use Rattle.std.specs.Prelude.{Option, Some, None, IfSome}
-use Rattle.amqp_perf.specs.declared.perf.Perf.TheVariants as perf
-use Rattle.amqp_frames.specs.declared.item.Item.{Item}
-use Rattle.amqp_frames.specs.declared.item.Item.TheVariants as item
+use Rattle.amqp_model.specs.declared.perf.Perf.TheVariants as perf
+use Rattle.amqp_model.specs.declared.item.Item.{Item}
+use Rattle.amqp_model.specs.declared.item.Item.TheVariants as item
 use Rattle.amqp_conn.specs.declared.conn.Conn.{Conn}
-use Rattle.book_core.specs.declared.act.Act.{Act}
-use Rattle.book_core.specs.Book.{BookView}
-use Rattle.router_store.specs.Store.{exceeds}
+use Rattle.book_model.specs.declared.act.Act.{Act}
+use Rattle.book_model.specs.Book.{BookView}
+use Rattle.journal_store.specs.Store.{exceeds}
 use Rattle.router_trace.specs.declared.condition.Condition.{Condition}
 use Rattle.router_trace.specs.declared.event.Event.{Event}
 use Rattle.router_trace.specs.declared.event.Event.TheVariants as event
 use Rattle.router_trace.specs.Trace.{Entry}
 use Rattle.router_trace.specs.Connection.{due, standing, found}
-use Rattle.router_rows.specs.declared.answer.Answer.{Answer}
-use Rattle.router_rows.specs.declared.answer.Answer.TheVariants.{Taken, Attach}
-use Rattle.router_rows.specs.Booking.{attach_unless, booked_attach, booked as answer_booked}
-use Rattle.router_rows.specs.Finding.{finds}
-use Rattle.router_rows.specs.Rows.{item_reply}
+use Rattle.reply_rows.specs.declared.answer.Answer.{Answer}
+use Rattle.reply_rows.specs.declared.answer.Answer.TheVariants.{Taken, Attach}
+use Rattle.reply_rows.specs.Booking.{attach_unless, booked_attach, booked as answer_booked}
+use Rattle.reply_rows.specs.Finding.{finds}
+use Rattle.reply_rows.specs.Rows.{item_reply}
 use Rattle.router_reply.specs.Acts.{event_answer, live_answer, answer_acts, planned_acts, admitted_acts, or_admits, event_acts}
 use Rattle.router_reply.specs.Admitting.{taken_admission, unless_ends, event_admission, admits, without_acts}
 use Rattle.router_core.specs.Handling.{within, or_within, with_admission}

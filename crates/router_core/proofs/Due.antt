@@ -2,13 +2,13 @@
 -- attached link.
 use Rattle.std.proofs.Common.{◌≡◌, ◌∙◌, sym, ap, refl, subst, true≢false, ℕ, zero, suc, ◌+◌, Bool, true, false, not, ◌&&◌, ◌||◌, List, [], ◌∷◌}
 use Rattle.std.specs.Prelude.{◌==◌, Option, Some, None, not, is_some, is_none, option_map, if◌then◌else◌, take}
-use Rattle.amqp_perf.specs.declared.perf.Perf.{Perf}
-use Rattle.amqp_perf.specs.declared.perf.Perf.TheVariants as perf
-use Rattle.amqp_perf.specs.declared.perf.Transfer.{Transfer}
-use Rattle.amqp_perf.specs.declared.state.DeliveryState.{DeliveryState}
-use Rattle.amqp_frames.specs.declared.item.Item.{Item}
-use Rattle.amqp_frames.specs.declared.item.Item.TheVariants as item
-use Rattle.amqp_frames.specs.Room.{transfer_frame}
+use Rattle.amqp_model.specs.declared.perf.Perf.{Perf}
+use Rattle.amqp_model.specs.declared.perf.Perf.TheVariants as perf
+use Rattle.amqp_model.specs.declared.perf.Transfer.{Transfer}
+use Rattle.amqp_model.specs.declared.state.DeliveryState.{DeliveryState}
+use Rattle.amqp_model.specs.declared.item.Item.{Item}
+use Rattle.amqp_model.specs.declared.item.Item.TheVariants as item
+use Rattle.amqp_model.specs.Room.{transfer_frame}
 use Rattle.amqp_session.specs.Session.{Session}
 use Rattle.router_trace.specs.declared.binding.Origin.{Origin}
 use Rattle.router_trace.specs.declared.handle.Asked.{Asked}
@@ -23,8 +23,8 @@ use Rattle.router_trace.specs.Deliveries.{Delivery, has_row, delivery, bindings,
 use Rattle.router_trace.specs.DeliveryFrames.{first_transfer, later_transfer, with_more, part_frame, filled, next_frame, largest_out, rest_of}
 use Rattle.router_trace.specs.Numbers.{or_other, if_passes, first_below, Placed, is_before, or_better, first_placed}
 use Rattle.router_trace.specs.Following.{link_of, is_still_attached, is_to_be_told, outcome_to, tell, tells_of, tells, goes_on_at, is_going, has_credit, takes_more, can_start, is_wide, is_there, can_go, place_to_go, transfer_of, send, send_of, sends_due, drain_of, drain_on, drain_by, place_drained, drains_due}
-use Rattle.router_passing.specs.Passing.{grants_due}
-use Rattle.router_conns.proofs.Lists.{by_test}
+use Rattle.state_messages.specs.Passing.{grants_due}
+use Rattle.state_connections.proofs.Lists.{by_test}
 use Rattle.router_core.proofs.Granting.{AllGrants, all_grants}
 use Rattle.router_core.proofs.Linked.{numbered_some}
 

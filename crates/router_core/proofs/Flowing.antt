@@ -1,10 +1,10 @@
 -- Heartbeats and the flows of windows may be written in their order.
 use Rattle.std.proofs.Common.{◌≡◌, ◌∙◌, sym, ap, refl, subst, true≢false, ℕ, zero, suc, true, false, List, [], ◌∷◌, ◌++◌}
 use Rattle.std.specs.Prelude.{◌==◌, Option, Some, None, is_some, if◌then◌else◌}
-use Rattle.amqp_perf.specs.declared.perf.Perf.{Perf}
-use Rattle.amqp_perf.specs.declared.perf.Perf.TheVariants as perf
-use Rattle.amqp_frames.specs.declared.item.Item.{Item}
-use Rattle.amqp_frames.specs.declared.item.Item.TheVariants as item
+use Rattle.amqp_model.specs.declared.perf.Perf.{Perf}
+use Rattle.amqp_model.specs.declared.perf.Perf.TheVariants as perf
+use Rattle.amqp_model.specs.declared.item.Item.{Item}
+use Rattle.amqp_model.specs.declared.item.Item.TheVariants as item
 use Rattle.amqp_conn.specs.declared.conn.Conn.{Conn}
 use Rattle.amqp_session.specs.declared.states.BeginState.{BeginState}
 use Rattle.amqp_session.specs.Session.{Session}
@@ -15,11 +15,11 @@ use Rattle.router_trace.specs.Frames.{flow_item, beat_item, told_of}
 use Rattle.router_trace.specs.Sessions.{session}
 use Rattle.router_trace.specs.Clocks.{terms, written, needs_beat}
 use Rattle.router_trace.specs.Order.{Written, unwritten, begun_behind_perf, written_behind, is_open, has_turn}
-use Rattle.router_sessions.specs.Windows.{is_narrow, flow_due, flows_below, windows_over, windows}
+use Rattle.state_sessions.specs.Windows.{is_narrow, flow_due, flows_below, windows_over, windows}
 use Rattle.router_state.specs.Tables.{beat_if, beats_over}
 use Rattle.router_after.specs.After.{widened}
 use Rattle.router_core.specs.Moves.{outs}
-use Rattle.router_conns.proofs.Lists.{by_test}
+use Rattle.state_connections.proofs.Lists.{by_test}
 use Rattle.router_core.proofs.RowOrder.{written_of, perf_is_offered, IsOffered}
 use Rattle.router_core.proofs.Once.{filter_has, has_first, has_rest}
 use Rattle.router_core.proofs.Ordered.{Ordered, wrote, wrote_push, out_turns}

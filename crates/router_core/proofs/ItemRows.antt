@@ -2,24 +2,24 @@
 -- disposition causes.
 use Rattle.std.proofs.Common.{sym, subst, ℕ, Bool, List, [], ◌++◌, append-nil}
 use Rattle.std.specs.Prelude.{Option}
-use Rattle.amqp_perf.specs.declared.perf.Attach.{Attach as AnAttach}
-use Rattle.amqp_perf.specs.declared.perf.Disposition.{Disposition as ADisposition}
-use Rattle.amqp_perf.specs.declared.perf.Perf.{Perf}
-use Rattle.amqp_perf.specs.declared.perf.Perf.TheVariants as perf
-use Rattle.amqp_perf.specs.declared.perf.Transfer.{Transfer as ATransfer}
-use Rattle.amqp_perf.specs.declared.state.DeliveryState.{DeliveryState}
-use Rattle.amqp_frames.specs.declared.item.Item.{Item}
-use Rattle.amqp_frames.specs.declared.item.Item.TheVariants as item
+use Rattle.amqp_model.specs.declared.perf.Attach.{Attach as AnAttach}
+use Rattle.amqp_model.specs.declared.perf.Disposition.{Disposition as ADisposition}
+use Rattle.amqp_model.specs.declared.perf.Perf.{Perf}
+use Rattle.amqp_model.specs.declared.perf.Perf.TheVariants as perf
+use Rattle.amqp_model.specs.declared.perf.Transfer.{Transfer as ATransfer}
+use Rattle.amqp_model.specs.declared.state.DeliveryState.{DeliveryState}
+use Rattle.amqp_model.specs.declared.item.Item.{Item}
+use Rattle.amqp_model.specs.declared.item.Item.TheVariants as item
 use Rattle.amqp_conn.specs.declared.conn.Conn.{Conn}
 use Rattle.amqp_link.specs.declared.part.Part.{Part}
-use Rattle.book_core.specs.declared.row.RowNumber.{RowNumber}
+use Rattle.book_model.specs.declared.row.RowNumber.{RowNumber}
 use Rattle.router_trace.specs.declared.condition.Condition.{Condition}
 use Rattle.router_trace.specs.Trace.{Entry, Put, each_to}
 use Rattle.router_trace.specs.Peers.{largest_frame}
-use Rattle.router_rows.specs.declared.answer.Answer.{Answer}
-use Rattle.router_rows.specs.declared.answer.Answer.TheVariants.{Attach, Refuse, Taken, Settle}
-use Rattle.router_rows.specs.Rows.{said}
-use Rattle.router_transfers.specs.Transfers.{part_put, settled_answers}
+use Rattle.reply_rows.specs.declared.answer.Answer.{Answer}
+use Rattle.reply_rows.specs.declared.answer.Answer.TheVariants.{Attach, Refuse, Taken, Settle}
+use Rattle.reply_rows.specs.Rows.{said}
+use Rattle.reply_transfers.specs.Transfers.{part_put, settled_answers}
 use Rattle.router_reply.specs.Replies.{taken, refused, row_found, item_put}
 
 pub item_cases : (id : List ℕ) (t after : List Entry) (c : ℕ) (p : Conn) (P : Answer → List Put → Type 0)

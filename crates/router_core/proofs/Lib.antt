@@ -1,8 +1,6 @@
 pub mod RunLemmas
 pub mod Moves
 pub mod Coming
-pub mod OnlyHeaders
-pub mod WhoPasses
 pub mod Once
 pub mod Linked
 pub mod RowOrder
@@ -10,6 +8,7 @@ pub mod ItemRows
 pub mod Following
 pub mod Booking
 pub mod Books
+pub mod Machines
 pub mod Moments
 pub mod Committing
 pub mod Remains
@@ -24,22 +23,5 @@ pub mod Order
 pub mod Replied
 pub mod Attachless
 pub mod Lively
-pub mod Headed
-pub mod Kept
-pub mod Starting
-pub mod Untaken
-pub mod UntakenLinks
-pub mod UntakenDeliveries
-pub mod UntakenGrants
-pub mod UntakenPassed
-pub mod UntakenRows
-pub mod UntakenActs
-pub mod Plain
-pub mod Takes
-pub mod Mine
-pub mod MineLinks
-pub mod Idle
-pub mod Only
-pub mod Settling
-pub mod Apart
+pub mod Holding
 mod Preparing

@@ -2,10 +2,10 @@
 use Rattle.std.proofs.Common.{◌≡◌, sym, refl, subst, true≢false, ℕ, Bool, true, false, not, List}
 use Rattle.std.specs.Prelude.{◌==◌, Option, Some, None, is_some, option_map, if◌then◌else◌}
 use Rattle.std.proofs.lemmas.Bool.{eqb-true}
-use Rattle.amqp_perf.specs.declared.perf.Perf.{Perf}
-use Rattle.amqp_perf.specs.declared.perf.Perf.TheVariants as perf
-use Rattle.amqp_frames.specs.declared.item.Item.{Item}
-use Rattle.amqp_frames.specs.declared.item.Item.TheVariants as item
+use Rattle.amqp_model.specs.declared.perf.Perf.{Perf}
+use Rattle.amqp_model.specs.declared.perf.Perf.TheVariants as perf
+use Rattle.amqp_model.specs.declared.item.Item.{Item}
+use Rattle.amqp_model.specs.declared.item.Item.TheVariants as item
 use Rattle.router_trace.specs.declared.channel.PeerChannel.{PeerChannel}
 use Rattle.router_trace.specs.declared.event.Event.{Event}
 use Rattle.router_trace.specs.declared.event.Event.TheVariants as event
@@ -17,8 +17,8 @@ use Rattle.router_trace.specs.Connection.{behind_perf}
 use Rattle.router_trace.specs.Sessions.{maps}
 use Rattle.router_trace.specs.Links.{Link, link, link_in, link_behind, heard_link, link_by, link_at, has_number, is_attached, if_attached, key_at}
 use Rattle.router_trace.specs.Order.{Written, begun_behind_perf, written_behind, is_open, of_session, perf_has_turn, has_turn}
-use Rattle.router_core.specs.Laws.{is_attach_in, is_attach}
-use Rattle.router_conns.proofs.Lists.{by_test}
+use Rattle.router_core.specs.Attaches.{is_attach_in, is_attach}
+use Rattle.state_connections.proofs.Lists.{by_test}
 use Rattle.router_core.proofs.RowOrder.{written_of}
 
 mapped_was : (q : Bool) (f : Link → Link) (v : Option Link) → is_some (if q then option_map f v else v) ≡ true → is_some v ≡ true

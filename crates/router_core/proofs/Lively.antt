@@ -2,11 +2,11 @@
 use Rattle.std.proofs.Common.{◌≡◌, ◌∙◌, sym, ap, refl, subst, true≢false, ℕ, Bool, true, false, not, List, [], ◌∷◌}
 use Rattle.std.specs.Prelude.{◌==◌, nat_eq, Option, Some, None, is_some, option_map, option_and_then, if◌then◌else◌}
 use Rattle.std.proofs.lemmas.Bool.{eqb-true, eq-eqb}
-use Rattle.amqp_perf.specs.declared.perf.Attach.{Attach as AnAttach}
-use Rattle.amqp_perf.specs.declared.perf.Perf.{Perf}
-use Rattle.amqp_perf.specs.declared.perf.Perf.TheVariants as perf
-use Rattle.amqp_frames.specs.declared.item.Item.{Item}
-use Rattle.amqp_frames.specs.declared.item.Item.TheVariants as item
+use Rattle.amqp_model.specs.declared.perf.Attach.{Attach as AnAttach}
+use Rattle.amqp_model.specs.declared.perf.Perf.{Perf}
+use Rattle.amqp_model.specs.declared.perf.Perf.TheVariants as perf
+use Rattle.amqp_model.specs.declared.item.Item.{Item}
+use Rattle.amqp_model.specs.declared.item.Item.TheVariants as item
 use Rattle.amqp_conn.specs.declared.conn.Conn.{Conn}
 use Rattle.router_trace.specs.declared.binding.Binding.{Binding}
 use Rattle.router_trace.specs.declared.condition.Condition.{Condition}
@@ -26,14 +26,14 @@ use Rattle.router_trace.specs.Links.{Link, link, link_behind, key_at, their_hand
 use Rattle.router_trace.specs.Peers.{largest_frame}
 use Rattle.router_trace.specs.Sessions.{theirs}
 use Rattle.router_trace.specs.Following.{tells, sends_due, drains_due}
-use Rattle.router_sessions.specs.Windows.{windows}
-use Rattle.router_passing.specs.Passing.{grants_due, with_bound}
-use Rattle.router_rows.specs.Rows.{said}
+use Rattle.state_sessions.specs.Windows.{windows}
+use Rattle.state_messages.specs.Passing.{grants_due, with_bound}
+use Rattle.reply_rows.specs.Rows.{said}
 use Rattle.router_reply.specs.Acts.{answer_of}
 use Rattle.router_reply.specs.Replies.{closing_of, ends, heard, stolen_by, attach_answer, taken_behind, taken, refused, bound_by, item_row, own_row, replied}
 use Rattle.router_core.specs.Replies.{answered}
-use Rattle.router_core.specs.Laws.{is_attach}
-use Rattle.router_conns.proofs.Lists.{by_test}
+use Rattle.router_core.specs.Attaches.{is_attach}
+use Rattle.state_connections.proofs.Lists.{by_test}
 use Rattle.router_core.proofs.Attached.{session_known}
 use Rattle.router_core.proofs.Attachless.{Attachless, Unlinked, unlinked_goes, less_closing_of, less_said, less_part, less_settled, on_less, less_row, less_windows}
 use Rattle.router_core.proofs.Due.{tells_on, sends_on, drains_on, grants_on}

@@ -2,10 +2,10 @@
 use Rattle.std.proofs.Common.{◌≡◌, subst, ℕ, List, ◌⊎◌, inl}
 use Rattle.disk_core.specs.Disk.{LeavesOnly}
 use Rattle.disk_core.specs.DiskLaws.{widened}
-use Rattle.book_core.specs.declared.act.Act.{Act}
-use Rattle.book_core.specs.Book.{BookView, effects}
-use Rattle.router_store.specs.Store.{OpensTo, Stands, disk_of}
-use Rattle.router_store.proofs.Moments.{unmoved}
+use Rattle.book_model.specs.declared.act.Act.{Act}
+use Rattle.book_model.specs.Book.{BookView, effects}
+use Rattle.journal_store.specs.Store.{OpensTo, Stands, disk_of}
+use Rattle.journal_store.proofs.Moments.{unmoved}
 use Rattle.router_trace.specs.declared.event.Event.{Event}
 use Rattle.router_trace.specs.Trace.{Entry}
 use Rattle.router_reply.specs.Acts.{acts_of}

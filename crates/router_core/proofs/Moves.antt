@@ -7,8 +7,10 @@ use Rattle.router_core.specs.declared.driving.Sent.{Sent}
 use Rattle.router_trace.specs.Trace.{Entry, step_of}
 use Rattle.router_trace.specs.Refusing.{refuses}
 use Rattle.router_core.specs.Replies.{handled}
-use Rattle.router_core.specs.Runs.{Taking, took_one, took_all, MayStep, Run}
-use Rattle.router_core.specs.Moves.{Move, handles, takes, Goes, IsTrace}
+use Rattle.router_core.specs.Runs.{took_all, MayStep, Run}
+use Rattle.core_machine.specs.Moves.{Taking, took_one}
+use Rattle.router_core.specs.Moves.{Goes, IsTrace}
+use Rattle.core_machine.specs.Moves.{Move, handles, takes}
 use Rattle.router_core.proofs.Books.{not_refused}
 
 -- moves, then more of them

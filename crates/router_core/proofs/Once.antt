@@ -4,7 +4,7 @@ use Rattle.std.specs.Prelude.{nat_eq, filter, Option, Some, None}
 use Rattle.std.proofs.lemmas.Bool.{eqb-true, eq-eqb, ltb-true, leb-true}
 use Rattle.router_trace.specs.Connection.{has}
 use Rattle.router_trace.specs.Refusing.{reaches, rises}
-use Rattle.router_conns.proofs.Lists.{by_test, from_push}
+use Rattle.state_connections.proofs.Lists.{by_test, from_push}
 
 -- a number that rises didn't come up before
 pub rises_apart : (c : ℕ) (last : Option ℕ) → rises c last ≡ true → reaches c last ≡ true → ⊥

@@ -2,11 +2,11 @@
 use Rattle.std.proofs.Common.{◌≡◌, ◌∙◌, sym, ap, refl, subst, true≢false, ℕ, Bool, true, false, not, ◌≤◌, List, [], ◌∷◌, ◌++◌, drop, arith}
 use Rattle.std.specs.Prelude.{◌==◌, Option, Some, None, is_some, option_map, option_and_then, if◌then◌else◌, length}
 use Rattle.std.proofs.lemmas.Bool.{eqb-true, le-leb}
-use Rattle.amqp_frames.specs.declared.item.Item.{Item}
-use Rattle.amqp_frames.specs.declared.item.Item.TheVariants as item
+use Rattle.amqp_model.specs.declared.item.Item.{Item}
+use Rattle.amqp_model.specs.declared.item.Item.TheVariants as item
 use Rattle.amqp_conn.specs.declared.conn.Conn.{Conn}
 use Rattle.amqp_session.specs.Session.{Session}
-use Rattle.book_core.specs.declared.act.Act.{Act}
+use Rattle.book_model.specs.declared.act.Act.{Act}
 use Rattle.router_trace.specs.Trace.{Beginning}
 use Rattle.router_trace.specs.Configuration.{beginning}
 use Rattle.router_trace.specs.declared.channel.PeerChannel.{PeerChannel}
@@ -21,8 +21,8 @@ use Rattle.router_trace.specs.Links.{link, their_handle}
 use Rattle.router_reply.specs.Replies.{heard}
 use Rattle.router_core.specs.Moves.{outs}
 use Rattle.router_trace.specs.Order.{unwritten}
-use Rattle.router_conns.proofs.Lists.{by_test, has_push, from_push}
-use Rattle.router_conns.proofs.Turns.{reach_up}
+use Rattle.state_connections.proofs.Lists.{by_test, has_push, from_push}
+use Rattle.state_connections.proofs.Turns.{reach_up}
 use Rattle.router_core.proofs.RowOrder.{phase_is}
 use Rattle.router_core.proofs.Once.{NoTwice, filter_has, no_twice_filter, no_twice_push, rises_apart, taken_up}
 use Rattle.router_core.proofs.Linked.{linked_before}

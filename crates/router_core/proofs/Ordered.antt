@@ -2,11 +2,11 @@
 use Rattle.std.proofs.Common.{◌≡◌, ◌∙◌, sym, ap, refl, subst, true≢false, ℕ, Bool, true, false, ◌&&◌, List, [], ◌∷◌, ◌++◌}
 use Rattle.std.specs.Prelude.{◌==◌, nat_eq, Option, Some, None, is_some, option_map, if◌then◌else◌}
 use Rattle.std.proofs.lemmas.Bool.{eqb-true, eq-eqb}
-use Rattle.amqp_perf.specs.declared.perf.Perf.{Perf}
-use Rattle.amqp_perf.specs.declared.perf.Perf.TheVariants as perf
-use Rattle.amqp_perf.specs.declared.perf.Begin.{Begin}
-use Rattle.amqp_frames.specs.declared.item.Item.{Item}
-use Rattle.amqp_frames.specs.declared.item.Item.TheVariants as item
+use Rattle.amqp_model.specs.declared.perf.Perf.{Perf}
+use Rattle.amqp_model.specs.declared.perf.Perf.TheVariants as perf
+use Rattle.amqp_model.specs.declared.perf.Begin.{Begin}
+use Rattle.amqp_model.specs.declared.item.Item.{Item}
+use Rattle.amqp_model.specs.declared.item.Item.TheVariants as item
 use Rattle.amqp_conn.specs.declared.conn.Conn.{Conn}
 use Rattle.amqp_session.specs.declared.states.BeginState.{BeginState}
 use Rattle.amqp_session.specs.Session.{Session}
@@ -25,11 +25,11 @@ use Rattle.router_trace.specs.Links.{link}
 use Rattle.router_trace.specs.Deliveries.{named, stands_on}
 use Rattle.router_trace.specs.Claims.{Claim, bind_claim, bound_claim, claims}
 use Rattle.router_trace.specs.Order.{Written, unwritten, begun_behind_perf, begun_behind, written_behind, is_open, of_session, perf_has_turn, has_turn, have_turns}
-use Rattle.router_passing.specs.Passing.{with_bound}
+use Rattle.state_messages.specs.Passing.{with_bound}
 use Rattle.router_reply.specs.Replies.{closing_of, ends}
 use Rattle.router_core.specs.Moves.{outs}
-use Rattle.router_conns.proofs.Lists.{by_test}
-use Rattle.router_conns.proofs.Turns.{stays, known}
+use Rattle.state_connections.proofs.Lists.{by_test}
+use Rattle.state_connections.proofs.Turns.{stays, known}
 use Rattle.router_core.proofs.RowOrder.{open_phase, written_of, closing_turns, closing_offered, perf_is_offered, IsOffered, AreOffered}
 use Rattle.router_core.proofs.Linked.{linked_more}
 use Rattle.router_core.proofs.Once.{NoTwice, neither, has_first, has_rest}

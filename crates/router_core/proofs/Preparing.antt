@@ -2,27 +2,27 @@
 use Rattle.std.proofs.Common.{◌≡◌, ◌∙◌, ap, refl, sym, subst, ℕ, List, [], ◌∷◌, length, Bool, true, arith}
 use Rattle.std.specs.Prelude.{Option, Some, None, ◌==◌}
 use Rattle.std.proofs.lemmas.Bool.Decides.{nat_tests}
-use Rattle.amqp_frames.specs.declared.item.Item.{Item}
+use Rattle.amqp_model.specs.declared.item.Item.{Item}
 use Rattle.amqp_conn.specs.declared.conn.Conn.{Conn}
-use Rattle.book_core.specs.declared.act.Act.{Act}
-use Rattle.book_core.specs.declared.act.Admission.{Admission}
-use Rattle.book_core.specs.declared.act.Decision.{Decision}
-use Rattle.book_core.specs.declared.row.RowNumber.{RowNumber}
-use Rattle.book_core.specs.Book.{BookView}
-use Rattle.router_store.specs.declared.acting.TerminusAct.{TerminusAct}
-use Rattle.router_store.specs.Acting.{event_acts as settled_acts}
-use Rattle.router_store.specs.Store.{used_of, kept_of}
+use Rattle.book_model.specs.declared.act.Act.{Act}
+use Rattle.book_model.specs.declared.act.Admission.{Admission}
+use Rattle.book_model.specs.declared.act.Decision.{Decision}
+use Rattle.book_model.specs.declared.row.RowNumber.{RowNumber}
+use Rattle.book_model.specs.Book.{BookView}
+use Rattle.journal_store.specs.declared.acting.TerminusAct.{TerminusAct}
+use Rattle.journal_store.specs.Acting.{event_acts as settled_acts}
+use Rattle.journal_store.specs.Store.{used_of, kept_of}
 use Rattle.router_trace.specs.declared.event.ConnectionId.{ConnectionId}
 use Rattle.router_trace.specs.declared.event.Event.{Event}
 use Rattle.router_trace.specs.declared.event.Event.TheVariants as event
 use Rattle.router_trace.specs.Trace.{Entry}
 use Rattle.router_trace.specs.Connection.{due, standing, found}
 use Rattle.router_trace.specs.Sessions.{theirs, maps}
-use Rattle.router_links.specs.Fits.{channel_of}
-use Rattle.router_rows.specs.declared.answer.Answer.{Answer}
-use Rattle.router_rows.specs.declared.answer.Answer.TheVariants.{Taken}
-use Rattle.router_rows.specs.Booking.{answer_at}
-use Rattle.router_rows.proofs.Mapped.{IsHere, answer_here}
+use Rattle.state_links.specs.Fits.{channel_of}
+use Rattle.reply_rows.specs.declared.answer.Answer.{Answer}
+use Rattle.reply_rows.specs.declared.answer.Answer.TheVariants.{Taken}
+use Rattle.reply_rows.specs.Booking.{answer_at}
+use Rattle.reply_rows.proofs.Mapped.{IsHere, answer_here}
 use Rattle.router_reply.specs.declared.heard.Heard.{Heard}
 use Rattle.router_reply.specs.Acts.{event_answer, live_answer, answer_acts, planned_acts, acts_of}
 use Rattle.router_reply.specs.Admitting.{answer_admission, taken_admission, part_admission, unless_ends, event_admission, admits, without_acts}

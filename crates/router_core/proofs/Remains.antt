@@ -2,9 +2,9 @@
 use Rattle.std.proofs.Common.{◌≡◌, refl, ℕ, List, [], ◌∷◌, ◌++◌, inl, inr, ⊎_elim}
 use Rattle.disk_core.specs.Disk.{LeavesOnly}
 use Rattle.disk_core.specs.DiskLaws.{widened, joined}
-use Rattle.book_core.specs.Book.{BookView}
-use Rattle.router_store.specs.Store.{Stands, disk_of}
-use Rattle.router_store.proofs.Moments.{unmoved}
+use Rattle.book_model.specs.Book.{BookView}
+use Rattle.journal_store.specs.Store.{Stands, disk_of}
+use Rattle.journal_store.proofs.Moments.{unmoved}
 use Rattle.router_trace.specs.declared.event.Event.{Event}
 use Rattle.router_trace.specs.Trace.{Entry}
 use Rattle.router_reply.specs.Acts.{book_in, book_behind}

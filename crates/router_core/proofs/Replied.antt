@@ -2,10 +2,10 @@
 use Rattle.std.proofs.Common.{◌≡◌, ◌∙◌, sym, ap, refl, subst, true≢false, ℕ, Bool, true, false, not, List, [], ◌∷◌, inl, inr}
 use Rattle.std.specs.Prelude.{◌==◌, ◌⊎◌, Option, Some, None, is_some, option_map, if◌then◌else◌}
 use Rattle.std.proofs.lemmas.Bool.{eqb-true, eq-eqb}
-use Rattle.amqp_perf.specs.declared.perf.Perf.{Perf}
-use Rattle.amqp_perf.specs.declared.perf.Perf.TheVariants as perf
-use Rattle.amqp_frames.specs.declared.item.Item.{Item}
-use Rattle.amqp_frames.specs.declared.item.Item.TheVariants as item
+use Rattle.amqp_model.specs.declared.perf.Perf.{Perf}
+use Rattle.amqp_model.specs.declared.perf.Perf.TheVariants as perf
+use Rattle.amqp_model.specs.declared.item.Item.{Item}
+use Rattle.amqp_model.specs.declared.item.Item.TheVariants as item
 use Rattle.amqp_conn.specs.declared.conn.Conn.{Conn}
 use Rattle.amqp_session.specs.declared.states.BeginState.{BeginState}
 use Rattle.router_trace.specs.declared.terms.Terms.{Terms}
@@ -22,15 +22,15 @@ use Rattle.router_trace.specs.Sessions.{session, offered, offered_by, theirs}
 use Rattle.router_trace.specs.Clocks.{terms, terms_in, terms_by, channel_max_of}
 use Rattle.router_trace.specs.Order.{Written, unwritten, is_open, of_session, have_turns}
 use Rattle.router_state.specs.Tables.{beats}
-use Rattle.router_passing.specs.Passing.{with_bound}
-use Rattle.router_rows.specs.declared.answer.Answer.{Answer}
-use Rattle.router_rows.specs.Rows.{said}
+use Rattle.state_messages.specs.Passing.{with_bound}
+use Rattle.reply_rows.specs.declared.answer.Answer.{Answer}
+use Rattle.reply_rows.specs.Rows.{said}
 use Rattle.router_reply.specs.Acts.{answer_of}
-use Rattle.router_transfers.specs.Transfers.{part_put, settled_answers}
+use Rattle.reply_transfers.specs.Transfers.{part_put, settled_answers}
 use Rattle.router_reply.specs.Replies.{heard, taken, refused, bound_by, item_row, own_row, replied}
 use Rattle.router_core.specs.Replies.{answered}
-use Rattle.router_conns.proofs.Lists.{by_test, has_push}
-use Rattle.router_conns.proofs.Turns.{known}
+use Rattle.state_connections.proofs.Lists.{by_test, has_push}
+use Rattle.state_connections.proofs.Turns.{known}
 use Rattle.router_core.proofs.RowOrder.{written_of, AreOffered, AnswerFits, answer_fits, place_fits, free_fits, said_turns, said_offered, Opens, open_opens}
 use Rattle.router_core.proofs.Once.{filter_has, taken_up}
 use Rattle.router_core.proofs.Ordered.{Ordered, Spares, wrote, written_all, puts_turns, bound_turns, bound_ups, spares_on, bound_spares, ends_spares, ends_ups, goes_ups, some_is}

@@ -2,22 +2,22 @@
 use Rattle.std.proofs.Common.{◌≡◌, ◌∙◌, sym, ap, refl, subst, ℕ, Bool, true, false, List, [], ◌∷◌}
 use Rattle.std.specs.Prelude.{◌&&◌, nat_lt, nat_le, nat_eq, if◌then◌else◌, is_some, is_none, length, Option, Some, None, Result, Ok, Err}
 use Rattle.std.specs.List.{find}
-use Rattle.amqp_perf.specs.declared.perf.Attach.{Attach as AnAttach}
-use Rattle.amqp_perf.specs.declared.perf.Begin.{Begin as ABegin}
-use Rattle.amqp_perf.specs.declared.perf.Detach.{Detach as ADetach}
-use Rattle.amqp_perf.specs.declared.perf.Disposition.{Disposition as ADisposition}
-use Rattle.amqp_perf.specs.declared.perf.Transfer.{Transfer as ATransfer}
-use Rattle.amqp_perf.specs.declared.perf.Flow.{Flow as AFlow}
-use Rattle.amqp_perf.specs.declared.perf.Open.{Open as AnOpen}
-use Rattle.amqp_perf.specs.declared.perf.Perf.{Perf}
-use Rattle.amqp_perf.specs.declared.perf.Perf.TheVariants as perf
-use Rattle.amqp_frames.specs.declared.item.Item.{Item}
-use Rattle.amqp_frames.specs.declared.item.Item.TheVariants as item
+use Rattle.amqp_model.specs.declared.perf.Attach.{Attach as AnAttach}
+use Rattle.amqp_model.specs.declared.perf.Begin.{Begin as ABegin}
+use Rattle.amqp_model.specs.declared.perf.Detach.{Detach as ADetach}
+use Rattle.amqp_model.specs.declared.perf.Disposition.{Disposition as ADisposition}
+use Rattle.amqp_model.specs.declared.perf.Transfer.{Transfer as ATransfer}
+use Rattle.amqp_model.specs.declared.perf.Flow.{Flow as AFlow}
+use Rattle.amqp_model.specs.declared.perf.Open.{Open as AnOpen}
+use Rattle.amqp_model.specs.declared.perf.Perf.{Perf}
+use Rattle.amqp_model.specs.declared.perf.Perf.TheVariants as perf
+use Rattle.amqp_model.specs.declared.item.Item.{Item}
+use Rattle.amqp_model.specs.declared.item.Item.TheVariants as item
 use Rattle.amqp_conn.specs.declared.conn.Conn.{Conn}
 use Rattle.amqp_conn.specs.declared.fault.ConnFault.{ConnFault}
 use Rattle.amqp_conn.specs.declared.fault.ConnFault.TheVariants.{ChannelTooHigh}
 use Rattle.amqp_conn.specs.Phase.{frame_in_turn, open_in_turn}
-use Rattle.book_core.specs.Book.{BookView}
+use Rattle.book_model.specs.Book.{BookView}
 use Rattle.amqp_session.specs.declared.states.BeginState.{BeginState}
 use Rattle.amqp_session.specs.Session.{Session, TheirFlow, allowance}
 use Rattle.router_trace.specs.declared.channel.PeerChannel.{PeerChannel}
@@ -32,13 +32,13 @@ use Rattle.router_trace.specs.Trace.{Entry}
 use Rattle.router_trace.specs.Frames.{closing}
 use Rattle.router_trace.specs.Order.{Written, have_turns}
 use Rattle.router_trace.specs.Sessions.{Place, nowhere, ending, on, on_session, place_by, session, is_free, free_channel, channels, offered_by, unless_close, begin_state, flow_state}
-use Rattle.router_conns.proofs.Lists.{by_test}
-use Rattle.router_rows.specs.declared.answer.Answer.{Answer}
-use Rattle.router_rows.specs.declared.answer.Answer.TheVariants.{Nothing, Header, Open, Close, CloseWith, Begin, End, Flow, Attach, Refuse, Detach, LinkFlow, Taken, Settle}
-use Rattle.router_rows.specs.Rows.{Finds, Links, said, header_reply, open_by, open_reply, begin_by, begin_reply, end_reply, echo, flow_on, flow_reply, attach_reply, transfer_reply, detach_reply, disposition_reply, close_by, close_reply, in_turn, turn_by, perf_reply, item_reply}
-use Rattle.router_rows.specs.LinkRows.{is_multicast_link, refusal, attach_or, attach_at, session_attach_reply, session_detach_reply, link_echo, is_reached, detach_for, link_flow_reply, is_anonymous, asks, is_among, start_on, delivery_by, delivery_on, link_transfer_reply, is_unattached, session_transfer_reply, flow_on as link_flow_on}
-use Rattle.router_rows.specs.Finding.{finds}
-use Rattle.router_rows.specs.Booking.{attach_unless, booked_attach, repeats, booked_transfer, booked_perf, booked, book_refusal}
+use Rattle.state_connections.proofs.Lists.{by_test}
+use Rattle.reply_rows.specs.declared.answer.Answer.{Answer}
+use Rattle.reply_rows.specs.declared.answer.Answer.TheVariants.{Nothing, Header, Open, Close, CloseWith, Begin, End, Flow, Attach, Refuse, Detach, LinkFlow, Taken, Settle}
+use Rattle.reply_rows.specs.Rows.{Finds, Links, said, header_reply, open_by, open_reply, begin_by, begin_reply, end_reply, echo, flow_on, flow_reply, attach_reply, transfer_reply, detach_reply, disposition_reply, close_by, close_reply, in_turn, turn_by, perf_reply, item_reply}
+use Rattle.reply_rows.specs.LinkRows.{is_multicast_link, refusal, attach_or, attach_at, session_attach_reply, session_detach_reply, link_echo, is_reached, detach_for, link_flow_reply, is_anonymous, asks, is_among, start_on, delivery_by, delivery_on, link_transfer_reply, is_unattached, session_transfer_reply, flow_on as link_flow_on}
+use Rattle.reply_rows.specs.Finding.{finds}
+use Rattle.reply_rows.specs.Booking.{attach_unless, booked_attach, repeats, booked_transfer, booked_perf, booked, book_refusal}
 use Rattle.router_reply.specs.Acts.{found_journal, full_at, answer_of}
 use Rattle.amqp_link.specs.Receiving.{delivery_count, unused}
 use Rattle.router_trace.specs.Links.{link, link_place, durable_key, free_handle, LinkPlace, nowhere as no_link, detaching, on as on_link, Happened, sends, receives}

@@ -2,10 +2,10 @@
 use Rattle.std.proofs.Common.{◌≡◌, ◌∙◌, sym, ap, refl, subst, true≢false, ℕ, Bool, true, false, List, [], ◌∷◌}
 use Rattle.std.specs.Prelude.{◌==◌, Option, Some, None, is_some, if◌then◌else◌}
 use Rattle.std.proofs.lemmas.Bool.{eq-eqb}
-use Rattle.amqp_perf.specs.declared.perf.Perf.{Perf}
-use Rattle.amqp_perf.specs.declared.perf.Perf.TheVariants as perf
-use Rattle.amqp_frames.specs.declared.item.Item.{Item}
-use Rattle.amqp_frames.specs.declared.item.Item.TheVariants as item
+use Rattle.amqp_model.specs.declared.perf.Perf.{Perf}
+use Rattle.amqp_model.specs.declared.perf.Perf.TheVariants as perf
+use Rattle.amqp_model.specs.declared.item.Item.{Item}
+use Rattle.amqp_model.specs.declared.item.Item.TheVariants as item
 use Rattle.amqp_conn.specs.declared.conn.Conn.{Conn}
 use Rattle.router_trace.specs.declared.binding.Binding.{Binding}
 use Rattle.router_trace.specs.declared.condition.Condition.{Condition}
@@ -16,13 +16,13 @@ use Rattle.router_trace.specs.Connection.{Connection, conn, behind, behind_perf,
 use Rattle.router_trace.specs.Frames.{open_item, close_item}
 use Rattle.router_trace.specs.Sessions.{unless_close, unless_close_in}
 use Rattle.router_trace.specs.Clocks.{terms}
-use Rattle.router_rows.specs.declared.answer.Answer.{Answer}
-use Rattle.router_rows.specs.declared.answer.Answer.TheVariants as answer
-use Rattle.router_passing.specs.Passing.{with_bound}
-use Rattle.router_rows.specs.Rows.{said}
+use Rattle.reply_rows.specs.declared.answer.Answer.{Answer}
+use Rattle.reply_rows.specs.declared.answer.Answer.TheVariants as answer
+use Rattle.state_messages.specs.Passing.{with_bound}
+use Rattle.reply_rows.specs.Rows.{said}
 use Rattle.router_reply.specs.Replies.{closing_of, ends}
-use Rattle.router_conns.proofs.Lists.{by_test}
-use Rattle.router_conns.proofs.Turns.{stays}
+use Rattle.state_connections.proofs.Lists.{by_test}
+use Rattle.state_connections.proofs.Turns.{stays}
 use Rattle.router_core.proofs.RowOrder.{Opens}
 use Rattle.router_core.proofs.Ordered.{with_inv}
 

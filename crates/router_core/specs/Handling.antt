@@ -1,28 +1,27 @@
 -- The router as a whole against a trace.
-use Rattle.std.specs.Prelude.{◌≡◌, ◌⊎◌, ℕ, Bool, true, false, if◌then◌else◌, List, [], ◌∷◌, Option, Some, None}
-use Rattle.book_core.specs.declared.act.Act.{Act}
-use Rattle.book_core.specs.Book.{BookView}
-use Rattle.router_store.specs.declared.store.Store.{Store}
+use Rattle.std.specs.Prelude.{◌≡◌, ◌⊎◌, ℕ, Bool, true, false, if◌then◌else◌, List, [], ◌∷◌, Option}
+use Rattle.book_model.specs.declared.act.Act.{Act}
+use Rattle.book_model.specs.Book.{BookView}
+use Rattle.journal_store.specs.declared.store.Store.{Store}
 use Rattle.gate_journal.specs.Reserve.{reserve}
-use Rattle.router_store.specs.Store.{OpensTo, book_of, count_of, used_of, kept_of, exceeds}
+use Rattle.journal_store.specs.Store.{OpensTo, book_of, count_of, used_of, kept_of, exceeds}
 use Rattle.router_core.specs.declared.router.Core.{Core}
-use Rattle.router_core.specs.declared.router.Batch.{Batch}
-use Rattle.router_counts.specs.declared.counts.Counts.{Counts}
+use Rattle.core_machine.specs.declared.counts.Counts.{Counts}
 use Rattle.amqp_conn.specs.declared.conn.Conn.{Conn}
 use Rattle.router_trace.specs.declared.event.Event.{Event}
 use Rattle.router_trace.specs.declared.event.Event.TheVariants as event
 use Rattle.router_trace.specs.Sessions.{theirs, maps}
-use Rattle.router_links.specs.Fits.{channel_of}
-use Rattle.router_rows.specs.declared.answer.Answer.{Answer}
-use Rattle.router_rows.specs.declared.answer.Answer.TheVariants.{Taken}
+use Rattle.state_links.specs.Fits.{channel_of}
+use Rattle.reply_rows.specs.declared.answer.Answer.{Answer}
+use Rattle.reply_rows.specs.declared.answer.Answer.TheVariants.{Taken}
 use Rattle.router_trace.specs.Trace.{Trace, did}
-use Rattle.router_trace.specs.Connection.{Connection, Batched, due, phase_before}
+use Rattle.router_trace.specs.Connection.{due, phase_before}
 use Rattle.router_state.specs.declared.tables.State.{State}
 use Rattle.router_state.specs.Tables.{TablesFit}
 use Rattle.router_reply.specs.Acts.{journaled, book_in, book_behind, answer_to_event}
 use Rattle.router_reply.specs.Heard.{IsHeard}
 use Rattle.router_core.specs.declared.router.Ready.{Ready}
-use Rattle.router_core.specs.Turns.{is_started, declines}
+use Rattle.core_machine.specs.Turns.{is_started, declines}
 
 -- a router's journal agrees with the trace: its book, how many batches it has, how long it is, and what it keeps free
 pub record Journals {D : Type 0} (core : Core D) (t : Trace) : Type 0 where
@@ -91,11 +90,6 @@ state_of core = core.state
 -- how many events it handled, and how many batches it returned
 abbrev pub counts_of : {D : Type 0} → Core D → Counts
 counts_of core = core.counts
-
--- a batch of a known connection: at most this many first items of its outbox
-abbrev pub IsBatchOf : Option Connection → ℕ → Batch → Type 0
-IsBatchOf None most b = ⊥
-IsBatchOf (Some v) most b = Batched v most b.first b.items.items b.ended
 
 -- a file opens to the book before an event, or to the book after it
 abbrev pub BeforeOrBehind : Trace → Event → List ℕ → Type 0

@@ -1,7 +1,7 @@
 -- What a crash leaves while a list of events is run.
 use Rattle.std.specs.Prelude.{◌≡◌, ◌⊎◌, ℕ, List, [], ◌∷◌, ◌++◌}
-use Rattle.book_core.specs.Book.{BookView}
-use Rattle.router_store.specs.Store.{OpensTo}
+use Rattle.book_model.specs.Book.{BookView}
+use Rattle.journal_store.specs.Store.{OpensTo}
 use Rattle.router_trace.specs.declared.event.Event.{Event}
 use Rattle.router_trace.specs.Trace.{Trace}
 use Rattle.router_reply.specs.Acts.{book_in, book_behind}

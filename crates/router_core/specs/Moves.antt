@@ -1,20 +1,15 @@
 -- The parts of a router's trace: events that were handled, with their replies, and takes; and what was received and sent
 -- on a connection.
 use Rattle.std.specs.Prelude.{◌≡◌, ◌==◌, ℕ, false, if◌then◌else◌, List, [], ◌∷◌, ◌++◌}
-use Rattle.amqp_frames.specs.declared.item.Item.{Item}
+use Rattle.amqp_model.specs.declared.item.Item.{Item}
 use Rattle.router_trace.specs.Trace.{Beginning}
 use Rattle.router_trace.specs.declared.event.Event.{Event}
 use Rattle.router_trace.specs.declared.event.Event.TheVariants as event
-use Rattle.router_trace.specs.Trace.{Trace, Did, Out, Took, Bound, Booked, Began, Step}
+use Rattle.router_trace.specs.Trace.{Trace, Did, Out, Took, Bound, Booked, Began}
 use Rattle.router_trace.specs.Configuration.{beginning}
 use Rattle.router_trace.specs.Refusing.{refuses}
 use Rattle.router_core.specs.Replies.{handled}
-use Rattle.router_core.specs.Runs.{Taking, took_one}
-
--- the router handles an event, or items are taken from an outbox
-pub data Move : Type 0 where
-  handles : Step → Move
-  takes : Taking → Move
+use Rattle.core_machine.specs.Moves.{Move, handles, takes, took_one}
 
 -- u is t after these moves, one after another: no event is refused, its acts come before it and its replies after it
 abbrev pub Goes : List ℕ → List Move → Trace → Trace → Type 0

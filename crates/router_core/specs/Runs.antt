@@ -1,35 +1,15 @@
 -- A list of events, run one after another; after each, all outboxes are emptied.
-use Rattle.std.specs.Prelude.{◌≡◌, ◌⊎◌, ℕ, ◌+◌, true, false, List, [], ◌∷◌, ◌++◌, map, take, length, Option, Some, None}
-use Rattle.amqp_frames.specs.declared.item.Item.{Item}
+use Rattle.std.specs.Prelude.{◌≡◌, ◌⊎◌, ℕ, ◌+◌, true, false, List, [], ◌∷◌, ◌++◌, map, length, Some}
+use Rattle.amqp_model.specs.declared.item.Item.{Item}
 use Rattle.router_trace.specs.declared.event.Event.{Event}
 use Rattle.router_trace.specs.declared.event.ConnectionId.{ConnectionId}
 use Rattle.router_core.specs.declared.driving.Sent.{Sent}
-use Rattle.router_trace.specs.Trace.{Trace, Took, step_of}
-use Rattle.router_trace.specs.Connection.{Connection, conn, is_ready}
-use Rattle.router_conns.specs.Fits.{IsLeast}
-use Rattle.router_core.specs.Turns.{declines}
+use Rattle.router_trace.specs.Trace.{Trace, step_of}
+use Rattle.router_trace.specs.Connection.{conn, is_ready}
+use Rattle.state_connections.specs.Fits.{IsLeast}
+use Rattle.core_machine.specs.Moves.{Taking, items_of, took_one}
+use Rattle.core_machine.specs.Turns.{declines}
 use Rattle.router_core.specs.Replies.{Replies}
-
--- the items waiting in an outbox
-abbrev pub waiting_of : Option Connection → List Item
-waiting_of None = []
-waiting_of (Some v) = v.waiting
-
--- a take of at most `most` items from a connection's outbox
-pub record Taking : Type 0 where
-  pub conn : ConnectionId
-  pub most : ℕ
-
--- 64 items at a time
-abbrev pub taking : ConnectionId → Taking
-taking c = record { conn = c; most = 64 }
-
--- the items of a take, and the trace after it
-abbrev pub items_of : Taking → Trace → List Item
-items_of x t = take x.most (waiting_of (conn t x.conn.0))
-
-abbrev pub took_one : Taking → Trace → Trace
-took_one x t = Took x.conn.0 (length (items_of x t)) ∷ t
 
 -- takes, one after another: the trace after them, and the items with their connection and the event that they follow
 abbrev pub took_all : List Taking → Trace → Trace

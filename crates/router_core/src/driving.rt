@@ -3,15 +3,16 @@ ghost use Rattle.std.specs.Prelude.{◌≡◌, ◌≢◌, ◌≤◌, ◌<◌, �
 ghost use Rattle.router_trace.specs.Trace.{Entry};
 ghost use Rattle.router_trace.specs.Connection.{conn as known, is_ready};
 ghost use Rattle.disk_core.specs.Disk.{LeavesOnly};
-ghost use Rattle.router_store.specs.Store.{Stands, disk_of};
+ghost use Rattle.journal_store.specs.Store.{Stands, disk_of};
 ghost use Rattle.router_core.specs.Handling.{Fits, BeforeOrBehind, id_of, is_failed, store_of};
 ghost use Rattle.router_core.specs.Leaving.{LeftBy};
-ghost use Rattle.router_core.specs.Runs.{Emptied, Steps, Run, MayStep, Taking, InTurn, Broken, Stopped, Waits, as_sent, sent, taking, items_of, took_one};
+ghost use Rattle.router_core.specs.Runs.{Emptied, Steps, Run, MayStep, InTurn, Broken, Stopped, Waits, as_sent, sent};
+ghost use Rattle.core_machine.specs.Moves.{Taking, taking, items_of, took_one};
 ghost use Rattle.router_core.specs.declared.driving.Sent.{Sent as ASent};
 
-use crate::fault::CoreFault;
 use crate::router::Core;
-use amqp_frames::Item;
+use amqp_model::Item;
+use core_machine::CoreFault;
 use disk_core::Disk;
 use router_trace::{ConnectionId, Event};
 use std::alloc::Global;

@@ -3,49 +3,43 @@ ghost use Rattle.std.specs.Prelude.{◌≡◌, ◌≢◌, ◌⊎◌, ◌+◌, �
 ghost use Rattle.disk_core.specs.Disk.{LeavesOnly, NoMore};
 ghost use Rattle.gate_journal.specs.Journal.{batch_count};
 ghost use Rattle.gate_journal.specs.Opening.{Explains};
-ghost use Rattle.router_store.specs.Store.{OpensTo, Stands, Writable, journal_of, disk_of, count_of, used_of, kept_of, used_behind, batches_behind, exceeds};
-ghost use Rattle.route_table.specs.Places.{routing_of};
+ghost use Rattle.journal_store.specs.Store.{OpensTo, Stands, Writable, journal_of, disk_of, count_of, used_of, kept_of, used_behind, batches_behind, exceeds};
 ghost use Rattle.router_trace.specs.Configuration.{beginning};
 ghost use Rattle.router_trace.specs.Trace.{Entry, Took, did, step_of};
 ghost use Rattle.router_trace.specs.Connection.{conn as known, is_ready, is_live, due, phase_before, phase_found};
-ghost use Rattle.router_conns.specs.Fits.{IsLeast};
-ghost use Rattle.book_core.specs.Book.{effects};
+ghost use Rattle.state_connections.specs.Fits.{IsLeast};
+ghost use Rattle.book_model.specs.Book.{effects};
 ghost use Rattle.gate_journal.specs.Reserve.{reserve};
 ghost use Rattle.router_reply.specs.Acts.{planned_acts, event_answer, acts_of, book_behind, booked};
 ghost use Rattle.router_reply.specs.Admitting.{admits, event_admission, without_acts};
 ghost use Rattle.router_reply.specs.Heard.{IsHeard};
 ghost use Rattle.router_reply.specs.Replies.{row_found};
-ghost use Rattle.router_core.specs.Turns.{declines};
+ghost use Rattle.core_machine.specs.Turns.{declines};
 ghost use Rattle.router_core.specs.Replies.{Replies, answered, handled};
 ghost use Rattle.router_state.specs.Tables.{TablesFit, TablesAt};
 ghost use Rattle.router_state.specs.Waiting.{NothingWaits};
-ghost use Rattle.router_core.specs.Handling.{Fits, IsTaken, IsReady, TakenIn, with_admission, is_failed, id_of, store_of, kept_book, state_of, counts_of, IsBatchOf, BeforeOrBehind, LeftBook};
-ghost use Rattle.router_counts.specs.Counting.{uncounted, with_event, with_batch};
-ghost use Rattle.router_core.specs.declared.fault.CoreFault.TheVariants.{Disk as DiskFailed, Memory, Failed, NoConnection};
+ghost use Rattle.router_core.specs.Handling.{Fits, IsTaken, IsReady, TakenIn, with_admission, is_failed, id_of, store_of, kept_book, state_of, counts_of, BeforeOrBehind, LeftBook};
+ghost use Rattle.core_machine.specs.Meaning.{IsBatchOf, IsTakenOf};
+ghost use Rattle.core_machine.specs.Counting.{uncounted, with_event, with_batch};
+ghost use Rattle.core_machine.specs.Opened.{IsOpened};
+ghost use Rattle.router_core.specs.Machine.{core_meaning, opening_of};
+ghost use Rattle.core_machine.specs.declared.fault.CoreFault.TheVariants.{Disk as DiskFailed, Memory, Failed, NoConnection};
 
-use crate::fault::CoreFault;
 use amqp_conn::Conn;
-use amqp_frames::Item;
-use book_core::{Act, Book, RowNumber};
+use book_core::Book;
+use book_model::{Act, RowNumber};
+use core_machine::{Batch, CoreFault, Counts, Done, Taken};
 use disk_core::{Crash, Disk};
 use gate_journal::{JournalFault, OpenFault};
+use journal_store::Store;
+use reply_rows::Answer;
 use route_table::{Config, Table};
 use router_after::after;
-use router_conns::{Refused, phase_found};
-use router_counts::Counts;
 use router_reply::{Heard, Plan, admission_for, hear, make_plan, reply, row_in};
-use router_rows::Answer;
 use router_state::State;
-use router_store::Store;
 use router_trace::{ConnectionId, Event, RouterId};
+use state_connections::{Refused, phase_found};
 use std::alloc::{AllocError, Global};
-
-/// An event was handled.
-#[derive(Debug, Drop)]
-pub struct Done {
-    /// The batch that the event wrote to the journal: its number, from 1 on, and its acts. None where it wrote nothing.
-    pub journal: Option<(u64, Vec<Act>)>,
-}
 
 /// The batch that was written, if one was: its number and its acts.
 type Written = Option<(u64, Vec<Act>)>;
@@ -77,52 +71,6 @@ impl Ready {
             answer: Answer::Nothing,
             heard: Heard::nothing(alloc),
         }
-    }
-}
-
-/// Items that were taken from an outbox. Only `Core::take` makes one.
-#[derive(Debug, Drop)]
-pub struct Batch {
-    conn: ConnectionId,
-    first: u64,
-    items: Vec<Item>,
-    ended: bool,
-}
-
-impl Batch {
-    /// The connection.
-    pub fn conn(&self) -> ConnectionId
-        ensures { result ≡ self.now.conn }
-    {
-        self.conn
-    }
-
-    /// The number of the first item, from 0: how many items left the outbox before.
-    pub fn first(&self) -> u64
-        ensures { result ≡ self.now.first }
-    {
-        self.first
-    }
-
-    /// The items, in order.
-    pub fn items(&self) -> &[Item]
-        ensures { result.now ≡ self.now.items.items }
-    {
-        self.items.as_slice()
-    }
-
-    /// The items, in order.
-    pub fn into_items(self) -> Vec<Item>
-        ensures { result ≡ self.items }
-    {
-        self.items
-    }
-
-    /// Whether the router ended the connection and these were its last items.
-    pub fn is_last(&self) -> bool
-        ensures { result ≡ self.now.ended }
-    {
-        self.ended
     }
 }
 
@@ -158,10 +106,13 @@ impl<D: Disk> Core<D> {
     /// comes where it failed, `Memory` where memory was refused, and the others where the disk holds no journal, or a
     /// damaged one.
     pub fn open(alloc: Global, disk: D, config: &Config) -> Result<Core<D>, OpenFault>
-        ensures fits { IfOk result (λ core. Fits core (beginning (record { routing = routing_of config.now; book = kept_book core; used = used_of (store_of core); batches = count_of (store_of core) }))) }
+        ensures fits { IfOk result (λ core. Fits core (beginning (opening_of config.now core))) }
         ensures works { IfOk result (λ core. is_failed core ≡ false) }
         ensures named { IfOk result (λ core. id_of core ≡ config.now.router_id) }
         ensures counts { IfOk result (λ core. counts_of core ≡ uncounted) }
+
+        // Nothing has happened to it: it can be driven as a machine.
+        ensures opened { IfOk result (λ core. IsOpened (core_meaning D.seen D.may_leave D.failures) (opening_of config.now core) core) }
 
         // Its book is the one that the disk opens to, and a crash leaves just that.
         ensures stands { IfOk result (λ core. Stands D.seen D.may_leave (store_of core)) }
@@ -598,6 +549,31 @@ impl<D: Disk> Core<D> {
         ensures memory { IfErr result (λ f. f ≡ Memory → is_failed self.new ≡ true) }
         ensures no_disk { IfErr result (λ f. f ≡ DiskFailed → ⊥) }
     {
+        core_machine::take(self, conn, most)
+    }
+
+    /// Takes up to `most` items from the outbox of a connection, in order.
+    pub(crate) fn take_out(&mut self, conn: ConnectionId, most: usize) -> Result<Taken, CoreFault>
+        // The trace continues with the items taken.
+        ensures fits { IfOk result (λ taken. (t : List Entry) → Fits self.old t → Fits self.new (Took conn.0 (length taken.items.items) ∷ t)) }
+        ensures taken { IfOk result (λ taken. (t : List Entry) → Fits self.old t → IsTakenOf (known t conn.0) most taken) }
+        ensures most { IfOk result (λ taken. length taken.items.items ≤ most) }
+        ensures works { OnOk result (is_failed self.new ≡ false) }
+        ensures named { id_of self.new ≡ id_of self.old }
+        ensures store { store_of self.new ≡ store_of self.old }
+
+        // One more batch is counted exactly if the call answers Ok.
+        ensures counted { OnOk result (counts_of self.new ≡ with_batch (counts_of self.old)) }
+        ensures uncounted { OnErr result (counts_of self.new ≡ counts_of self.old) }
+
+        // Which fault occurs, and what it leaves.
+        ensures refused { IfErr result (λ f. f ≡ NoConnection → (self.new ≡ self.old) × ((t : List Entry) → Fits self.old t → known t conn.0 ≡ None)) }
+        ensures refuses { (t : List Entry) → Fits self.old t → is_failed self.old ≡ false → known t conn.0 ≡ None → result ≡ Err NoConnection }
+        ensures failed { is_failed self.old ≡ true → result ≡ Err Failed }
+        ensures unchanged { IfErr result (λ f. f ≡ Failed → (self.new ≡ self.old) × (is_failed self.old ≡ true)) }
+        ensures memory { IfErr result (λ f. f ≡ Memory → is_failed self.new ≡ true) }
+        ensures no_disk { IfErr result (λ f. f ≡ DiskFailed → ⊥) }
+    {
         if self.failed {
             return Err(CoreFault::Failed);
         }
@@ -611,12 +587,7 @@ impl<D: Disk> Core<D> {
         match self.state.take(conn.0, most) {
             Ok(Some(taken)) => {
                 self.counts = counts;
-                Ok(Batch {
-                    conn,
-                    first: taken.first,
-                    items: taken.items,
-                    ended: taken.ended,
-                })
+                Ok(taken)
             }
             _ => {
                 self.failed = true;

@@ -3,24 +3,24 @@ use Rattle.std.proofs.Common.{◌≡◌, ◌∙◌, sym, ap, refl, subst, ℕ}
 use Rattle.std.specs.Prelude.{◌==◌, map, Option, Some, None, if◌then◌else◌}
 use Rattle.std.specs.Ordering.{nat_cmp}
 use Rattle.std.specs.BTreeMap.{get}
-use Rattle.amqp_frames.specs.declared.item.Item.{Item}
+use Rattle.amqp_model.specs.declared.item.Item.{Item}
 use Rattle.router_trace.specs.declared.event.ConnectionId.{ConnectionId}
 use Rattle.router_trace.specs.declared.event.Peer.{Peer}
 use Rattle.router_trace.specs.declared.event.Event.TheVariants as event
-use Rattle.router_core.specs.declared.door.Door.{Door as DoorState}
+use Rattle.core_door.specs.declared.door.Door.{Door as DoorState}
 use Rattle.router_play.specs.declared.line.Line.TheVariants as line
 use Rattle.router_play.specs.declared.socket.Socket.{Socket}
 use Rattle.router_play.specs.declared.socket.Asked.{Asked}
 use Rattle.router_play.specs.declared.socket.Asked.TheVariants as asked
 use Rattle.router_play.specs.declared.player.Player.{Player}
-use Rattle.router_core.specs.Door.{Verdict, says, passes, ends, door, door_behind}
+use Rattle.core_door.specs.Door.{Verdict, says, passes, ends, door, door_behind}
 use Rattle.router_play.specs.Script.{Scene, with_socket, say_all, say, out_line, hand, enter, enter_by, enter_at, judged_by}
 use Rattle.router_play.specs.Asking.{IsAskedAt, IsVerdict, AsksAt, behind, follow}
 use Rattle.router_core.specs.declared.router.Core.{Core}
 use Rattle.router_trace.specs.Trace.{Trace}
 use Rattle.disk_core.specs.declared.fuse.FuseDisk.{FuseDisk}
 use Rattle.disk_core.specs.declared.memory.MemDisk.{MemDisk}
-use Rattle.router_core.specs.Turns.{is_started}
+use Rattle.core_machine.specs.Turns.{is_started}
 use Rattle.router_core.specs.Handling.{Fits, id_of}
 use Rattle.router_play.specs.Playing.{Follows, Look, look_at, seen}
 use Rattle.router_play.proofs.Looks.{look, alike, not_none, changed, unchanged}

@@ -10,15 +10,15 @@ use Rattle.router_trace.specs.declared.event.Event.TheVariants as event
 use Rattle.router_trace.specs.Trace.{Entry, Put, did, goes, step_of}
 use Rattle.router_trace.specs.Following.{as_long_as_due, tells, sends_due, drains_due}
 use Rattle.router_trace.specs.Numbers.{first_below, first_placed}
-use Rattle.router_passing.specs.Passing.{grants, grants_due, lowest_below}
-use Rattle.router_sessions.specs.Windows.{windows}
+use Rattle.state_messages.specs.Passing.{grants, grants_due, lowest_below}
+use Rattle.state_sessions.specs.Windows.{windows}
 use Rattle.router_after.specs.After.{sent, drained, granted}
 use Rattle.router_core.specs.Replies.{Replies, handled}
 use Rattle.router_core.specs.Handling.{Fits, id_of, is_failed}
 use Rattle.router_reply.specs.Acts.{booked}
-use Rattle.router_core.specs.Turns.{declines}
-use Rattle.router_core.specs.declared.fault.CoreFault.{CoreFault}
-use Rattle.router_core.specs.declared.fault.CoreFault.TheVariants.{Disk, Memory, Failed, NoConnection}
+use Rattle.core_machine.specs.Turns.{declines}
+use Rattle.core_machine.specs.declared.fault.CoreFault.{CoreFault}
+use Rattle.core_machine.specs.declared.fault.CoreFault.TheVariants.{Disk, Memory, Failed, NoConnection}
 use Rattle.router_core.proofs.Following.{due_keeps}
 use Rattle.router_core.proofs.Moves.{Leads, leads_event}
 use Rattle.router_play.specs.declared.line.Line.TheVariants as line

@@ -5,7 +5,7 @@ use Rattle.std.proofs.lemmas.Bool.{eqb-true}
 use Rattle.amqp_frames.proofs.Steps.{front_nothing}
 use Rattle.router_trace.specs.declared.event.Event.TheVariants as event
 use Rattle.route_table.specs.Settings.{Settings}
-use Rattle.router_core.specs.declared.door.Door.{Door as DoorState}
+use Rattle.core_door.specs.declared.door.Door.{Door as DoorState}
 use Rattle.router_play.specs.declared.line.Line.{Line}
 use Rattle.router_play.specs.declared.script.Step.{Step}
 use Rattle.router_play.specs.declared.script.Step.TheVariants as step
@@ -14,7 +14,7 @@ use Rattle.router_play.specs.Listening.{door_for}
 use Rattle.router_reply.specs.Acts.{journaled}
 use Rattle.router_play.specs.Script.{Scene, opening, book_line, say, refused, hand, made, lose, Takes, Flushes, Plays, PlaysAll}
 use Rattle.router_play.specs.Carrying.{behind_up, role_in, door_in, bytes_of, bytes_in, door_says, passed, Carries, RunsCarry}
-use Rattle.router_conns.proofs.Lists.{by_test}
+use Rattle.state_connections.proofs.Lists.{by_test}
 use Rattle.router_play.specs.Script.{new_router}
 use Rattle.router_play.proofs.Beginning.{began}
 use Rattle.router_play.proofs.PlayMoves.{play_is_trace, takes_onward, take_all_onward}

@@ -1,9 +1,9 @@
 -- What a connection carried, once all outboxes are empty.
 use Rattle.std.proofs.Common.{◌≡◌, ◌∙◌, sym, ap, subst, true≢false, ℕ, Bool, true, false, List, [], ◌++◌, append-nil}
 use Rattle.std.specs.Prelude.{Option, Some, None}
-use Rattle.amqp_frames.specs.declared.item.Item.{Item}
+use Rattle.amqp_model.specs.declared.item.Item.{Item}
 use Rattle.amqp_frames.specs.Cuts.{Cuts}
-use Rattle.router_core.specs.declared.door.Door.{Door as DoorState}
+use Rattle.core_door.specs.declared.door.Door.{Door as DoorState}
 use Rattle.router_play.specs.declared.socket.Socket.{Socket}
 use Rattle.router_trace.specs.Trace.{Entry}
 use Rattle.router_trace.specs.Connection.{conn, is_live, is_ready}

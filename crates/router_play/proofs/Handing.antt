@@ -3,9 +3,9 @@ use Rattle.std.proofs.Common.{◌≡◌, ◌∙◌, ◌++◌, ◌∷◌, ℕ, Bo
 use Rattle.std.specs.Prelude.{if◌then◌else◌}
 use Rattle.std.specs.Ordering.{nat_cmp}
 use Rattle.std.specs.BTreeMap.{get}
-use Rattle.router_core.specs.declared.fault.CoreFault.{CoreFault}
-use Rattle.router_core.specs.declared.fault.CoreFault.TheVariants.{Disk, Memory, Failed, NoConnection}
-use Rattle.router_core.specs.Turns.{is_start, is_started, declines}
+use Rattle.core_machine.specs.declared.fault.CoreFault.{CoreFault}
+use Rattle.core_machine.specs.declared.fault.CoreFault.TheVariants.{Disk, Memory, Failed, NoConnection}
+use Rattle.core_machine.specs.Turns.{is_start, is_started, declines}
 use Rattle.router_core.specs.Handling.{Fits, id_of, is_failed}
 use Rattle.router_core.proofs.Books.{started_handled, not_refused}
 use Rattle.router_core.specs.Replies.{Replies, handled}

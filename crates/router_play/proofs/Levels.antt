@@ -2,7 +2,7 @@
 use Rattle.std.proofs.Common.{◌≡◌, ◌∙◌, sym, ap, refl, subst, true≢false, ℕ, zero, suc, Bool, true, false, ◌||◌, List, [], ◌∷◌, ◌++◌, append_assoc, append-nil, length, drop}
 use Rattle.std.specs.Prelude.{◌==◌, Option, Some, None, is_some, option_map, option_and_then, if◌then◌else◌}
 use Rattle.std.proofs.lemmas.Bool.{eqb-true, eq-eqb}
-use Rattle.amqp_frames.specs.declared.item.Item.{Item}
+use Rattle.amqp_model.specs.declared.item.Item.{Item}
 use Rattle.amqp_conn.specs.declared.conn.Conn.{Conn}
 use Rattle.router_trace.specs.Trace.{Beginning, Entry, Out, Put, did, goes, each_to, puts, ups, step_of}
 use Rattle.router_trace.specs.declared.binding.Binding.{Binding}
@@ -23,27 +23,27 @@ use Rattle.router_trace.specs.Sessions.{session}
 use Rattle.router_trace.specs.Clocks.{terms, written, needs_beat}
 use Rattle.router_trace.specs.Frames.{flow_item, told_of}
 use Rattle.router_trace.specs.Following.{tells, sends_due, drains_due}
-use Rattle.router_sessions.specs.Windows.{is_narrow, flow_due, flows_below, windows_over, windows}
+use Rattle.state_sessions.specs.Windows.{is_narrow, flow_due, flows_below, windows_over, windows}
 use Rattle.router_state.specs.Tables.{beat_if, beats_over, beats}
-use Rattle.router_passing.specs.Passing.{grants_due, with_bound}
-use Rattle.router_rows.specs.Rows.{said}
-use Rattle.router_transfers.specs.Transfers.{part_put, settled_answers}
+use Rattle.state_messages.specs.Passing.{grants_due, with_bound}
+use Rattle.reply_rows.specs.Rows.{said}
+use Rattle.reply_transfers.specs.Transfers.{part_put, settled_answers}
 use Rattle.router_reply.specs.Replies.{closing_of, ends, heard, stolen_by, refused, bound_by, item_row, own_row, replied}
 use Rattle.router_after.specs.After.{widened, followed}
 use Rattle.router_reply.specs.Acts.{answer_of, booked}
 use Rattle.router_core.specs.Replies.{answered, handled}
-use Rattle.router_core.specs.Runs.{waiting_of}
+use Rattle.core_machine.specs.Moves.{waiting_of}
 use Rattle.router_core.specs.Moves.{IsTrace, outs}
 use Rattle.router_core.proofs.Booking.{booked_keeps, booked_same, taken_booked}
-use Rattle.router_core.proofs.Headed.{Kept, kept_booked, trace_kept}
+use Rattle.router_core.proofs.Holding.{Holds, holds_booked, trace_holds}
 use Rattle.router_core.proofs.ItemRows.{item_cases}
 use Rattle.router_core.proofs.Linked.{holder_linked}
 use Rattle.router_core.proofs.Due.{AllOnLinks, tells_on, sends_on, drains_on, grants_on}
 use Rattle.router_core.proofs.Following.{Steps, passed_on, passed_keeps, all_keep}
 use Rattle.router_core.proofs.Lively.{Lively, heard_lively, replied_lively, lively_steps}
 use Rattle.router_play.specs.Carrying.{is_loss_of, was_lost}
-use Rattle.router_conns.proofs.Lists.{by_test}
-use Rattle.router_conns.proofs.Turns.{stays}
+use Rattle.state_connections.proofs.Lists.{by_test}
+use Rattle.state_connections.proofs.Turns.{stays}
 
 -- the same items were put out for a connection and are waiting there
 pub record Level (t u : List Entry) (c : ℕ) : Type 0 where
@@ -325,7 +325,7 @@ behind_even id g t e c real taken =
     let b : List Entry = booked t e
     in let u : List Entry = heard id b (step_of e)
     in let v : List Entry = replied id b (step_of e)
-    in let was : Kept b = kept_booked t e (trace_kept id g t real)
+    in let was : Holds b = holds_booked t e (trace_holds id g t real)
     in let lively : Lively u = heard_lively id b e was.ordered was.lively (taken_booked t e taken)
     in let links : LinksKnown u = λ k o h some. live_known (conn u k) (lively k o h some)
     in even_trans (did e ∷ b) u (handled id t (step_of e)) c (ends_even id (due b e) (did e ∷ b) c)

@@ -2,28 +2,18 @@ mod Looks
 mod Asks
 mod Bytes
 mod Feeding
-mod Scenes
+pub mod Scenes
 mod NewJournal
-mod Beginning
-mod PlayMoves
-mod Alike
-mod Doored
-mod AtDoor
-mod Levels
-mod Entering
-mod Passing
+pub mod Beginning
+pub mod PlayMoves
+pub mod Levels
+pub mod Entering
+pub mod Passing
 mod Ending
 mod Stages
 mod Making
-mod Bringing
+pub mod Bringing
 mod Losing
-mod Carried
-mod Courses
-mod Streaming
-mod Joining
-mod Calming
-mod Shadows
-mod Shadowing
-mod Pieces
+pub mod Carried
 mod Handing
 mod Telling

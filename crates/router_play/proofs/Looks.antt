@@ -4,10 +4,10 @@ use Rattle.std.specs.Prelude.{◌==◌, Option, Some, None, if◌then◌else◌}
 use Rattle.std.proofs.lemmas.Bool.{eqb-true}
 use Rattle.std.specs.Ordering.{nat_cmp}
 use Rattle.std.specs.BTreeMap.{get}
-use Rattle.router_core.specs.declared.door.Door.{Door as DoorState}
+use Rattle.core_door.specs.declared.door.Door.{Door as DoorState}
 use Rattle.router_core.specs.declared.router.Core.{Core}
 use Rattle.router_core.specs.Handling.{Fits, id_of}
-use Rattle.router_conns.proofs.Lists.{by_test}
+use Rattle.state_connections.proofs.Lists.{by_test}
 use Rattle.disk_core.specs.declared.fuse.FuseDisk.{FuseDisk}
 use Rattle.disk_core.specs.declared.memory.MemDisk.{MemDisk}
 use Rattle.router_play.specs.declared.socket.Socket.{Socket}

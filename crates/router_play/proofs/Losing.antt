@@ -1,16 +1,16 @@
 -- A connection of a script is lost.
 use Rattle.std.proofs.Common.{◌≡◌, ◌∙◌, sym, ap, refl, subst, true≢false, ℕ, true, false, List, [], ◌∷◌, ◌++◌, append-nil}
 use Rattle.std.specs.Prelude.{◌==◌, Option, Some, None}
-use Rattle.amqp_frames.specs.declared.item.Item.{Item}
+use Rattle.amqp_model.specs.declared.item.Item.{Item}
 use Rattle.router_play.specs.Script.{new_router}
 use Rattle.router_trace.specs.declared.event.ConnectionId.{ConnectionId}
 use Rattle.router_trace.specs.declared.event.Event.TheVariants as event
-use Rattle.router_core.specs.declared.door.Door.{Door as DoorState}
+use Rattle.core_door.specs.declared.door.Door.{Door as DoorState}
 use Rattle.router_play.specs.declared.socket.Socket.{Socket}
 use Rattle.router_trace.specs.Trace.{Entry, step_of}
 use Rattle.router_trace.specs.Connection.{conn, is_live}
 use Rattle.router_trace.specs.Refusing.{reaches}
-use Rattle.router_core.specs.Runs.{waiting_of}
+use Rattle.core_machine.specs.Moves.{waiting_of}
 use Rattle.router_core.specs.Replies.{handled}
 use Rattle.router_play.specs.Script.{Scene, say, refused, with_socket, with_trace, told, lose_by}
 use Rattle.router_core.specs.Moves.{ins}

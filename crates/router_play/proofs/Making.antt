@@ -2,19 +2,19 @@
 use Rattle.std.proofs.Common.{◌≡◌, sym, ap, refl, subst, true≢false, ℕ, true, false, ◌<◌, ◌≤◌, List, [], ◌∷◌, ◌++◌, arith}
 use Rattle.std.specs.Prelude.{◌==◌, Option, Some, None}
 use Rattle.std.proofs.lemmas.Bool.{eqb-true, ltb-true, leb-true, le-leb}
-use Rattle.amqp_frames.specs.declared.item.Item.{Item}
+use Rattle.amqp_model.specs.declared.item.Item.{Item}
 use Rattle.amqp_frames.proofs.Steps.{front_nothing}
 use Rattle.router_trace.specs.declared.event.ConnectionId.{ConnectionId}
 use Rattle.router_trace.specs.declared.event.PeerRole.{PeerRole}
-use Rattle.router_core.specs.declared.door.Door.{Door as DoorState}
+use Rattle.core_door.specs.declared.door.Door.{Door as DoorState}
 use Rattle.router_play.specs.declared.socket.Socket.{Socket}
 use Rattle.router_trace.specs.Refusing.{rises, reaches}
 use Rattle.router_play.specs.Listening.{door_for}
 use Rattle.router_play.specs.Script.{Scene, made}
 use Rattle.router_core.specs.Moves.{ins}
 use Rattle.router_play.specs.Carrying.{door_says, passed, Begins}
-use Rattle.router_conns.proofs.Lists.{by_test}
-use Rattle.router_conns.proofs.Turns.{reach_up}
+use Rattle.state_connections.proofs.Lists.{by_test}
+use Rattle.state_connections.proofs.Turns.{reach_up}
 use Rattle.router_play.proofs.Levels.{same}
 use Rattle.router_play.proofs.Entering.{Stands, Entered}
 use Rattle.router_play.proofs.Passing.{Keeps}

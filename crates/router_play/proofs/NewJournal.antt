@@ -1,15 +1,15 @@
 -- A router on a new journal: that opens to the empty book, and has no batch, and nine bytes.
 use Rattle.std.proofs.Common.{◌≡◌, ◌∙◌, ap, refl, subst, ℕ, ◌+◌, List, [], length}
-use Rattle.book_core.specs.declared.act.Act.{Act}
-use Rattle.book_core.specs.Book.{BookView, empty_book}
-use Rattle.act_codec.specs.Batches.{Holds, book_after}
-use Rattle.act_codec.specs.Format.{blocks, front}
+use Rattle.book_model.specs.declared.act.Act.{Act}
+use Rattle.book_model.specs.Book.{BookView, empty_book}
+use Rattle.journal_codec.specs.Batches.{Holds, book_after}
+use Rattle.journal_codec.specs.Format.{blocks, front}
 use Rattle.gate_journal.proofs.Unique.{holds_unique}
 use Rattle.route_table.specs.Places.{routing_of}
 use Rattle.route_table.specs.Settings.{Settings}
-use Rattle.router_store.specs.declared.store.Store.{Store}
-use Rattle.router_store.specs.Store.{OpensTo, Stands, disk_of, used_of, count_of}
-use Rattle.router_store.proofs.Opened.{opens_to_one}
+use Rattle.journal_store.specs.declared.store.Store.{Store}
+use Rattle.journal_store.specs.Store.{OpensTo, Stands, disk_of, used_of, count_of}
+use Rattle.journal_store.proofs.Opened.{opens_to_one}
 use Rattle.router_trace.specs.Configuration.{beginning}
 use Rattle.router_core.specs.declared.router.Core.{Core}
 use Rattle.router_core.specs.Handling.{Fits, store_of, kept_book}

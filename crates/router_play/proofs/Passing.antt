@@ -2,23 +2,23 @@
 use Rattle.std.proofs.Common.{◌≡◌, ◌∙◌, sym, ap, refl, subst, true≢false, ℕ, zero, suc, Bool, true, false, List, [], ◌∷◌, ◌++◌, append_assoc, append-nil, length, take, drop}
 use Rattle.std.specs.Prelude.{◌==◌, map, Option, Some, None, is_some, is_none, option_and_then}
 use Rattle.std.proofs.lemmas.Bool.{eqb-true}
-use Rattle.amqp_frames.specs.declared.item.Item.{Item}
+use Rattle.amqp_model.specs.declared.item.Item.{Item}
 use Rattle.router_play.specs.Script.{new_router}
 use Rattle.router_trace.specs.declared.event.ConnectionId.{ConnectionId}
 use Rattle.router_trace.specs.declared.event.Peer.{Peer}
 use Rattle.router_trace.specs.declared.event.Event.TheVariants as event
-use Rattle.router_core.specs.declared.door.Door.{Door as DoorState}
+use Rattle.core_door.specs.declared.door.Door.{Door as DoorState}
 use Rattle.router_play.specs.declared.line.Line.TheVariants as line
 use Rattle.router_play.specs.declared.socket.Socket.{Socket}
 use Rattle.router_trace.specs.Trace.{Entry, Took, step_of}
 use Rattle.router_trace.specs.Connection.{Connection, conn, took, is_live}
 use Rattle.router_core.specs.Replies.{handled}
-use Rattle.router_core.specs.Runs.{Taking, waiting_of, items_of, took_one}
-use Rattle.router_core.specs.Door.{Verdict, says, passes, ends, door, door_behind}
+use Rattle.core_machine.specs.Moves.{Taking, waiting_of, items_of, took_one}
+use Rattle.core_door.specs.Door.{Verdict, says, passes, ends, door, door_behind}
 use Rattle.router_play.specs.Script.{Scene, say_all, say, refused, out_line, with_socket, with_trace, hand, judged_by, enter_at, enter_by, enter, enter_all, is_last, close_if, take_one, take_all}
 use Rattle.router_core.specs.Moves.{ins, outs}
 use Rattle.router_play.specs.Carrying.{was_lost, bytes_out, spelled, said_by, door_says, passed_by, passed}
-use Rattle.router_conns.proofs.Lists.{by_test}
+use Rattle.state_connections.proofs.Lists.{by_test}
 use Rattle.router_core.proofs.Coming.{ins_handled as handled_ins}
 use Rattle.router_play.proofs.Scenes.{not_true, not_false}
 use Rattle.router_play.proofs.PlayMoves.{Real, onward_real, answered_onward, took_onward}

@@ -1,7 +1,7 @@
 -- Plays consist of moves: their traces are traces of the router.
 use Rattle.std.proofs.Common.{◌≡◌, ◌∙◌, sym, ap, refl, subst, ℕ, Bool, true, false, List, [], ◌∷◌}
 use Rattle.std.specs.Prelude.{map, length, Option, Some, None, if◌then◌else◌}
-use Rattle.amqp_frames.specs.declared.item.Item.{Item}
+use Rattle.amqp_model.specs.declared.item.Item.{Item}
 use Rattle.router_play.specs.Script.{new_router}
 use Rattle.router_trace.specs.Configuration.{beginning}
 use Rattle.router_trace.specs.declared.event.ConnectionId.{ConnectionId}
@@ -9,15 +9,15 @@ use Rattle.router_trace.specs.declared.event.PeerRole.{PeerRole}
 use Rattle.router_trace.specs.declared.event.Event.{Event}
 use Rattle.router_trace.specs.declared.event.Event.TheVariants as event
 use Rattle.route_table.specs.Settings.{Settings}
-use Rattle.router_core.specs.declared.door.Door.{Door as DoorState}
+use Rattle.core_door.specs.declared.door.Door.{Door as DoorState}
 use Rattle.router_play.specs.declared.socket.Socket.{Socket}
 use Rattle.router_play.specs.declared.script.Step.{Step}
 use Rattle.router_play.specs.declared.script.Step.TheVariants as step
 use Rattle.router_trace.specs.Connection.{conn}
 use Rattle.router_trace.specs.Refusing.{refuses, rises}
 use Rattle.router_core.specs.Replies.{handled}
-use Rattle.router_core.specs.Runs.{Taking, items_of, took_one}
-use Rattle.router_core.specs.Door.{Verdict, says, passes, ends, door}
+use Rattle.core_machine.specs.Moves.{Taking, items_of, took_one}
+use Rattle.core_door.specs.Door.{Verdict, says, passes, ends, door}
 use Rattle.router_play.specs.Script.{Scene, opening, refused, say, say_all, out_line, with_socket, with_trace, stream_of, hand, judged_by, enter_at, enter_by, enter, enter_all, Reads, BytesCome, made, make, told, lose_by, lose, Takes, is_last, close_if, take_one, take_all, Plays}
 use Rattle.router_core.specs.Moves.{IsTrace}
 use Rattle.router_core.proofs.Moves.{Leads, leads_on, leads_same, leads_event, leads_take}

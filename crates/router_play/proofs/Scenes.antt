@@ -8,7 +8,7 @@ use Rattle.std.specs.Ordering.{nat_cmp}
 use Rattle.std.specs.BTreeMap.{get}
 use Rattle.router_trace.specs.declared.event.ConnectionId.{ConnectionId}
 use Rattle.route_table.specs.Settings.{Settings}
-use Rattle.router_core.specs.declared.door.Door.{Door as DoorState}
+use Rattle.core_door.specs.declared.door.Door.{Door as DoorState}
 use Rattle.router_play.specs.declared.socket.Socket.{Socket}
 use Rattle.router_play.specs.declared.player.Player.{Player}
 use Rattle.router_play.specs.declared.script.Step.{Step}
@@ -17,20 +17,22 @@ use Rattle.router_play.specs.declared.line.Line.{Line}
 use Rattle.router_play.specs.declared.sockets.Parted.{Parted}
 use Rattle.router_play.specs.declared.sockets.Parted.TheVariants as parted
 use Rattle.router_core.specs.declared.router.Core.{Core}
-use Rattle.router_core.specs.declared.router.Batch.{Batch}
-use Rattle.amqp_frames.specs.declared.item.Item.{Item}
+use Rattle.core_machine.specs.declared.answers.Batch.{Batch}
+use Rattle.amqp_model.specs.declared.item.Item.{Item}
 use Rattle.router_trace.specs.Trace.{Entry, Took}
 use Rattle.router_trace.specs.Connection.{Connection, conn}
 use Rattle.disk_core.specs.declared.fuse.FuseDisk.{FuseDisk}
 use Rattle.disk_core.specs.declared.memory.MemDisk.{MemDisk}
 use Rattle.router_reply.specs.Acts.{journaled}
-use Rattle.router_core.specs.Turns.{is_started}
-use Rattle.router_core.specs.Handling.{Fits, id_of, IsBatchOf}
-use Rattle.router_core.specs.Runs.{Taking, IsNext, taking, took_one, waiting_of}
+use Rattle.core_machine.specs.Turns.{is_started}
+use Rattle.router_core.specs.Handling.{Fits, id_of}
+use Rattle.core_machine.specs.Meaning.{IsBatchOf}
+use Rattle.router_core.specs.Runs.{IsNext}
+use Rattle.core_machine.specs.Moves.{Taking, taking, took_one, waiting_of}
 use Rattle.router_play.specs.Script.{Scene, with_socket, with_trace, say_all, out_line, lose, lose_by, told, is_last, close_if, take_one, take_all, AllInTurn, opening, Takes, Flushes, Plays, PlaysAll, no_book, book_line}
 use Rattle.router_play.specs.Playing.{Follows, Look, look_at, seen, PartsAt, part_by}
 use Rattle.router_play.proofs.Looks.{alike, not_none}
-use Rattle.router_conns.proofs.Lists.{by_test}
+use Rattle.state_connections.proofs.Lists.{by_test}
 
 -- what holds only of a failed router doesn't hold of one that works
 pub back : (a b : Bool) → (a ≡ true → b ≡ true) → b ≡ false → a ≡ false

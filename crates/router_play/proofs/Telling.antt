@@ -2,10 +2,10 @@
 use Rattle.std.proofs.Common.{◌≡◌, ◌∙◌, ◌++◌, ◌∷◌, ℕ, false, refl, sym, ap, subst, List, [], length, arith}
 use Rattle.std.specs.Prelude.{Contains, Option, Some, None}
 use Rattle.std.proofs.lemmas.List.Elements.{Contains-append_left, Contains-append_right}
-use Rattle.router_core.specs.declared.fault.CoreFault.{CoreFault}
-use Rattle.router_core.specs.declared.fault.CoreFault.TheVariants.{Disk, Memory, Failed, NoConnection}
-use Rattle.book_core.specs.Book.{BookView}
-use Rattle.router_store.specs.Store.{count_of}
+use Rattle.core_machine.specs.declared.fault.CoreFault.{CoreFault}
+use Rattle.core_machine.specs.declared.fault.CoreFault.TheVariants.{Disk, Memory, Failed, NoConnection}
+use Rattle.book_model.specs.Book.{BookView}
+use Rattle.journal_store.specs.Store.{count_of}
 use Rattle.router_reply.specs.Acts.{journaled}
 use Rattle.router_trace.specs.Trace.{Trace}
 use Rattle.router_core.specs.declared.router.Core.{Core}

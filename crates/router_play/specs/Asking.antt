@@ -5,12 +5,12 @@ use Rattle.router_trace.specs.declared.event.ConnectionId.{ConnectionId}
 use Rattle.router_trace.specs.declared.event.Event.TheVariants as event
 use Rattle.router_play.specs.declared.line.Line.TheVariants as line
 use Rattle.router_play.specs.Script.{Scene, stream_of, hand, say, say_all, out_line}
-use Rattle.amqp_frames.specs.declared.item.Item.{Item}
-use Rattle.router_core.specs.declared.door.Door.{Door as DoorState}
+use Rattle.amqp_model.specs.declared.item.Item.{Item}
+use Rattle.core_door.specs.declared.door.Door.{Door as DoorState}
 use Rattle.router_play.specs.declared.socket.Socket.{Socket}
 use Rattle.router_play.specs.declared.socket.Asked.{Asked}
 use Rattle.router_play.specs.declared.socket.Asked.TheVariants as asked
-use Rattle.router_core.specs.Door.{Verdict, says, passes, ends, door, door_behind}
+use Rattle.core_door.specs.Door.{Verdict, says, passes, ends, door, door_behind}
 
 -- the answer is the door's verdict
 abbrev pub IsVerdict : Item → Socket → DoorState → Verdict → Socket → Asked → Type 0

@@ -1,15 +1,15 @@
 -- From bytes to bytes: the bytes sent on each connection of a script, for the bytes received on it.
 use Rattle.std.specs.Prelude.{◌≡◌, ℕ, Bool, true, false, ◌||◌, ◌==◌, if◌then◌else◌, List, [], ◌∷◌, ◌++◌, Option, Some, None}
-use Rattle.amqp_frames.specs.declared.item.Item.{Item}
+use Rattle.amqp_model.specs.declared.item.Item.{Item}
 use Rattle.amqp_frames.specs.Cuts.{Cuts}
-use Rattle.amqp_frames.specs.ItemSpelling.{item_spelling}
+use Rattle.amqp_model.specs.ItemSpelling.{item_spelling}
 use Rattle.route_table.specs.Settings.{Settings}
 use Rattle.router_play.specs.Script.{new_router, book_line}
 use Rattle.router_trace.specs.declared.event.PeerRole.{PeerRole}
 use Rattle.router_trace.specs.declared.event.PeerRole.TheVariants.{Normal}
 use Rattle.router_trace.specs.declared.event.Event.{Event}
 use Rattle.router_trace.specs.declared.event.Event.TheVariants as event
-use Rattle.router_core.specs.declared.door.Door.{Door as DoorState}
+use Rattle.core_door.specs.declared.door.Door.{Door as DoorState}
 use Rattle.router_play.specs.declared.line.Line.{Line}
 use Rattle.router_play.specs.declared.line.Line.TheVariants as line
 use Rattle.router_play.specs.declared.script.Step.{Step}
@@ -18,7 +18,7 @@ use Rattle.router_trace.specs.Trace.{Trace, Did, Out, Took, Bound, Booked, Began
 use Rattle.router_trace.specs.Connection.{conn, is_live}
 use Rattle.router_trace.specs.Refusing.{rises}
 use Rattle.router_reply.specs.Acts.{journaled}
-use Rattle.router_core.specs.Door.{Verdict, says, passes, ends, door, door_behind}
+use Rattle.core_door.specs.Door.{Verdict, says, passes, ends, door, door_behind}
 use Rattle.router_core.specs.Moves.{IsTrace, ins, outs}
 use Rattle.router_play.specs.Listening.{door_for}
 

@@ -1,7 +1,7 @@
 -- The end of a run: what its router keeps, and how it failed.
 use Rattle.std.specs.Prelude.{List, Option, Some, None, Contains, ⊤}
-use Rattle.router_core.specs.declared.fault.CoreFault.{CoreFault}
-use Rattle.router_core.specs.declared.fault.CoreFault.TheVariants.{Disk, Memory, Failed, NoConnection}
+use Rattle.core_machine.specs.declared.fault.CoreFault.{CoreFault}
+use Rattle.core_machine.specs.declared.fault.CoreFault.TheVariants.{Disk, Memory, Failed, NoConnection}
 use Rattle.router_play.specs.declared.finish.Size.{Size}
 use Rattle.router_play.specs.declared.line.Line.{Line}
 use Rattle.router_play.specs.declared.line.Line.TheVariants as line

@@ -3,8 +3,6 @@ pub mod Script
 pub mod Playing
 pub mod Asking
 pub mod Carrying
-pub mod ScriptOrder
-pub mod Pieces
 pub mod Printing
 pub mod Ending
 pub use Rattle.router_trace.specs.Trace
@@ -12,12 +10,11 @@ pub use Rattle.router_trace.specs.Connection
 pub use Rattle.router_trace.specs.Refusing
 pub use Rattle.router_trace.specs.Order
 pub use Rattle.router_trace.specs.Frames
-pub use Rattle.router_conns.specs.Fits
+pub use Rattle.state_connections.specs.Fits
 pub use Rattle.router_state.specs.Tables
 pub use Rattle.router_core.specs.Replies
-pub use Rattle.router_core.specs.Faults
+pub use Rattle.core_machine.specs.Faults
 pub use Rattle.router_core.specs.Handling
 pub use Rattle.router_core.specs.Runs
-pub use Rattle.router_core.specs.Door
+pub use Rattle.core_door.specs.Door
 pub use Rattle.router_core.specs.Moves
-pub use Rattle.router_core.specs.Laws

@@ -6,8 +6,8 @@ use Rattle.route_table.specs.declared.sections.Role.TheVariants as role
 use Rattle.route_table.specs.Settings.{Settings, standard_listener}
 use Rattle.router_trace.specs.declared.event.PeerRole.{PeerRole}
 use Rattle.router_trace.specs.declared.event.PeerRole.TheVariants as peer
-use Rattle.router_core.specs.declared.door.Door.{Door as DoorState}
-use Rattle.router_core.specs.Door.{door_of}
+use Rattle.core_door.specs.declared.door.Door.{Door as DoorState}
+use Rattle.core_door.specs.Door.{door_of}
 
 -- a listener's role for peers in this role
 abbrev pub listening_for : PeerRole → Role

@@ -1,9 +1,9 @@
 -- When a player agrees with a script's scene.
 use Rattle.std.specs.Prelude.{◌≡◌, ◌++◌, ℕ, Bool, true, false, is_none, if◌then◌else◌, List, [], Option, Some, None, option_map}
-use Rattle.amqp_frames.specs.declared.item.Item.{Item}
+use Rattle.amqp_model.specs.declared.item.Item.{Item}
 use Rattle.amqp_frames.specs.Cuts.{Cuts}
 use Rattle.router_trace.specs.declared.event.ConnectionId.{ConnectionId}
-use Rattle.router_core.specs.declared.door.Door.{Door as DoorState}
+use Rattle.core_door.specs.declared.door.Door.{Door as DoorState}
 use Rattle.router_play.specs.declared.socket.Socket.{Socket}
 use Rattle.std.specs.Ordering.{nat_cmp}
 use Rattle.std.specs.BTreeMap.{get}
@@ -15,7 +15,7 @@ use Rattle.router_play.specs.declared.line.Line.{Line}
 use Rattle.route_table.specs.Settings.{Settings}
 use Rattle.router_play.specs.Script.{new_router}
 use Rattle.router_trace.specs.Configuration.{beginning}
-use Rattle.router_core.specs.Turns.{is_started}
+use Rattle.core_machine.specs.Turns.{is_started}
 use Rattle.router_core.specs.Handling.{Fits, id_of, is_failed}
 use Rattle.router_play.specs.Script.{Scene, refused, say, hand, with_socket, stream_of, Reads}
 use Rattle.router_play.specs.Ending.{TellsOf}

@@ -1,18 +1,18 @@
 -- A script, step by step: what happens to its connections, the trace and the lines.
 use Rattle.std.specs.Prelude.{◌≡◌, ℕ, Bool, true, false, ◌==◌, if◌then◌else◌, is_none, List, [], ◌∷◌, ◌++◌, map, length, Option, Some, None}
-use Rattle.amqp_frames.specs.declared.item.Item.{Item}
+use Rattle.amqp_model.specs.declared.item.Item.{Item}
 use Rattle.amqp_frames.specs.Cuts.{Cuts}
-use Rattle.amqp_frames.specs.ItemSpelling.{item_spelling}
-use Rattle.router_core.specs.declared.fault.CoreFault.TheVariants.{NoConnection}
+use Rattle.amqp_model.specs.ItemSpelling.{item_spelling}
+use Rattle.core_machine.specs.declared.fault.CoreFault.TheVariants.{NoConnection}
 use Rattle.router_trace.specs.declared.event.ConnectionId.{ConnectionId}
 use Rattle.router_trace.specs.declared.event.PeerRole.{PeerRole}
 use Rattle.router_trace.specs.declared.event.Event.{Event}
 use Rattle.router_trace.specs.declared.event.Event.TheVariants as event
 use Rattle.route_table.specs.Settings.{Settings}
-use Rattle.book_core.specs.Book.{empty_book}
+use Rattle.book_model.specs.Book.{empty_book}
 use Rattle.route_table.specs.Places.{routing_of}
 use Rattle.router_trace.specs.Configuration.{beginning}
-use Rattle.router_core.specs.declared.door.Door.{Door as DoorState}
+use Rattle.core_door.specs.declared.door.Door.{Door as DoorState}
 use Rattle.router_play.specs.declared.line.Line.{Line}
 use Rattle.router_play.specs.declared.line.Line.TheVariants as line
 use Rattle.router_play.specs.declared.socket.Socket.{Socket}
@@ -23,8 +23,9 @@ use Rattle.router_trace.specs.Connection.{Connection, conn, took, is_ready}
 use Rattle.router_trace.specs.Refusing.{refuses, rises}
 use Rattle.router_reply.specs.Acts.{Journaled, journaled}
 use Rattle.router_core.specs.Replies.{handled}
-use Rattle.router_core.specs.Runs.{Taking, IsNext, items_of, took_one}
-use Rattle.router_core.specs.Door.{Verdict, says, passes, ends, door, door_behind}
+use Rattle.router_core.specs.Runs.{IsNext}
+use Rattle.core_machine.specs.Moves.{Taking, items_of, took_one}
+use Rattle.core_door.specs.Door.{Verdict, says, passes, ends, door, door_behind}
 use Rattle.router_play.specs.Listening.{door_for}
 
 -- the state of a script: the router's id, its configuration and its trace, the number of the last connection made, the

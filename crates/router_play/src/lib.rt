@@ -2,7 +2,6 @@
 #![tactic(auto)]
 
 mod finish;
-mod laws;
 mod line;
 mod listening;
 mod player;
@@ -10,7 +9,6 @@ mod script;
 mod socket;
 mod sockets;
 
-pub use laws::{pieces_make_no_difference, scripts_keep_order, scripts_keep_windows_and_credit};
 pub use line::Line;
 pub use player::play_runs;
 pub use router_core::{Config, ConnectionId, CoreFault, PeerRole};

@@ -1,5 +1,5 @@
 //! The lines that a play prints.
-use amqp_perf::Binary;
+use amqp_model::Binary;
 use router_core::CoreFault;
 use router_trace::ConnectionId;
 use std::fmt::{self, Display, Formatter, Write};

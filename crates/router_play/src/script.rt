@@ -1,6 +1,6 @@
 //! A script: the steps of its runs, and the result of playing it.
 use crate::line::Line;
-use amqp_perf::Binary;
+use amqp_model::Binary;
 use router_core::CoreFault;
 use router_trace::{ConnectionId, PeerRole};
 

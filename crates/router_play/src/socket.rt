@@ -3,7 +3,8 @@ ghost use Rattle.std.specs.Prelude.{◌≡◌, IfOk};
 ghost use Rattle.router_play.specs.Script.{new_socket};
 ghost use Rattle.router_play.specs.Asking.{IsAsked};
 
-use amqp_frames::{FrameReader, Item};
+use amqp_frames::FrameReader;
+use amqp_model::Item;
 use router_core::{Door, DoorAnswer};
 use router_trace::Peer;
 use std::alloc::{AllocError, Global};

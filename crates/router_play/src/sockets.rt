@@ -6,7 +6,7 @@ ghost use Rattle.router_play.specs.Asking.{AsksAt, ReadsAt, ReadsOne};
 ghost use Rattle.router_play.specs.Playing.{PartsAt};
 
 use crate::socket::{Asked, Socket};
-use amqp_frames::{FrameFault, Item};
+use amqp_model::{FrameFault, Item};
 use std::alloc::{AllocError, Global};
 use std::collections::BTreeMap;
 

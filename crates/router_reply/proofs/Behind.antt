@@ -1,24 +1,24 @@
 -- The trace after an item, by its answer.
 use Rattle.std.proofs.Common.{◌≡◌, ◌∙◌, ap, refl, ℕ, true, false, List, []}
 use Rattle.std.specs.Prelude.{Option, Some, None}
-use Rattle.amqp_perf.specs.declared.perf.Attach.{Attach as AnAttach}
-use Rattle.amqp_perf.specs.declared.perf.Disposition.{Disposition as ADisposition}
-use Rattle.amqp_perf.specs.Parts.{attach_of}
-use Rattle.amqp_perf.specs.declared.perf.Perf.TheVariants as perf
-use Rattle.amqp_frames.specs.declared.item.Item.{Item}
-use Rattle.amqp_frames.specs.declared.item.Item.TheVariants as item
+use Rattle.amqp_model.specs.declared.perf.Attach.{Attach as AnAttach}
+use Rattle.amqp_model.specs.declared.perf.Disposition.{Disposition as ADisposition}
+use Rattle.amqp_model.specs.Parts.{attach_of}
+use Rattle.amqp_model.specs.declared.perf.Perf.TheVariants as perf
+use Rattle.amqp_model.specs.declared.item.Item.{Item}
+use Rattle.amqp_model.specs.declared.item.Item.TheVariants as item
 use Rattle.amqp_conn.specs.declared.conn.Conn.{Conn}
 use Rattle.router_trace.specs.declared.condition.Condition.{Condition}
 use Rattle.router_trace.specs.Trace.{Entry, Put, goes, each_to, puts}
 use Rattle.router_trace.specs.Links.{link_place}
 use Rattle.router_trace.specs.Settling.{part_of}
 use Rattle.router_trace.specs.declared.binding.Binding.{Binding}
-use Rattle.router_passing.specs.Passing.{with_bound}
-use Rattle.router_rows.specs.declared.answer.Answer.{Answer}
-use Rattle.router_rows.specs.declared.answer.Answer.TheVariants.{Attach, Refuse, Taken, Settle}
-use Rattle.router_rows.specs.Rows.{said}
+use Rattle.state_messages.specs.Passing.{with_bound}
+use Rattle.reply_rows.specs.declared.answer.Answer.{Answer}
+use Rattle.reply_rows.specs.declared.answer.Answer.TheVariants.{Attach, Refuse, Taken, Settle}
+use Rattle.reply_rows.specs.Rows.{said}
 use Rattle.router_reply.specs.Acts.{answer_of}
-use Rattle.router_transfers.specs.Transfers.{part_put, part_bound, disposition_in, given_behind}
+use Rattle.reply_transfers.specs.Transfers.{part_put, part_bound, disposition_in, given_behind}
 use Rattle.router_reply.specs.Replies.{item_row, item_bound, item_put, links_put, put_for_transfer, put_for_disposition, bound_for, settled_put, put_for_attach, put_if_attach, attach_put, row_found, behind_answer}
 use Rattle.router_reply.proofs.Puts.{goes_both}
 

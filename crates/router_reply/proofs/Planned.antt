@@ -1,9 +1,9 @@
 -- The answer to an event's item, by the phase of its connection.
 use Rattle.std.proofs.Common.{◌≡◌, sym, ap, subst, Bool, List}
 use Rattle.std.specs.Prelude.{Option}
-use Rattle.amqp_frames.specs.declared.item.Item.{Item}
+use Rattle.amqp_model.specs.declared.item.Item.{Item}
 use Rattle.amqp_conn.specs.declared.conn.Conn.{Conn}
-use Rattle.book_core.specs.Book.{BookView}
+use Rattle.book_model.specs.Book.{BookView}
 use Rattle.router_trace.specs.declared.event.ConnectionId.{ConnectionId}
 use Rattle.router_trace.specs.declared.event.Event.{Event}
 use Rattle.router_trace.specs.declared.event.Event.TheVariants as event

@@ -1,7 +1,7 @@
 -- What is put for an attach that is refused, if the answer fits in a frame of the peer's.
 use Rattle.std.proofs.Common.{◌≡◌, ℕ, Bool, true, false, ap, subst, [], ◌∷◌, Some, None}
 use Rattle.std.specs.Prelude.{if◌then◌else◌, unwrap_or}
-use Rattle.amqp_frames.specs.declared.item.Item.{Item}
+use Rattle.amqp_model.specs.declared.item.Item.{Item}
 use Rattle.router_trace.specs.Trace.{Trace, puts}
 use Rattle.router_state.specs.declared.tables.State.{State}
 use Rattle.router_state.specs.Tables.{TablesFit}

@@ -1,20 +1,20 @@
 -- What an event does to the book of durable deliveries: its acts, and the book and the journal of a trace.
 use Rattle.std.specs.Prelude.{ℕ, Bool, true, false, List, [], ◌∷◌, Option, Some, None}
-use Rattle.amqp_frames.specs.declared.item.Item.{Item}
+use Rattle.amqp_model.specs.declared.item.Item.{Item}
 use Rattle.amqp_conn.specs.declared.conn.Conn.{Conn}
-use Rattle.book_core.specs.declared.act.Act.{Act}
-use Rattle.book_core.specs.Book.{BookView, empty_book, effects}
+use Rattle.book_model.specs.declared.act.Act.{Act}
+use Rattle.book_model.specs.Book.{BookView, empty_book, effects}
 use Rattle.gate_journal.specs.Reserve.{reserve}
-use Rattle.router_store.specs.Acting.{event_acts as settled_acts}
-use Rattle.router_store.specs.Lost.{start_acts}
-use Rattle.router_store.specs.Store.{used_behind, batches_behind, exceeds}
+use Rattle.journal_store.specs.Acting.{event_acts as settled_acts}
+use Rattle.journal_store.specs.Lost.{start_acts}
+use Rattle.journal_store.specs.Store.{used_behind, batches_behind, exceeds}
 use Rattle.router_trace.specs.declared.event.Event.{Event}
 use Rattle.router_trace.specs.declared.event.Event.TheVariants as event
 use Rattle.router_trace.specs.Trace.{Trace, Did, Out, Took, Bound, Booked, Began}
 use Rattle.router_trace.specs.Connection.{standing, found, due}
-use Rattle.router_rows.specs.Booking.{answer_at}
-use Rattle.router_rows.specs.declared.answer.Answer.{Answer}
-use Rattle.router_rows.specs.declared.answer.Answer.TheVariants.{Nothing}
+use Rattle.reply_rows.specs.Booking.{answer_at}
+use Rattle.reply_rows.specs.declared.answer.Answer.{Answer}
+use Rattle.reply_rows.specs.declared.answer.Answer.TheVariants.{Nothing}
 use Rattle.router_reply.specs.Admitting.{admits, event_admission}
 use Rattle.router_reply.specs.Deciding.{decided, forgotten, terminus_of_event}
 

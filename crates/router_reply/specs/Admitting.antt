@@ -4,15 +4,15 @@ use Rattle.std.specs.Prelude.{ℕ, if◌then◌else◌, ◌||◌, is_none, List,
 use Rattle.amqp_link.specs.declared.part.Delivery.{Delivery as Told}
 use Rattle.amqp_link.specs.declared.part.Part.{Part}
 use Rattle.amqp_link.specs.declared.part.Part.TheVariants as part
-use Rattle.amqp_frames.specs.declared.item.Item.{Item}
-use Rattle.book_core.specs.declared.act.Act.{Act}
-use Rattle.book_core.specs.declared.act.Act.TheVariants.{Make, Admit, Decide, Forget, Drop}
-use Rattle.book_core.specs.declared.act.Admission.{Admission}
-use Rattle.book_core.specs.declared.row.RowNumber.{RowNumber}
-use Rattle.book_core.specs.declared.terminus.LinkKey.{LinkKey}
-use Rattle.book_core.specs.declared.terminus.TerminusNumber.{TerminusNumber}
-use Rattle.book_core.specs.Book.{BookView, terminus_of}
-use Rattle.router_store.specs.Acting.{admission_acts}
+use Rattle.amqp_model.specs.declared.item.Item.{Item}
+use Rattle.book_model.specs.declared.act.Act.{Act}
+use Rattle.book_model.specs.declared.act.Act.TheVariants.{Make, Admit, Decide, Forget, Drop}
+use Rattle.book_model.specs.declared.act.Admission.{Admission}
+use Rattle.book_model.specs.declared.row.RowNumber.{RowNumber}
+use Rattle.book_model.specs.declared.terminus.LinkKey.{LinkKey}
+use Rattle.book_model.specs.declared.terminus.TerminusNumber.{TerminusNumber}
+use Rattle.book_model.specs.Book.{BookView, terminus_of}
+use Rattle.journal_store.specs.Acting.{admission_acts}
 use Rattle.router_trace.specs.declared.event.Event.{Event}
 use Rattle.router_trace.specs.declared.event.Event.TheVariants as event
 use Rattle.router_trace.specs.declared.handle.Attachment.{Attachment}
@@ -21,10 +21,10 @@ use Rattle.router_trace.specs.Connection.{due}
 use Rattle.router_trace.specs.Following.{link_of}
 use Rattle.router_trace.specs.Links.{link, link_place, durable_key}
 use Rattle.router_trace.specs.Settling.{part_of}
-use Rattle.router_passing.specs.Passing.{consumer_of}
-use Rattle.router_rows.specs.declared.answer.Answer.{Answer}
-use Rattle.router_rows.specs.declared.answer.Answer.TheVariants.{Taken}
-use Rattle.router_transfers.specs.Transfers.{claimed_id}
+use Rattle.state_messages.specs.Passing.{consumer_of}
+use Rattle.reply_rows.specs.declared.answer.Answer.{Answer}
+use Rattle.reply_rows.specs.declared.answer.Answer.TheVariants.{Taken}
+use Rattle.reply_transfers.specs.Transfers.{claimed_id}
 
 -- the number of a durable link's terminus in the book
 abbrev pub terminus_for : BookView → Option LinkKey → Option TerminusNumber

@@ -1,22 +1,22 @@
 -- What an event decides and forgets of durable deliveries, and which terminus it makes or drops: by the event and by the answer to its item.
 use Rattle.std.specs.Prelude.{ℕ, true, false, if◌then◌else◌, List, [], ◌∷◌, ◌++◌, map, filter, Option, Some, None, option_map, option_and_then}
-use Rattle.amqp_perf.specs.declared.perf.Attach.{Attach as AnAttach}
-use Rattle.amqp_perf.specs.declared.perf.Disposition.{Disposition as ADisposition}
-use Rattle.amqp_perf.specs.declared.perf.Perf.{Perf}
-use Rattle.amqp_perf.specs.declared.perf.Perf.TheVariants as perf
-use Rattle.amqp_perf.specs.declared.perf.Role.{Role}
-use Rattle.amqp_perf.specs.declared.perf.Role.TheVariants.{Sender}
-use Rattle.amqp_frames.specs.declared.item.Item.{Item}
-use Rattle.amqp_frames.specs.declared.item.Item.TheVariants as item
-use Rattle.book_core.specs.declared.act.Decision.{Decision}
-use Rattle.book_core.specs.declared.row.RowNumber.{RowNumber}
-use Rattle.book_core.specs.declared.terminus.LinkKey.{LinkKey}
-use Rattle.book_core.specs.declared.terminus.LinkRole.{LinkRole}
-use Rattle.book_core.specs.declared.terminus.LinkRole.TheVariants.{Producer, Consumer}
-use Rattle.book_core.specs.declared.terminus.Terminus.{Terminus}
-use Rattle.book_core.specs.Book.{BookView, is_from, terminus_of}
-use Rattle.router_store.specs.declared.acting.TerminusAct.{TerminusAct}
-use Rattle.router_store.specs.declared.acting.TerminusAct.TheVariants as terminus
+use Rattle.amqp_model.specs.declared.perf.Attach.{Attach as AnAttach}
+use Rattle.amqp_model.specs.declared.perf.Disposition.{Disposition as ADisposition}
+use Rattle.amqp_model.specs.declared.perf.Perf.{Perf}
+use Rattle.amqp_model.specs.declared.perf.Perf.TheVariants as perf
+use Rattle.amqp_model.specs.declared.perf.Role.{Role}
+use Rattle.amqp_model.specs.declared.perf.Role.TheVariants.{Sender}
+use Rattle.amqp_model.specs.declared.item.Item.{Item}
+use Rattle.amqp_model.specs.declared.item.Item.TheVariants as item
+use Rattle.book_model.specs.declared.act.Decision.{Decision}
+use Rattle.book_model.specs.declared.row.RowNumber.{RowNumber}
+use Rattle.book_model.specs.declared.terminus.LinkKey.{LinkKey}
+use Rattle.book_model.specs.declared.terminus.LinkRole.{LinkRole}
+use Rattle.book_model.specs.declared.terminus.LinkRole.TheVariants.{Producer, Consumer}
+use Rattle.book_model.specs.declared.terminus.Terminus.{Terminus}
+use Rattle.book_model.specs.Book.{BookView, is_from, terminus_of}
+use Rattle.journal_store.specs.declared.acting.TerminusAct.{TerminusAct}
+use Rattle.journal_store.specs.declared.acting.TerminusAct.TheVariants as terminus
 use Rattle.router_trace.specs.declared.event.Event.{Event}
 use Rattle.router_trace.specs.declared.event.Event.TheVariants as event
 use Rattle.router_trace.specs.declared.handle.Attachment.{Attachment}
@@ -27,15 +27,15 @@ use Rattle.router_trace.specs.Deliveries.{last_of, none_if_ended}
 use Rattle.router_trace.specs.DeliveryFrames.{kept_outcome}
 use Rattle.router_trace.specs.Links.{link, holder, durable_key}
 use Rattle.router_trace.specs.Sessions.{session_on}
-use Rattle.router_links.specs.Fits.{channel_of}
-use Rattle.router_deliveries.specs.declared.change.Change.{Change}
-use Rattle.router_deliveries.specs.declared.change.Change.TheVariants as change
-use Rattle.router_deliveries.specs.declared.change.Gone.TheVariants as gone
-use Rattle.router_deliveries.specs.Deciding.{decided_rows, rows_from}
-use Rattle.router_deliveries.specs.Hearing.{heard_change}
-use Rattle.router_rows.specs.Booking.{wanted_key, wanted_address, wants_durable, new_terminus}
-use Rattle.router_rows.specs.declared.answer.Answer.{Answer}
-use Rattle.router_rows.specs.declared.answer.Answer.TheVariants.{Close, CloseWith, End, Attach, Detach}
+use Rattle.state_links.specs.Fits.{channel_of}
+use Rattle.state_deliveries.specs.declared.change.Change.{Change}
+use Rattle.state_deliveries.specs.declared.change.Change.TheVariants as change
+use Rattle.state_deliveries.specs.declared.change.Gone.TheVariants as gone
+use Rattle.state_deliveries.specs.Deciding.{decided_rows, rows_from}
+use Rattle.state_deliveries.specs.Hearing.{heard_change}
+use Rattle.reply_rows.specs.Booking.{wanted_key, wanted_address, wants_durable, new_terminus}
+use Rattle.reply_rows.specs.declared.answer.Answer.{Answer}
+use Rattle.reply_rows.specs.declared.answer.Answer.TheVariants.{Close, CloseWith, End, Attach, Detach}
 
 -- The changes of the deliveries that an event brings: those by its item, by the ends for full outboxes, and by the links that the answer ends.
 abbrev pub lost : ℕ → Change

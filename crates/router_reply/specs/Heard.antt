@@ -1,7 +1,7 @@
 -- What the router keeps of an event that it handled, for its answer: by the trace before the event.
 use Rattle.std.specs.Prelude.{◌≡◌, ℕ, true, List, Option, Some, None}
-use Rattle.amqp_perf.specs.declared.perf.Disposition.{Disposition as ADisposition}
-use Rattle.amqp_frames.specs.declared.item.Item.{Item}
+use Rattle.amqp_model.specs.declared.perf.Disposition.{Disposition as ADisposition}
+use Rattle.amqp_model.specs.declared.item.Item.{Item}
 use Rattle.router_trace.specs.declared.event.Event.{Event}
 use Rattle.router_trace.specs.declared.event.Event.TheVariants as event
 use Rattle.router_trace.specs.declared.event.ConnectionId.{ConnectionId}
@@ -11,12 +11,12 @@ use Rattle.router_trace.specs.Deliveries.{last_of}
 use Rattle.router_trace.specs.Links.{link_place}
 use Rattle.router_trace.specs.Sessions.{theirs, maps}
 use Rattle.router_trace.specs.Settling.{open_ids, part_of}
-use Rattle.router_links.specs.Fits.{channel_of}
-use Rattle.router_rows.specs.declared.answer.Answer.{Answer}
-use Rattle.router_rows.specs.declared.answer.Answer.TheVariants.{Settle}
+use Rattle.state_links.specs.Fits.{channel_of}
+use Rattle.reply_rows.specs.declared.answer.Answer.{Answer}
+use Rattle.reply_rows.specs.declared.answer.Answer.TheVariants.{Settle}
 use Rattle.router_state.specs.Tables.{beats}
 use Rattle.router_reply.specs.declared.heard.Heard.{Heard}
-use Rattle.router_transfers.specs.Transfers.{disposition_in}
+use Rattle.reply_transfers.specs.Transfers.{disposition_in}
 
 -- the deliveries that a disposition decides without settling them
 abbrev pub ids_named : Trace → ℕ → ℕ → Option ADisposition → List ℕ → Type 0

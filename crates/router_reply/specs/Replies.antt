@@ -1,15 +1,15 @@
 -- The trace after an event.
 use Rattle.std.specs.Prelude.{ℕ, true, false, not, if◌then◌else◌, List, [], ◌∷◌, ◌++◌, Option, Some, None}
-use Rattle.amqp_perf.specs.declared.perf.Attach.{Attach as AnAttach}
-use Rattle.amqp_perf.specs.declared.perf.Perf.{Perf}
-use Rattle.amqp_perf.specs.declared.perf.Perf.TheVariants as perf
-use Rattle.amqp_perf.specs.Parts.{attach_of}
-use Rattle.amqp_perf.specs.declared.perf.Disposition.{Disposition as ADisposition}
-use Rattle.amqp_perf.specs.declared.state.DeliveryState.TheVariants as state
-use Rattle.amqp_frames.specs.declared.item.Item.{Item}
-use Rattle.amqp_frames.specs.declared.item.Item.TheVariants as item
+use Rattle.amqp_model.specs.declared.perf.Attach.{Attach as AnAttach}
+use Rattle.amqp_model.specs.declared.perf.Perf.{Perf}
+use Rattle.amqp_model.specs.declared.perf.Perf.TheVariants as perf
+use Rattle.amqp_model.specs.Parts.{attach_of}
+use Rattle.amqp_model.specs.declared.perf.Disposition.{Disposition as ADisposition}
+use Rattle.amqp_model.specs.declared.state.DeliveryState.TheVariants as state
+use Rattle.amqp_model.specs.declared.item.Item.{Item}
+use Rattle.amqp_model.specs.declared.item.Item.TheVariants as item
 use Rattle.amqp_conn.specs.declared.conn.Conn.{Conn}
-use Rattle.book_core.specs.declared.row.RowNumber.{RowNumber}
+use Rattle.book_model.specs.declared.row.RowNumber.{RowNumber}
 use Rattle.router_trace.specs.declared.condition.Condition.{Condition}
 use Rattle.router_trace.specs.declared.condition.Condition.TheVariants.{ResourceLimitExceeded, Stolen, FrameSizeTooSmall}
 use Rattle.router_trace.specs.declared.event.Event.{Event}
@@ -26,11 +26,11 @@ use Rattle.router_trace.specs.LinkFrames.{attach_item, detach_item, answer_to, r
 use Rattle.router_trace.specs.Links.{link_place, free_handle, holder, key_at}
 use Rattle.router_trace.specs.Peers.{largest_frame}
 use Rattle.router_state.specs.Tables.{beats}
-use Rattle.router_passing.specs.Passing.{with_bound}
-use Rattle.router_rows.specs.declared.answer.Answer.{Answer}
-use Rattle.router_rows.specs.declared.answer.Answer.TheVariants.{Attach, Refuse, Taken, Settle}
-use Rattle.router_rows.specs.Rows.{said, down_reply}
-use Rattle.router_transfers.specs.Transfers.{settled_answers, part_put, part_bound}
+use Rattle.state_messages.specs.Passing.{with_bound}
+use Rattle.reply_rows.specs.declared.answer.Answer.{Answer}
+use Rattle.reply_rows.specs.declared.answer.Answer.TheVariants.{Attach, Refuse, Taken, Settle}
+use Rattle.reply_rows.specs.Rows.{said, down_reply}
+use Rattle.reply_transfers.specs.Transfers.{settled_answers, part_put, part_bound}
 use Rattle.router_reply.specs.Acts.{answer_of, found_acts}
 use Rattle.router_reply.specs.Admitting.{row_in}
 

@@ -6,13 +6,14 @@ ghost use Rattle.router_state.specs.Tables.{TablesFit};
 ghost use Rattle.router_reply.specs.Admitting.{terminus_for, admission_of, admitted_to, whole_admission, part_admission, answer_admission, row_in};
 
 use amqp_link::{Delivery, Part};
-use amqp_perf::DeliveryTag;
-use book_core::{Act, Admission, Book, LinkKey, RowNumber, TerminusNumber};
+use amqp_model::DeliveryTag;
+use book_core::Book;
+use book_model::{Act, Admission, LinkKey, RowNumber, TerminusNumber};
 use bytes::Bytes;
-use router_rows::Answer;
+use reply_rows::Answer;
+use reply_transfers::claimed_id;
 use router_state::State;
 use router_trace::{Attachment, ConnectionId};
-use router_transfers::claimed_id;
 use std::alloc::AllocError;
 
 /// The number of a durable link's terminus in the book.

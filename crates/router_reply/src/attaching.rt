@@ -1,7 +1,7 @@
 //! Attaches that are taken or refused.
 ghost use Rattle.std.specs.Prelude.{◌≡◌, ◌∷◌, [], List, ℕ, OnOk, IfOk, Some, None, not, if◌then◌else◌};
 ghost use Rattle.router_trace.specs.declared.condition.Condition.TheVariants as condition;
-ghost use Rattle.amqp_perf.specs.declared.perf.Attach.{Attach as AnAttach};
+ghost use Rattle.amqp_model.specs.declared.perf.Attach.{Attach as AnAttach};
 ghost use Rattle.router_trace.specs.Trace.{Entry, goes, puts};
 ghost use Rattle.router_trace.specs.Links.{holder, key_at, free_handle};
 ghost use Rattle.router_trace.specs.LinkFrames.{fits, detach_item, answer_to};
@@ -10,10 +10,10 @@ ghost use Rattle.router_reply.specs.Replies.{stolen_by, unless_too_large, attach
 ghost use Rattle.router_trace.specs.Peers.{largest_frame};
 
 use crate::closing::write_detach;
-use amqp_frames::{Item, item_len};
-use amqp_perf::{Attach, Perf};
-use book_core::LinkKey;
-use router_rows::Answer;
+use amqp_frames::item_len;
+use amqp_model::{Attach, Item, Perf};
+use book_model::LinkKey;
+use reply_rows::Answer;
 use router_state::State;
 use router_trace::{Condition, RouterId, attach_item, is_durable};
 use std::alloc::AllocError;

@@ -4,13 +4,13 @@ ghost use Rattle.router_trace.specs.Trace.{Entry, puts};
 ghost use Rattle.router_state.specs.Tables.{TablesFit};
 ghost use Rattle.router_trace.specs.LinkFrames.{detach_item};
 ghost use Rattle.router_trace.specs.Frames.{closing, open_item, close_item};
-ghost use Rattle.router_rows.specs.Rows.{said};
+ghost use Rattle.reply_rows.specs.Rows.{said};
 ghost use Rattle.router_reply.specs.Replies.{ends, closing_of};
 ghost use Rattle.router_trace.specs.Connection.{conn as known};
 ghost use Rattle.router_trace.specs.declared.condition.Condition.TheVariants.{ResourceLimitExceeded};
 
 use amqp_conn::Conn;
-use router_rows::Answer;
+use reply_rows::Answer;
 use router_state::State;
 use router_trace::{Condition, RouterId, flow_item, header_item, link_flow_item};
 use std::alloc::AllocError;

@@ -1,23 +1,23 @@
 //! What an event decides and forgets of durable deliveries, by the answer to its item, before anything is done.
 ghost use Rattle.std.specs.Prelude.{◌≡◌, ◌++◌, ◌∷◌, [], List, ℕ, map, filter, option_map, IfOk, OnOk};
-ghost use Rattle.book_core.specs.Book.{is_from};
+ghost use Rattle.book_model.specs.Book.{is_from};
 ghost use Rattle.router_trace.specs.Trace.{Entry};
 ghost use Rattle.router_trace.specs.Connection.{due};
 ghost use Rattle.router_trace.specs.Deliveries.{none_if_ended};
 ghost use Rattle.router_state.specs.Tables.{TablesFind};
 ghost use Rattle.router_trace.specs.Sessions.{session_on};
-ghost use Rattle.router_links.specs.Fits.{channel_of};
-ghost use Rattle.router_deliveries.specs.Hearing.{heard_change};
+ghost use Rattle.state_links.specs.Fits.{channel_of};
+ghost use Rattle.state_deliveries.specs.Hearing.{heard_change};
 ghost use Rattle.router_reply.specs.Deciding.{lost, listed, stolen_from, stolen_in, stolen_for, ended_by, event_changes, as_kept, decided, settled_on, sent_by, sent_from, closed_terminus, forgotten_by, forgotten_in, forgotten};
 
-use amqp_frames::Item;
-use amqp_perf::{Disposition, Perf, Role};
-use book_core::{Book, Decision, LinkRole, RowNumber, Terminus, TerminusNumber};
-use router_deliveries::{Change, Gone};
-use router_frames::kept_outcome;
-use router_rows::{Answer, wanted_key};
+use amqp_model::{Disposition, Item, Perf, Role};
+use book_core::Book;
+use book_model::{Decision, LinkRole, RowNumber, Terminus, TerminusNumber};
+use reply_frames::kept_outcome;
+use reply_rows::{Answer, wanted_key};
 use router_state::{State, none_if_ended};
 use router_trace::{Attachment, Event};
+use state_deliveries::{Change, Gone};
 use std::alloc::{AllocError, Global};
 
 /// Adds to a list.

@@ -9,12 +9,12 @@ ghost use Rattle.router_state.specs.Tables.{TablesFit, TablesAt, TablesFind, bea
 ghost use Rattle.router_reply.specs.Heard.{ids_found, ItemHeard, IsHeard};
 
 use amqp_conn::Conn;
-use amqp_frames::Item;
 use amqp_link::Part;
-use router_rows::Answer;
+use amqp_model::Item;
+use reply_rows::Answer;
+use reply_transfers::{disposition_in, last_of};
 use router_state::State;
 use router_trace::{ConnectionId, Event, Outgoing};
-use router_transfers::{disposition_in, last_of};
 use std::alloc::{AllocError, Global};
 
 /// What is kept of an event that was handled, for its answer.

@@ -1,25 +1,25 @@
 //! What an event is answered with and what it does to the book of durable deliveries, before any of it is done.
 ghost use Rattle.std.specs.Prelude.{◌≡◌, ℕ, [], List, option_map, unwrap_or, IfOk};
-ghost use Rattle.book_core.specs.Book.{terminus_of};
+ghost use Rattle.book_model.specs.Book.{terminus_of};
 ghost use Rattle.router_trace.specs.Trace.{Entry};
 ghost use Rattle.router_trace.specs.Connection.{phase_found};
 ghost use Rattle.router_trace.specs.Links.{free_handle};
 ghost use Rattle.router_state.specs.Tables.{TablesFind, TablesAt};
-ghost use Rattle.router_rows.specs.Booking.{wanted_key, wanted_address, new_terminus, has_room, durable_refusal, attach_unless, booked_perf, book_refusal, answer_at};
+ghost use Rattle.reply_rows.specs.Booking.{wanted_key, wanted_address, new_terminus, has_room, durable_refusal, attach_unless, booked_perf, book_refusal, answer_at};
 ghost use Rattle.router_reply.specs.Acts.{event_answer};
 ghost use Rattle.router_reply.specs.Deciding.{decided, forgotten, made_for, made_by, terminus_by, terminus_of_event};
 
 use crate::deciding::{closed_terminus, decided, forgotten};
 use amqp_conn::Conn;
-use amqp_frames::Item;
-use amqp_perf::{Attach, Perf, Text};
-use book_core::{Book, Decision, LinkKey, RowNumber, Terminus};
-use router_rows::{
+use amqp_model::{Attach, Item, Perf, Text};
+use book_core::Book;
+use book_model::{Decision, LinkKey, RowNumber, Terminus};
+use journal_store::TerminusAct;
+use reply_rows::{
     Answer, attach_unless, booked_transfer, durable_refusal, item_reply, volatile_refusal,
     wanted_address, wanted_key, wants_durable,
 };
 use router_state::State;
-use router_store::TerminusAct;
 use router_trace::Event;
 use std::alloc::{AllocError, Global};
 
@@ -264,7 +264,7 @@ fn planned(
 /// Plans an event that isn't refused, after the turn that ended these connections because their outboxes were full (`State::turn`): what its item is
 /// answered with, by the tables as the event finds them and by the book, and what the event decides, forgets, makes or drops. `full` says that
 /// the journal has no room for the acts that the event would have else; `phase` is the phase of the item's connection as the event finds it
-/// (`router_conns::phase_found`).
+/// (`state_connections::phase_found`).
 ///
 /// # Errors
 ///

@@ -4,14 +4,14 @@ use Rattle.std.proofs.Common.{append_assoc, append-nil, length-append}
 use Rattle.std.proofs.Math.Seq.{take-append-add}
 use Rattle.std.specs.Io.KnownBytes.{Appends}
 use Rattle.router_trace.specs.declared.event.ConnectionId.{ConnectionId}
-use Rattle.router_core.specs.declared.router.Batch.{Batch}
-use Rattle.router_counts.specs.declared.counts.Counts.{Counts}
-use Rattle.router_counts.specs.Counting.{with_batch}
-use Rattle.router_service.specs.declared.end.WriteEnd.{WriteEnd}
-use Rattle.router_service.specs.declared.end.WriteEnd.TheVariants as end
-use Rattle.router_service.specs.Spelled.{spelled}
+use Rattle.core_machine.specs.declared.answers.Batch.{Batch}
+use Rattle.core_machine.specs.declared.counts.Counts.{Counts}
+use Rattle.core_machine.specs.Counting.{with_batch}
+use Rattle.serve_streams.specs.declared.end.WriteEnd.{WriteEnd}
+use Rattle.serve_streams.specs.declared.end.WriteEnd.TheVariants as end
+use Rattle.serve_streams.specs.Spelled.{spelled}
 use Rattle.router_serve.specs.Wrote.{batches_spelled, items_in, Follow, with_batches, unwritten, Wrote}
-use Rattle.router_service.proofs.Appending.{appends_on}
+use Rattle.serve_streams.proofs.Appending.{appends_on}
 
 -- all batches so far follow each other and were written
 abbrev pub IsFar : ConnectionId → ℕ → Option (List ℕ) → Option (List ℕ) → Counts → Counts → Type 0

@@ -3,17 +3,17 @@ use Rattle.std.proofs.Common.{◌≡◌, ◌∙◌, sym, ap, refl, subst, ℕ, s
 use Rattle.std.specs.Prelude.{slice_get}
 use Rattle.std.proofs.KnownBytes.{Consumes-nil, Consumes-trans}
 use Rattle.std.specs.Io.KnownBytes.{Consumes, IsAtEnd}
-use Rattle.amqp_frames.specs.declared.fault.FrameFault.{FrameFault}
-use Rattle.amqp_frames.specs.declared.item.Item.{Item}
-use Rattle.amqp_frames.specs.declared.item.Item.TheVariants as item
+use Rattle.amqp_model.specs.declared.frame_fault.FrameFault.{FrameFault}
+use Rattle.amqp_model.specs.declared.item.Item.{Item}
+use Rattle.amqp_model.specs.declared.item.Item.TheVariants as item
 use Rattle.amqp_frames.specs.Cuts.{Cuts, Stream}
-use Rattle.router_counts.specs.declared.counts.Counts.{Counts}
-use Rattle.router_service.specs.declared.end.ReadEnd.{ReadEnd}
-use Rattle.router_service.specs.declared.end.ReadEnd.TheVariants as end
-use Rattle.router_service.specs.Greeting.{Gives, Stops}
-use Rattle.router_seats.specs.Adding.{with_items}
+use Rattle.core_machine.specs.declared.counts.Counts.{Counts}
+use Rattle.serve_streams.specs.declared.end.ReadEnd.{ReadEnd}
+use Rattle.serve_streams.specs.declared.end.ReadEnd.TheVariants as end
+use Rattle.serve_streams.specs.Greeting.{Gives, Stops}
+use Rattle.serve_lock.specs.Adding.{with_items}
 use Rattle.router_serve.specs.Submitting.{CountsSome, ends_badly, HandsIn, Hinders, is_bad, is_whole}
-use Rattle.router_service.proofs.Streams.{at_end, Came, gives_more, gives_nothing, gives_the_same, none_behind}
+use Rattle.serve_streams.proofs.Streams.{at_end, Came, gives_more, gives_nothing, gives_the_same, none_behind}
 use Rattle.router_serve.proofs.Submits.{items_added, none_counted}
 
 -- the last item of a list is that of its end

@@ -4,12 +4,12 @@ use Rattle.std.proofs.lemmas.List.{length-append, length-drop}
 use Rattle.std.specs.Iterator.{Yields}
 use Rattle.std.specs.Vec.Iter.{into_iter_items, into_iter_steps}
 use Rattle.std.specs.declared.vec.IntoIter.{IntoIter}
-use Rattle.amqp_frames.specs.declared.item.Item.{Item}
+use Rattle.amqp_model.specs.declared.item.Item.{Item}
 use Rattle.amqp_frames.specs.Cuts.{Stream}
-use Rattle.router_counts.specs.declared.counts.Counts.{Counts}
-use Rattle.router_service.specs.declared.end.ReadEnd.{ReadEnd}
-use Rattle.router_service.specs.declared.end.ReadEnd.TheVariants as end
-use Rattle.router_seats.specs.Adding.{Handled, with_items}
+use Rattle.core_machine.specs.declared.counts.Counts.{Counts}
+use Rattle.serve_streams.specs.declared.end.ReadEnd.{ReadEnd}
+use Rattle.serve_streams.specs.declared.end.ReadEnd.TheVariants as end
+use Rattle.serve_lock.specs.Adding.{Handled, with_items}
 use Rattle.router_serve.specs.Submitting.{CountsGone, CountsSome, HandsIn, Hinders, IsCore, with_downs, needs_down, Submitted}
 
 -- items, then more of them

@@ -1,15 +1,15 @@
 -- What a reader submits.
 use Rattle.std.specs.Prelude.{◌≡◌, ◌≢◌, ◌≤◌, ◌⊎◌, ℕ, ◌+◌, ◌-◌, Bool, true, false, List, [], ◌++◌, Option, Some, length, slice_get}
 use Rattle.std.specs.Io.KnownBytes.{Consumes, IsAtEnd}
-use Rattle.amqp_frames.specs.declared.item.Item.{Item}
-use Rattle.amqp_frames.specs.declared.item.Item.TheVariants as item
+use Rattle.amqp_model.specs.declared.item.Item.{Item}
+use Rattle.amqp_model.specs.declared.item.Item.TheVariants as item
 use Rattle.amqp_frames.specs.Cuts.{Stream}
-use Rattle.router_counts.specs.declared.counts.Counts.{Counts}
-use Rattle.router_core.specs.declared.fault.CoreFault.TheVariants.{Failed, NoConnection}
-use Rattle.router_seats.specs.Adding.{with_items}
-use Rattle.router_service.specs.declared.end.ReadEnd.{ReadEnd}
-use Rattle.router_service.specs.declared.end.ReadEnd.TheVariants as end
-use Rattle.router_service.specs.Greeting.{Gives}
+use Rattle.core_machine.specs.declared.counts.Counts.{Counts}
+use Rattle.core_machine.specs.declared.fault.CoreFault.TheVariants.{Failed, NoConnection}
+use Rattle.serve_lock.specs.Adding.{with_items}
+use Rattle.serve_streams.specs.declared.end.ReadEnd.{ReadEnd}
+use Rattle.serve_streams.specs.declared.end.ReadEnd.TheVariants as end
+use Rattle.serve_streams.specs.Greeting.{Gives}
 
 -- each item that left a queue is counted
 pub record CountsGone (old new : Counts) (before behind : List Item) : Type 0 where

@@ -2,11 +2,11 @@
 use Rattle.std.specs.Prelude.{◌≡◌, ◌≢◌, ℕ, ◌+◌, ◌≤◌, List, [], ◌∷◌, ◌++◌, Option, length, take}
 use Rattle.std.specs.Io.KnownBytes.{Appends}
 use Rattle.router_trace.specs.declared.event.ConnectionId.{ConnectionId}
-use Rattle.router_core.specs.declared.router.Batch.{Batch}
-use Rattle.router_counts.specs.declared.counts.Counts.{Counts}
-use Rattle.router_service.specs.declared.end.WriteEnd.{WriteEnd}
-use Rattle.router_service.specs.declared.end.WriteEnd.TheVariants as end
-use Rattle.router_service.specs.Spelled.{spelled}
+use Rattle.core_machine.specs.declared.answers.Batch.{Batch}
+use Rattle.core_machine.specs.declared.counts.Counts.{Counts}
+use Rattle.serve_streams.specs.declared.end.WriteEnd.{WriteEnd}
+use Rattle.serve_streams.specs.declared.end.WriteEnd.TheVariants as end
+use Rattle.serve_streams.specs.Spelled.{spelled}
 
 -- those of the items of batches
 abbrev pub batches_spelled : List Batch → List ℕ

@@ -1,13 +1,14 @@
 //! The thread that reads what a peer sends and submits it to the router.
 ghost use Rattle.std.specs.Prelude.{◌≡◌, [], false, length, OnOk, OnErr, IfErr};
-ghost use Rattle.router_seats.specs.Adding.{with_items};
+ghost use Rattle.serve_lock.specs.Adding.{with_items};
 ghost use Rattle.router_serve.specs.Submitting.{CountsGone, CountsSome, ends_badly, HandsIn, Hinders, IsCore, needs_down, Submitted};
 
-use amqp_frames::{FrameReader, Item};
-use disk_core::Disk;
-use router_core::{ConnectionId, CoreFault, Event};
-use router_service::{Gate, ReadEnd, Side, read_items};
-use router_shared::{Ledgers, Log, Receipt, Seat, Shared};
+use amqp_frames::FrameReader;
+use amqp_model::Item;
+use core_machine::{CoreFault, Machine};
+use router_trace::{ConnectionId, Event};
+use serve_lock::{Ledgers, Log, Receipt, Seat, Shared};
+use serve_streams::{Gate, ReadEnd, Side, read_items};
 use std::alloc::Global;
 use std::collections::VecDeque;
 use std::io::Read;
@@ -19,10 +20,10 @@ pub const PIECE: usize = 65_536;
 /// Submits what a peer sends: the items left over from the door, then those of the input, and at the end one loss of the
 /// connection, unless the router answered `Failed` or `NoConnection`. It returns the seat, the receipts if any, and
 /// why it ended. The seat counts as many items as came, unless memory is refused or the router answers a fault.
-pub fn serve_reader<D: Disk, L: Log, G: Ledgers, R: Wait, I: Read, P: Gate>(
+pub fn serve_reader<M: Machine, L: Log, G: Ledgers, R: Wait, I: Read, P: Gate>(
     rt: &R,
     alloc: Global,
-    shared: &Shared<D, L, G>,
+    shared: &Shared<M, L, G>,
     seat: Seat<G>,
     conn: ConnectionId,
     left: Vec<Item>,
@@ -53,10 +54,10 @@ fn needs_down(end: ReadEnd) -> bool
 }
 
 /// Submits the items left over and those of the input, until one of them is refused or the input ends.
-fn hand_in_all<D: Disk, L: Log, G: Ledgers, R: Wait, I: Read, P: Gate>(
+fn hand_in_all<M: Machine, L: Log, G: Ledgers, R: Wait, I: Read, P: Gate>(
     rt: &R,
     alloc: Global,
-    shared: &Shared<D, L, G>,
+    shared: &Shared<M, L, G>,
     seat: &mut Seat<G>,
     conn: ConnectionId,
     left: Vec<Item>,
@@ -91,10 +92,10 @@ fn hand_in_all<D: Disk, L: Log, G: Ledgers, R: Wait, I: Read, P: Gate>(
 /// # Errors
 ///
 /// Why the reader ends: the router's fault, `Memory`, or `End` after an item `Bad`.
-fn hand_in<D: Disk, L: Log, G: Ledgers, R: Wait, P: Gate>(
+fn hand_in<M: Machine, L: Log, G: Ledgers, R: Wait, P: Gate>(
     rt: &R,
     alloc: Global,
-    shared: &Shared<D, L, G>,
+    shared: &Shared<M, L, G>,
     seat: &mut Seat<G>,
     conn: ConnectionId,
     items: Vec<Item>,
@@ -131,9 +132,9 @@ fn hand_in<D: Disk, L: Log, G: Ledgers, R: Wait, P: Gate>(
 /// # Errors
 ///
 /// The router's fault.
-fn make_way<D: Disk, L: Log, G: Ledgers, R: Wait, P: Gate>(
+fn make_way<M: Machine, L: Log, G: Ledgers, R: Wait, P: Gate>(
     rt: &R,
-    shared: &Shared<D, L, G>,
+    shared: &Shared<M, L, G>,
     seat: &mut Seat<G>,
     conn: ConnectionId,
     passed: &mut VecDeque<Item>,
@@ -154,9 +155,9 @@ fn make_way<D: Disk, L: Log, G: Ledgers, R: Wait, P: Gate>(
 /// # Errors
 ///
 /// The router's fault.
-fn submit_all<D: Disk, L: Log, G: Ledgers, R: Wait>(
+fn submit_all<M: Machine, L: Log, G: Ledgers, R: Wait>(
     rt: &R,
-    shared: &Shared<D, L, G>,
+    shared: &Shared<M, L, G>,
     seat: &mut Seat<G>,
     conn: ConnectionId,
     items: &mut VecDeque<Item>,

@@ -1,20 +1,21 @@
-//! The desk as a service.
-use crate::desk::Desk;
+//! The server as a service.
 use crate::reader::serve_reader;
+use crate::server::Server;
 use crate::writer::serve_writer;
-use amqp_frames::{FrameReader, Item};
-use disk_core::Disk;
-use router_core::{ConnectionId, CoreFault, Event, Peer};
-use router_service::{Gate, ReadEnd, Service, WriteEnd};
-use router_shared::{Names, Seat};
+use amqp_frames::FrameReader;
+use amqp_model::Item;
+use core_machine::{CoreFault, Machine};
+use router_trace::{ConnectionId, Event, Peer};
+use serve_lock::{Names, Seat};
+use serve_streams::{Gate, ReadEnd, Service, WriteEnd};
 use std::io::{Read, Write};
 use std::sync::Wait;
 
-impl<D: Disk + Send, N: Names> Service for Desk<D, N> {
+impl<M: Machine + Send, N: Names> Service for Server<M, N> {
     type Seat = Seat<N>;
 
     fn seat<R: Wait>(&self, rt: &R) -> Option<Seat<N>> {
-        let free = self.bench.lock(rt).pop();
+        let free = self.idle.lock(rt).pop();
         match free {
             Some(seat) => Some(seat),
             None => self.shared.seat(rt),
@@ -22,7 +23,7 @@ impl<D: Disk + Send, N: Names> Service for Desk<D, N> {
     }
 
     fn put_back<R: Wait>(&self, rt: &R, seat: Seat<N>) {
-        let _ = self.bench.lock(rt).push(seat);
+        let _ = self.idle.lock(rt).push(seat);
     }
 
     fn start<R: Wait>(&self, rt: &R) -> Result<(), CoreFault> {

@@ -1,23 +1,23 @@
 //! The thread that writes a connection's outgoing items.
 ghost use Rattle.std.specs.Prelude.{◌≡◌, ◌≤◌, true, length, take, ℕ, OnErr, IfOk};
 ghost use Rattle.std.specs.Io.KnownBytes.{Appends};
-ghost use Rattle.router_service.specs.Spelled.{spelled};
+ghost use Rattle.serve_streams.specs.Spelled.{spelled};
 ghost use Rattle.router_serve.specs.Wrote.{Wrote};
 
-use disk_core::Disk;
-use router_core::{Batch, ConnectionId};
-use router_service::{Gate, Side, WriteEnd, spell, write_beginning};
-use router_shared::{Ledgers, Log, Seat, Shared};
+use core_machine::{Batch, Machine};
+use router_trace::ConnectionId;
+use serve_lock::{Ledgers, Log, Seat, Shared};
+use serve_streams::{Gate, Side, WriteEnd, spell, write_beginning};
 use std::alloc::{AllocError, Global};
 use std::io::Write;
 use std::sync::Wait;
 
 /// Writes a connection's outgoing items, batch by batch, each in one write if the output takes it whole, until
 /// the router ends the connection or something fails. It returns the seat, and why it ended.
-pub fn serve_writer<D: Disk, L: Log, G: Ledgers, R: Wait, W: Write, P: Gate>(
+pub fn serve_writer<M: Machine, L: Log, G: Ledgers, R: Wait, W: Write, P: Gate>(
     rt: &R,
     alloc: Global,
-    shared: &Shared<D, L, G>,
+    shared: &Shared<M, L, G>,
     seat: Seat<G>,
     conn: ConnectionId,
     output: &mut W,

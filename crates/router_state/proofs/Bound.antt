@@ -2,19 +2,19 @@
 use Rattle.std.proofs.Common.{◌≡◌, ◌∙◌, ℕ, Bool, true, false, ap, sym, refl, Option, Some, None, ◌∷◌, List}
 use Rattle.std.specs.Prelude.{if◌then◌else◌}
 use Rattle.std.proofs.lemmas.Bool.{eqb-true}
-use Rattle.amqp_frames.specs.declared.item.Item.{Item}
+use Rattle.amqp_model.specs.declared.item.Item.{Item}
 use Rattle.router_trace.specs.declared.binding.Binding.{Binding}
-use Rattle.book_core.specs.declared.act.Act.{Act}
+use Rattle.book_model.specs.declared.act.Act.{Act}
 use Rattle.router_trace.specs.Trace.{Trace, Took, Booked}
 use Rattle.router_trace.specs.Links.{link_place}
 use Rattle.router_trace.specs.Connection.{has}
 use Rattle.router_trace.specs.Deliveries.{none_if_ended, ended_first, channels_found}
 use Rattle.router_trace.specs.Sessions.{is_channel, maps, theirs}
 use Rattle.router_trace.specs.Settling.{part_at, part_of}
-use Rattle.router_passing.specs.declared.passing.Passing.{Passing}
-use Rattle.router_passing.specs.Fits.{PassingFit}
-use Rattle.router_passing.specs.Passing.{with_bound}
-use Rattle.router_passing.proofs.Quiet.{taken_fits, booked_fits as passing_booked}
+use Rattle.state_messages.specs.declared.passing.Passing.{Passing}
+use Rattle.state_messages.specs.Fits.{PassingFit}
+use Rattle.state_messages.specs.Passing.{with_bound}
+use Rattle.state_messages.proofs.Quiet.{taken_fits, booked_fits as passing_booked}
 use Rattle.router_state.specs.declared.tables.State.{State}
 use Rattle.router_state.specs.Tables.{TablesFit}
 

@@ -5,11 +5,11 @@ pub use Rattle.router_trace.specs.Connection
 pub use Rattle.router_trace.specs.Refusing
 pub use Rattle.router_trace.specs.Order
 pub use Rattle.router_trace.specs.Frames
-pub use Rattle.router_conns.specs.Fits
+pub use Rattle.state_connections.specs.Fits
 pub use Rattle.router_trace.specs.Sessions
 pub use Rattle.router_trace.specs.Clocks
-pub use Rattle.router_conns.specs.Timing
-pub use Rattle.router_sessions.specs.Windows
+pub use Rattle.state_connections.specs.Timing
+pub use Rattle.state_sessions.specs.Windows
 pub use Rattle.router_trace.specs.Peers
 pub use Rattle.router_trace.specs.Links
-pub use Rattle.router_conns.specs.Peering
+pub use Rattle.state_connections.specs.Peering

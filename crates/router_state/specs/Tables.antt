@@ -7,12 +7,12 @@ use Rattle.router_trace.specs.Trace.{Trace, Put, ups}
 use Rattle.router_trace.specs.Frames.{beat_item}
 use Rattle.router_trace.specs.Clocks.{terms, written, needs_beat}
 use Rattle.router_trace.specs.Connection.{conn, due, found, live_of, is_ready}
-use Rattle.router_conns.specs.Fits.{ConnectionsFit, ConnectionsAt}
-use Rattle.router_conns.specs.Noting.{is_noted}
-use Rattle.router_conns.specs.Peering.{PeersFit}
-use Rattle.router_conns.specs.Timing.{ClocksFit}
-use Rattle.router_passing.specs.Fits.{PassingFit}
-use Rattle.router_sessions.specs.Fits.{SessionsFit}
+use Rattle.state_connections.specs.Fits.{ConnectionsFit, ConnectionsAt}
+use Rattle.state_connections.specs.Noting.{is_noted}
+use Rattle.state_connections.specs.Peering.{PeersFit}
+use Rattle.state_connections.specs.Timing.{ClocksFit}
+use Rattle.state_messages.specs.Fits.{PassingFit}
+use Rattle.state_sessions.specs.Fits.{SessionsFit}
 
 -- all tables agree with the trace
 pub record TablesFit (s : State) (t : Trace) : Type 0 where

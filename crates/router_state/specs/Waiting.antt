@@ -1,7 +1,7 @@
 -- What waits in the outboxes.
 use Rattle.std.specs.Prelude.{◌≡◌, ℕ, []}
-use Rattle.router_conns.specs.Fits.{in_slots}
-use Rattle.router_conns.specs.Emptied.{waiting_of}
+use Rattle.state_connections.specs.Fits.{in_slots}
+use Rattle.state_connections.specs.Emptied.{waiting_of}
 use Rattle.router_state.specs.declared.tables.State.{State}
 
 -- no item waits in the outbox of any connection

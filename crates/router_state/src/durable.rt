@@ -5,15 +5,15 @@ ghost use Rattle.router_trace.specs.Deliveries.{none_if_ended};
 ghost use Rattle.router_trace.specs.Sessions.{session_on};
 ghost use Rattle.router_trace.specs.Links.{durable_key, link};
 ghost use Rattle.router_trace.specs.Settling.{uses_tag};
-ghost use Rattle.router_deliveries.specs.Deciding.{decided_rows, rows_from};
-ghost use Rattle.router_passing.specs.Passing.{consumer_of};
+ghost use Rattle.state_deliveries.specs.Deciding.{decided_rows, rows_from};
+ghost use Rattle.state_messages.specs.Passing.{consumer_of};
 ghost use Rattle.router_state.specs.Tables.{TablesFit, TablesFind};
 ghost use Rattle.router_state.specs.Waiting.{NothingWaits};
 
 use crate::tables::State;
-use book_core::{Decision, RowNumber};
-use router_deliveries::Change;
+use book_model::{Decision, RowNumber};
 use router_trace::Attachment;
+use state_deliveries::Change;
 use std::alloc::AllocError;
 
 /// This, unless the event ended the connection first, because its outbox was full: these are the connections that it ended so.

@@ -10,24 +10,24 @@ ghost use Rattle.router_trace.specs.Links.{link, place_of, is_attached, durable_
 ghost use Rattle.router_trace.specs.Settling.{part_of, middle_on, is_claimed, is_claimed_on, open_ids, unbound};
 ghost use Rattle.router_trace.specs.Deliveries.{delivery, ended_first, is_to_tell, sending, named, next_id};
 ghost use Rattle.router_trace.specs.Following.{link_of, first_delivery, is_unsent_on, is_wide, is_busy, is_used, takes_more};
-ghost use Rattle.router_deliveries.specs.Calling.{Knows};
-ghost use Rattle.router_deliveries.specs.Finding.{IsFirst, is_above};
-ghost use Rattle.router_passing.specs.Passing.{attachment_at, consumer_of, passing, with_bound, grants_due, grant_flow};
-ghost use Rattle.router_passing.specs.Asking.{has_unsent, goes_on, owes_drain, drained_state};
+ghost use Rattle.state_deliveries.specs.Calling.{Knows};
+ghost use Rattle.state_deliveries.specs.Finding.{IsFirst, is_above};
+ghost use Rattle.state_messages.specs.Passing.{attachment_at, consumer_of, passing, with_bound, grants_due, grant_flow};
+ghost use Rattle.state_messages.specs.Asking.{has_unsent, goes_on, owes_drain, drained_state};
 ghost use Rattle.router_trace.specs.Trace.{Entry, Out, Took, did, newest, goes, puts_of};
 ghost use Rattle.router_trace.specs.Sessions.{place, free_channel};
 ghost use Rattle.router_trace.specs.Clocks.{terms, channel_max_of};
 ghost use Rattle.router_trace.specs.Peers.{user, container, largest_frame};
 ghost use Rattle.router_trace.specs.Links.{link_place, found_link, free_handle, holder, key_of};
-ghost use Rattle.router_conns.specs.Peering.{PeersFit};
-ghost use Rattle.router_links.specs.Fits.{key_in, key_by, channel_of};
-ghost use Rattle.router_conns.specs.Timing.{ClocksFit};
+ghost use Rattle.state_connections.specs.Peering.{PeersFit};
+ghost use Rattle.state_links.specs.Fits.{key_in, key_by, channel_of};
+ghost use Rattle.state_connections.specs.Timing.{ClocksFit};
 ghost use Rattle.amqp_session.specs.Session.{Session};
-ghost use Rattle.router_sessions.specs.Fits.{SessionsFit, found_of, window_by};
-ghost use Rattle.router_sessions.specs.Windows.{windows};
+ghost use Rattle.state_sessions.specs.Fits.{SessionsFit, found_of, window_by};
+ghost use Rattle.state_sessions.specs.Windows.{windows};
 ghost use Rattle.router_trace.specs.Connection.{conn as known, standing, phase_before, is_ready, has};
-ghost use Rattle.router_conns.specs.Fits.{in_slots, IsLeast, IsBatch, count};
-ghost use Rattle.router_conns.specs.Noting.{is_noted};
+ghost use Rattle.state_connections.specs.Fits.{in_slots, IsLeast, IsBatch, count};
+ghost use Rattle.state_connections.specs.Noting.{is_noted};
 ghost use Rattle.router_trace.specs.Refusing.{rises, refuses};
 ghost use Rattle.router_state.specs.Tables.{TablesFit, TablesAt, TablesFind, beat_if, beats_over, beats};
 ghost use Rattle.router_trace.specs.declared.event.Event.{Event as E};
@@ -35,21 +35,20 @@ ghost use Rattle.router_trace.specs.declared.event.Event.TheVariants as event;
 
 use crate::durable::none_if_ended;
 use amqp_conn::Conn;
-use amqp_frames::Item;
 use amqp_link::{Delivery, Part};
-use amqp_perf::{Attach, Perf};
+use amqp_model::{Attach, Item, Perf};
 use amqp_session::{FlowState, Window};
-use book_core::{LinkKey, RowNumber};
+use book_model::{LinkKey, RowNumber};
 use bytes::Bytes;
 use route_table::Table;
-use router_conns::{Clocks, Connections, Peers, Ready, Refused, Taken};
-use router_deliveries::Delivery as Bound;
-use router_passing::{LinkGrant, Passing};
-use router_sessions::{Place, Sessions};
 use router_trace::{
     Attachment, ConnectionId, Event, LinkAt, LinkState, Origin, Outgoing, Peer, SESSION_WINDOW,
     beat_item, link_flow_item,
 };
+use state_connections::{Clocks, Connections, Peers, Ready, Refused, Taken};
+use state_deliveries::Delivery as Bound;
+use state_messages::{LinkGrant, Passing};
+use state_sessions::{Place, Sessions};
 use std::alloc::{AllocError, Global};
 
 /// The router's tables. If an operation fails to allocate, their contents are unspecified.

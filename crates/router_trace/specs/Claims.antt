@@ -1,13 +1,13 @@
 -- A peer's unsettled deliveries in a trace, by the delivery-ids that the peer gave them (AMQP 1.0 part 2, section 2.6.12).
 use Rattle.std.specs.Prelude.{ℕ, Bool, false, not, ◌&&◌, ◌==◌, if◌then◌else◌, List, ◌∷◌, [], Option, Some, None, option_map}
-use Rattle.amqp_perf.specs.declared.perf.Disposition.{Disposition}
-use Rattle.amqp_perf.specs.declared.perf.Perf.{Perf}
-use Rattle.amqp_perf.specs.declared.perf.Perf.TheVariants as perf
-use Rattle.amqp_perf.specs.declared.perf.Role.{Role}
-use Rattle.amqp_perf.specs.declared.perf.Role.TheVariants.{Sender, Receiver}
-use Rattle.amqp_perf.specs.declared.perf.Transfer.{Transfer}
-use Rattle.amqp_frames.specs.declared.item.Item.{Item}
-use Rattle.amqp_frames.specs.declared.item.Item.TheVariants as item
+use Rattle.amqp_model.specs.declared.perf.Disposition.{Disposition}
+use Rattle.amqp_model.specs.declared.perf.Perf.{Perf}
+use Rattle.amqp_model.specs.declared.perf.Perf.TheVariants as perf
+use Rattle.amqp_model.specs.declared.perf.Role.{Role}
+use Rattle.amqp_model.specs.declared.perf.Role.TheVariants.{Sender, Receiver}
+use Rattle.amqp_model.specs.declared.perf.Transfer.{Transfer}
+use Rattle.amqp_model.specs.declared.item.Item.{Item}
+use Rattle.amqp_model.specs.declared.item.Item.TheVariants as item
 use Rattle.amqp_session.specs.Ranges.{in_range}
 use Rattle.amqp_link.specs.Deliveries.{Frame, delivery}
 use Rattle.amqp_link.specs.Receiving.{middle, is_beyond}

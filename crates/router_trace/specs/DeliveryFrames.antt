@@ -1,14 +1,14 @@
 -- The delivery frames that the router writes (AMQP 1.0 part 2, sections 2.7.5 and 2.7.6), and outcomes as it keeps them.
 use Rattle.std.specs.Prelude.{ℕ, Bool, true, false, nat_lt, if◌then◌else◌, List, length, take, drop, min, codes, Some, None, option_map}
-use Rattle.amqp_perf.specs.Spelling.{state_spelling}
-use Rattle.amqp_perf.specs.declared.perf.Perf.TheVariants as perf
-use Rattle.amqp_perf.specs.declared.perf.Role.{Role}
-use Rattle.amqp_perf.specs.declared.perf.Transfer.{Transfer}
-use Rattle.amqp_perf.specs.declared.state.DeliveryState.{DeliveryState}
-use Rattle.amqp_perf.specs.declared.state.DeliveryState.TheVariants as state
-use Rattle.amqp_perf.specs.declared.state.Fault.{Fault}
-use Rattle.amqp_frames.specs.declared.item.Item.{Item}
-use Rattle.amqp_frames.specs.Room.{transfer_frame}
+use Rattle.amqp_model.specs.PerfSpelling.{state_spelling}
+use Rattle.amqp_model.specs.declared.perf.Perf.TheVariants as perf
+use Rattle.amqp_model.specs.declared.perf.Role.{Role}
+use Rattle.amqp_model.specs.declared.perf.Transfer.{Transfer}
+use Rattle.amqp_model.specs.declared.state.DeliveryState.{DeliveryState}
+use Rattle.amqp_model.specs.declared.state.DeliveryState.TheVariants as state
+use Rattle.amqp_model.specs.declared.state.Fault.{Fault}
+use Rattle.amqp_model.specs.declared.item.Item.{Item}
+use Rattle.amqp_model.specs.Room.{transfer_frame}
 use Rattle.router_trace.specs.Deliveries.{Delivery, tag_of}
 use Rattle.router_trace.specs.Frames.{frame_on}
 use Rattle.router_trace.specs.LinkFrames.{fits}

@@ -1,9 +1,9 @@
 -- What follows the rows of an event, in a trace: outcomes are sent to producers, deliveries to consumers, drains are answered. Each definition gives
 -- the frame that is due first; frames go out one after another as long as one is due.
 use Rattle.std.specs.Prelude.{ℕ, zero, suc, ◌+◌, ◌%◌, ◌^◌, Bool, true, false, not, ◌&&◌, ◌||◌, ◌==◌, nat_eq, nat_lt, if◌then◌else◌, is_none, is_some, List, [], ◌∷◌, Option, Some, None}
-use Rattle.amqp_perf.specs.declared.perf.Role.TheVariants.{Receiver}
-use Rattle.amqp_perf.specs.declared.state.DeliveryState.{DeliveryState}
-use Rattle.amqp_perf.specs.declared.perf.Transfer.{Transfer}
+use Rattle.amqp_model.specs.declared.perf.Role.TheVariants.{Receiver}
+use Rattle.amqp_model.specs.declared.state.DeliveryState.{DeliveryState}
+use Rattle.amqp_model.specs.declared.perf.Transfer.{Transfer}
 use Rattle.amqp_session.specs.declared.states.FlowState.{FlowState}
 use Rattle.amqp_session.specs.Session.{Session, remote_window}
 use Rattle.amqp_link.specs.Credit as credit

@@ -23,4 +23,4 @@ pub use Rattle.amqp_conn.specs.Heartbeats
 pub use Rattle.amqp_session.specs.Session
 pub use Rattle.amqp_link.specs.Credit
 pub use Rattle.amqp_link.specs.Receiving
-pub use Rattle.book_core.specs.Keys
+pub use Rattle.book_model.specs.Keys

@@ -2,25 +2,25 @@
 -- router and one of the peer. A link that the router takes has an address at the router's own terminus; one that it refuses has none.
 use Rattle.std.specs.Prelude.{ℕ, zero, suc, ◌+◌, Bool, true, false, not, ◌&&◌, ◌==◌, nat_le, if◌then◌else◌, is_none, is_some, List, ◌∷◌, [], Option, Some, None, option_map, unwrap_or}
 use Rattle.std.specs.BTreeMap.{is_at}
-use Rattle.amqp_perf.specs.declared.perf.Attach.{Attach}
-use Rattle.amqp_perf.specs.declared.perf.Flow.{Flow}
-use Rattle.amqp_perf.specs.declared.perf.Perf.{Perf}
-use Rattle.amqp_perf.specs.declared.perf.Perf.TheVariants as perf
-use Rattle.amqp_perf.specs.declared.perf.Role.{Role}
-use Rattle.amqp_perf.specs.declared.perf.Role.TheVariants.{Sender, Receiver}
-use Rattle.amqp_perf.specs.declared.perf.Transfer.{Transfer}
-use Rattle.amqp_perf.specs.declared.terminus.Address.{Address}
-use Rattle.amqp_perf.specs.declared.terminus.Address.TheVariants as address
-use Rattle.amqp_perf.specs.declared.terminus.SourceTerminus.{SourceTerminus}
-use Rattle.amqp_perf.specs.declared.terminus.SourceTerminus.TheVariants as source
-use Rattle.amqp_perf.specs.declared.terminus.TargetTerminus.{TargetTerminus}
-use Rattle.amqp_perf.specs.declared.terminus.TargetTerminus.TheVariants as target
-use Rattle.book_core.specs.declared.terminus.LinkKey.{LinkKey}
-use Rattle.book_core.specs.declared.terminus.LinkRole.{LinkRole}
-use Rattle.book_core.specs.declared.terminus.LinkRole.TheVariants.{Producer, Consumer}
-use Rattle.book_core.specs.Keys.{key_cmp}
-use Rattle.amqp_frames.specs.declared.item.Item.{Item}
-use Rattle.amqp_frames.specs.declared.item.Item.TheVariants as item
+use Rattle.amqp_model.specs.declared.perf.Attach.{Attach}
+use Rattle.amqp_model.specs.declared.perf.Flow.{Flow}
+use Rattle.amqp_model.specs.declared.perf.Perf.{Perf}
+use Rattle.amqp_model.specs.declared.perf.Perf.TheVariants as perf
+use Rattle.amqp_model.specs.declared.perf.Role.{Role}
+use Rattle.amqp_model.specs.declared.perf.Role.TheVariants.{Sender, Receiver}
+use Rattle.amqp_model.specs.declared.perf.Transfer.{Transfer}
+use Rattle.amqp_model.specs.declared.terminus.Address.{Address}
+use Rattle.amqp_model.specs.declared.terminus.Address.TheVariants as address
+use Rattle.amqp_model.specs.declared.terminus.SourceTerminus.{SourceTerminus}
+use Rattle.amqp_model.specs.declared.terminus.SourceTerminus.TheVariants as source
+use Rattle.amqp_model.specs.declared.terminus.TargetTerminus.{TargetTerminus}
+use Rattle.amqp_model.specs.declared.terminus.TargetTerminus.TheVariants as target
+use Rattle.book_model.specs.declared.terminus.LinkKey.{LinkKey}
+use Rattle.book_model.specs.declared.terminus.LinkRole.{LinkRole}
+use Rattle.book_model.specs.declared.terminus.LinkRole.TheVariants.{Producer, Consumer}
+use Rattle.book_model.specs.Keys.{key_cmp}
+use Rattle.amqp_model.specs.declared.item.Item.{Item}
+use Rattle.amqp_model.specs.declared.item.Item.TheVariants as item
 use Rattle.amqp_session.specs.Serials.{distance}
 use Rattle.amqp_link.specs.Credit as credit
 use Rattle.amqp_link.specs.Receiving as receiving

@@ -1,9 +1,9 @@
 -- The order in which items are written on a connection (AMQP 1.0 part 2, sections 2.2, 2.4 and 2.5).
 use Rattle.std.specs.Prelude.{ℕ, Bool, true, false, not, ◌==◌, if◌then◌else◌, List, [], ◌∷◌}
-use Rattle.amqp_perf.specs.declared.perf.Perf.{Perf}
-use Rattle.amqp_perf.specs.declared.perf.Perf.TheVariants as perf
-use Rattle.amqp_frames.specs.declared.item.Item.{Item}
-use Rattle.amqp_frames.specs.declared.item.Item.TheVariants as item
+use Rattle.amqp_model.specs.declared.perf.Perf.{Perf}
+use Rattle.amqp_model.specs.declared.perf.Perf.TheVariants as perf
+use Rattle.amqp_model.specs.declared.item.Item.{Item}
+use Rattle.amqp_model.specs.declared.item.Item.TheVariants as item
 use Rattle.amqp_conn.specs.declared.conn.Conn.{Conn}
 use Rattle.router_trace.specs.Connection.{behind}
 

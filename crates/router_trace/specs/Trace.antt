@@ -1,8 +1,8 @@
 -- A trace: what happened, as a list of entries, the newest first. All definitions search it; the router keeps none of it.
 use Rattle.std.specs.Prelude.{ℕ, List, [], ◌∷◌, ◌++◌, map, Option, Some, None}
-use Rattle.amqp_frames.specs.declared.item.Item.{Item}
-use Rattle.book_core.specs.declared.act.Act.{Act}
-use Rattle.book_core.specs.Book.{BookView}
+use Rattle.amqp_model.specs.declared.item.Item.{Item}
+use Rattle.book_model.specs.declared.act.Act.{Act}
+use Rattle.book_model.specs.Book.{BookView}
 use Rattle.route_table.specs.Places.{Routing}
 use Rattle.router_trace.specs.declared.event.Event.{Event}
 use Rattle.router_trace.specs.declared.outgoing.Outgoing.{Outgoing}

@@ -3,7 +3,7 @@ ghost use Rattle.std.specs.Prelude.{◌≡◌};
 ghost use Rattle.router_trace.specs.Deliveries.{has_row};
 
 use crate::handle::Attachment;
-use book_core::RowNumber;
+use book_model::RowNumber;
 use bytes::Bytes;
 
 /// The producer's delivery, to which the outcome is reported.

@@ -2,7 +2,7 @@
 ghost use Rattle.std.specs.Prelude.{◌≡◌};
 ghost use Rattle.router_trace.specs.Durable.{outlives, is_lasting_source, is_lasting_target, is_durable};
 
-use amqp_perf::{Attach, Role, SourceTerminus, TargetTerminus};
+use amqp_model::{Attach, Role, SourceTerminus, TargetTerminus};
 
 /// The `durable` of a terminus that keeps its unsettled deliveries (AMQP 1.0 part 3, section 3.5.5).
 const UNSETTLED_STATE: u32 = 2;

@@ -1,6 +1,5 @@
 //! The router's input events.
-use amqp_frames::Item;
-use amqp_perf::Text;
+use amqp_model::{Item, Text};
 
 /// The number of a connection. Each connection that comes up has a higher number than those before it.
 #[derive(Clone, Copy, Debug, PartialEq, Eq)]

@@ -5,9 +5,8 @@ ghost use Rattle.router_trace.specs.LinkFrames.{detach_item, kept, source_answer
 use crate::condition::Condition;
 use crate::durable::is_durable;
 use crate::router_id::{RouterId, SESSION_WINDOW, frame_on};
-use amqp_frames::Item;
-use amqp_perf::{
-    Attach, Boxed, Detach, Flow, Perf, Role, SourceTerminus, Symbol, Symbols, TargetTerminus,
+use amqp_model::{
+    Attach, Boxed, Detach, Flow, Item, Perf, Role, SourceTerminus, Symbol, Symbols, TargetTerminus,
     Unsettled,
 };
 use amqp_session::{FlowState, Serial};

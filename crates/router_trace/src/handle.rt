@@ -4,7 +4,7 @@ ghost use Rattle.router_trace.specs.Links.{asked_of};
 
 use crate::event::ConnectionId;
 use amqp_link::SendEnd;
-use amqp_perf::Attach;
+use amqp_model::Attach;
 use amqp_session::Serial;
 
 /// What a peer's handle stands for (AMQP 1.0 part 2, section 2.6.2).

@@ -1,6 +1,6 @@
 //! Outgoing items.
 use crate::event::ConnectionId;
-use amqp_frames::Item;
+use amqp_model::Item;
 
 /// An item to put into a connection's outbox.
 #[derive(Debug, Drop)]

@@ -3,8 +3,7 @@ ghost use Rattle.std.specs.Prelude.{◌≡◌, IfOk, option_map};
 ghost use Rattle.router_trace.specs.Frames.{header_item, beat_item, frame_on, frame_of, open_item, close_item, error_of, begin_item, end_item, flow_item};
 
 use crate::condition::Condition;
-use amqp_frames::Item;
-use amqp_perf::{Begin, Boxed, Close, End, Fault, Flow, Open, Perf, Symbol, Symbols, Text};
+use amqp_model::{Begin, Boxed, Close, End, Fault, Flow, Item, Open, Perf, Symbol, Symbols, Text};
 use amqp_session::{FlowState, Serial};
 use bytes::Bytes;
 use std::alloc::{AllocError, Global};

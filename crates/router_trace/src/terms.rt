@@ -2,7 +2,7 @@
 ghost use Rattle.std.specs.Prelude.{◌≡◌};
 ghost use Rattle.router_trace.specs.Clocks.{terms_of};
 
-use amqp_perf::Open;
+use amqp_model::Open;
 
 /// What a peer's open says of its end of the connection (AMQP 1.0 part 2, section 2.7.1).
 #[derive(Clone, Copy, Debug, PartialEq, Eq)]

@@ -3,7 +3,7 @@ ghost use Rattle.std.specs.Prelude.{◌≡◌, ◌<◌, ◌∷◌, [], MatchOpti
 ghost use Rattle.amqr_commands.specs.Words.{cut_at, number_of, bytes_of};
 ghost use Rattle.amqr_commands.specs.Cut.{parts};
 
-use amqp_perf::Binary;
+use amqp_model::Binary;
 use hex::FromHexError;
 use std::alloc::{AllocError, Global};
 

@@ -1,6 +1,6 @@
 use Rattle.std.proofs.Common.{◌≡◌, ◌++◌, List, [], ◌∷◌, ◌∙◌, ap, append_assoc}
 use Rattle.amqp_frames.specs.Frames.{front, found}
-use Rattle.amqp_frames.specs.declared.item.Item.{Item as AnItem}
+use Rattle.amqp_model.specs.declared.item.Item.{Item as AnItem}
 use Rattle.amqp_frames.proofs.Streams.{leads_more}
 use Rattle.amqp_frames.proofs.cut.cut.Goals as goal
 

@@ -1,6 +1,6 @@
 use Rattle.std.proofs.Common.{◌≡◌, ◌++◌, List, length}
 use Rattle.amqp_frames.specs.Cuts.{Leads}
-use Rattle.amqp_frames.specs.declared.item.Item.{Item as AnItem}
+use Rattle.amqp_model.specs.declared.item.Item.{Item as AnItem}
 use Rattle.amqp_frames.proofs.cut.cut.Given as goal
 
 abbrev pub invariant-loop-item : goal.invariant-loop-item

@@ -1,5 +1,5 @@
 use Rattle.std.proofs.Common.{◌≡◌, sym, ◌∙◌, ap, arith, rules, Err}
-use Rattle.amqp_frames.specs.declared.fault.FrameFault.TheVariants as fault
+use Rattle.amqp_model.specs.declared.frame_fault.FrameFault.TheVariants as fault
 use Rattle.amqp_frames.specs.declared.extent.Extent.TheVariants.{Unknown, Whole, Wrong}
 use Rattle.amqp_frames.specs.Extents.{extent}
 use Rattle.amqp_frames.specs.Frames.{item_of}

@@ -1,7 +1,7 @@
 use Rattle.std.proofs.Common.{rules, ◌≡◌, ◌+◌, ◌-◌, ◌^◌, length, Some, None}
 use Rattle.std.specs.Prelude.{min, nat_lt, if◌then◌else◌}
-use Rattle.amqp_perf.specs.declared.perf.Perf.TheVariants as perf
-use Rattle.amqp_perf.specs.Spelling.{spelling}
+use Rattle.amqp_model.specs.declared.perf.Perf.TheVariants as perf
+use Rattle.amqp_model.specs.PerfSpelling.{spelling}
 use Rattle.amqp_frames.proofs.Rooms.{room_is}
 use Rattle.amqp_frames.proofs.room.transfer_room.Goals as goal
 

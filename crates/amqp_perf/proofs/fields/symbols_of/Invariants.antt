@@ -1,5 +1,5 @@
 use Rattle.std.proofs.Common.{◌≡◌}
-use Rattle.amqp_values.specs.View.{items_view}
+use Rattle.amqp_model.specs.View.{items_view}
 use Rattle.amqp_perf.specs.Fields.{are_symbols}
 use Rattle.amqp_perf.proofs.Loops.{before}
 use Rattle.amqp_perf.proofs.fields.symbols_of.Given as goal

@@ -1,6 +1,6 @@
 use Rattle.std.proofs.Common.{◌≡◌, ◌-◌, ◌^◌, length, take}
 use Rattle.std.specs.Prelude.{min}
-use Rattle.amqp_perf.specs.Texts.{joined}
+use Rattle.amqp_model.specs.Texts.{joined}
 use Rattle.amqp_perf.specs.TextViews.{fields_view}
 use Rattle.amqp_perf.proofs.lengths.fields_len.Given as goal
 

@@ -1,5 +1,5 @@
 use Rattle.std.proofs.Common.{◌≡◌, ◌++◌, take}
-use Rattle.amqp_perf.specs.Texts.{joined}
+use Rattle.amqp_model.specs.Texts.{joined}
 use Rattle.amqp_perf.specs.TextViews.{fields_view}
 use Rattle.amqp_perf.proofs.text.put_fields.Given as goal
 

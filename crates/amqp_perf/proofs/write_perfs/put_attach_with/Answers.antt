@@ -1,7 +1,7 @@
 use Rattle.std.proofs.Common.{◌≡◌, ◌++◌, ◌∷◌, [], List, OnOk, subst, ◌∙◌}
-use Rattle.amqp_values.specs.Data as d
-use Rattle.amqp_perf.specs.declared.descriptor.Descriptor.TheVariants as is
-use Rattle.amqp_perf.specs.Texts.{FieldText, described_text, spelt}
+use Rattle.amqp_model.specs.Data as d
+use Rattle.amqp_model.specs.declared.descriptor.Descriptor.TheVariants as is
+use Rattle.amqp_model.specs.Texts.{FieldText, described_text, spelt}
 use Rattle.amqp_perf.proofs.write_perfs.put_attach_with.Goals as goal
 
 pub returns : goal.returns

@@ -1,5 +1,5 @@
 use Rattle.std.proofs.Common.{subst}
-use Rattle.amqp_values.specs.View.{view}
+use Rattle.amqp_model.specs.View.{view}
 use Rattle.amqp_types.specs.Reading.{Gives}
 use Rattle.amqp_types.proofs.Lengths.{decode_found, decode_bounded, measured_only}
 use Rattle.amqp_types.proofs.decoder.decode.Goals as goal

@@ -1,7 +1,7 @@
 use Rattle.std.proofs.Common.{◌≡◌, ◌++◌, take}
-use Rattle.amqp_values.specs.View.{items_view, pairs_view}
+use Rattle.amqp_model.specs.View.{items_view, pairs_view}
 use Rattle.amqp_types.specs.Pieces.{pieces_view}
-use Rattle.amqp_types.specs.Spelling.{spellings, pair_spellings, pieces}
+use Rattle.amqp_model.specs.ValueSpelling.{spellings, pair_spellings, pieces}
 use Rattle.amqp_types.proofs.encoder.+put.Given as goal
 
 abbrev pub invariant-elements-loop-item : goal.invariant-elements-loop-item

@@ -1,6 +1,6 @@
 use Rattle.std.proofs.Common.{◌∙◌, ap, arith}
 use Rattle.std.proofs.lemmas.Result.{err_from_is_err_and}
-use Rattle.amqp_values.specs.View.{plain_part}
+use Rattle.amqp_model.specs.View.{plain_part}
 use Rattle.amqp_types.specs.Reading.{to}
 use Rattle.amqp_types.proofs.Openings.{to_leaf, to_leaf_ok, to_others_ok}
 use Rattle.amqp_types.proofs.opening.element_of.Goals as goal

@@ -1,8 +1,8 @@
 use Rattle.std.proofs.Common.{ap, ◌∙◌, sym}
 use Rattle.std.specs.Prelude.{is_some}
-use Rattle.book_core.specs.Book.{same_key}
+use Rattle.book_model.specs.Book.{same_key}
 use Rattle.book_core.specs.Slots.{termini_in}
-use Rattle.book_core.specs.declared.terminus.Terminus.{Terminus}
+use Rattle.book_model.specs.declared.terminus.Terminus.{Terminus}
 use Rattle.book_core.proofs.Found.{any_found, is_copied}
 use Rattle.book_core.proofs.look.has_key.Goals as goal
 

@@ -1,6 +1,6 @@
 use Rattle.std.proofs.Common.{ap, ◌∙◌, sym}
 use Rattle.std.specs.Prelude.{is_some}
-use Rattle.book_core.specs.Book.{has_tag}
+use Rattle.book_model.specs.Book.{has_tag}
 use Rattle.book_core.specs.Slots.{rows_in}
 use Rattle.book_core.proofs.Found.{any_found, is_copied}
 use Rattle.book_core.proofs.look.has_named.Goals as goal

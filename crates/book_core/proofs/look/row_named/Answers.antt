@@ -1,5 +1,5 @@
 use Rattle.std.proofs.Common.{ap, ◌∙◌, sym, Some, None}
-use Rattle.book_core.specs.Book.{has_tag}
+use Rattle.book_model.specs.Book.{has_tag}
 use Rattle.book_core.proofs.Found.{passes, fails}
 use Rattle.book_core.proofs.Named.{looked}
 use Rattle.book_core.proofs.look.row_named.Goals as goal

@@ -1,6 +1,6 @@
 use Rattle.std.proofs.Common.{◌∙◌, sym, Some, None}
-use Rattle.book_core.specs.Book.{same_key}
-use Rattle.book_core.specs.declared.terminus.Terminus.{Terminus}
+use Rattle.book_model.specs.Book.{same_key}
+use Rattle.book_model.specs.declared.terminus.Terminus.{Terminus}
 use Rattle.book_core.proofs.Found.{passes, fails}
 use Rattle.book_core.proofs.Keyed.{looked}
 use Rattle.book_core.proofs.look.terminus_with.Goals as goal

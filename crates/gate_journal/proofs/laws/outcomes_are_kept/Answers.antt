@@ -1,4 +1,4 @@
-use Rattle.act_codec.proofs.Kept.{is_kept, keeps_itself}
+use Rattle.journal_codec.proofs.Kept.{is_kept, keeps_itself}
 use Rattle.gate_journal.proofs.laws.outcomes_are_kept.Goals as goal
 
 pub returns-clause-outcome : goal.returns-clause-outcome

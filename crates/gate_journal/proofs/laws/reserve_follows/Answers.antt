@@ -1,5 +1,5 @@
-use Rattle.book_core.specs.Book.{empty_book}
-use Rattle.act_codec.specs.Batches.{book_after}
+use Rattle.book_model.specs.Book.{empty_book}
+use Rattle.journal_codec.specs.Batches.{book_after}
 use Rattle.gate_journal.proofs.Nexts.{after_ordered}
 use Rattle.gate_journal.proofs.Reserves.{acts_follow}
 use Rattle.gate_journal.proofs.laws.reserve_follows.Goals as goal

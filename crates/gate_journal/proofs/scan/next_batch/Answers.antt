@@ -1,6 +1,6 @@
 use Rattle.std.proofs.Common.{◌∙◌, sym, ap, refl, Err}
-use Rattle.book_core.specs.Book.{first_fault}
-use Rattle.act_codec.specs.declared.read.ReadFault.{ReadFault}
+use Rattle.book_model.specs.Book.{first_fault}
+use Rattle.journal_codec.specs.declared.read.ReadFault.{ReadFault}
 use Rattle.gate_journal.proofs.Walks.{none_reads, refused_next}
 use Rattle.gate_journal.proofs.scan.next_batch.Goals as goal
 

@@ -1,7 +1,7 @@
 use Rattle.std.proofs.Common.{inl, ◌++◌, ◌∷◌, [], ◌⊎◌, ℕ, List, Result, Ok, Err}
 use Rattle.std.specs.Prelude.{OnOk}
 use Rattle.disk_core.specs.DiskLaws.{widened, joined}
-use Rattle.act_codec.specs.Batches.{Holds}
+use Rattle.journal_codec.specs.Batches.{Holds}
 use Rattle.gate_journal.proofs.Outcomes.{first_leaves, second_leaves, stored}
 use Rattle.gate_journal.proofs.store.store.Goals as goal
 

@@ -1,8 +1,8 @@
 use Rattle.std.proofs.Common.{ℕ, Option, Some, sym, subst}
 use Rattle.std.specs.Prelude.{◌&&◌}
 use Rattle.std.proofs.lemmas.Bool.{and_parts}
-use Rattle.router_deliveries.specs.Finding.{IsFirst, is_above}
-use Rattle.router_passing.specs.Asking.{owes_drain}
+use Rattle.state_deliveries.specs.Finding.{IsFirst, is_above}
+use Rattle.state_messages.specs.Asking.{owes_drain}
 use Rattle.router_after.specs.declared.candidate.Candidate.{Candidate}
 use Rattle.router_after.specs.Draining.{drains_at}
 use Rattle.router_after.specs.Soonest.{IsSoonestUpTo}

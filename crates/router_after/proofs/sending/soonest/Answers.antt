@@ -1,5 +1,5 @@
 use Rattle.std.proofs.Common.{Option, Some, sym, subst}
-use Rattle.router_passing.specs.Asking.{has_unsent}
+use Rattle.state_messages.specs.Asking.{has_unsent}
 use Rattle.router_after.specs.declared.candidate.Candidate.{Candidate}
 use Rattle.router_after.specs.Soonest.{IsSoonestUpTo}
 use Rattle.router_after.specs.Starting.{places}

@@ -1,7 +1,7 @@
 use Rattle.std.proofs.Common.{◌∙◌, refl, sym, ap}
 use Rattle.router_trace.specs.DeliveryFrames.{first_transfer}
 use Rattle.router_trace.specs.Following.{transfer_of}
-use Rattle.router_deliveries.specs.contracts.delivery.Delivery.{the_view}
+use Rattle.state_deliveries.specs.contracts.delivery.Delivery.{the_view}
 use Rattle.router_after.proofs.Dues.{begun, not_begun}
 use Rattle.router_after.proofs.sending.transfer_of.Goals as goal
 

@@ -1,6 +1,6 @@
 use Rattle.std.proofs.Common.{ℕ, Option, sym, subst}
 use Rattle.router_trace.specs.Deliveries.{delivery}
-use Rattle.router_deliveries.specs.Finding.{IsFirst}
+use Rattle.state_deliveries.specs.Finding.{IsFirst}
 use Rattle.router_after.specs.Starting.{goes_from}
 use Rattle.router_after.proofs.Going.{nowhere, closed, nobody, somebody}
 use Rattle.router_after.proofs.waiting.first_on.Goals as goal

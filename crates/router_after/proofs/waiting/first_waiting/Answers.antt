@@ -4,7 +4,7 @@ use Rattle.std.proofs.lemmas.Bool.{and_from, and_parts}
 use Rattle.router_trace.specs.declared.handle.Attachment.{Attachment}
 use Rattle.router_trace.specs.Deliveries.{Delivery, delivery}
 use Rattle.router_trace.specs.Following.{is_unsent_on}
-use Rattle.router_deliveries.specs.Finding.{IsFirst, is_above}
+use Rattle.state_deliveries.specs.Finding.{IsFirst, is_above}
 use Rattle.router_after.specs.Starting.{is_same, waits_at}
 use Rattle.router_after.proofs.Scanning.{onward}
 use Rattle.router_after.proofs.waiting.first_waiting.Goals as goal

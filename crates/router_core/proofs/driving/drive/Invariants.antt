@@ -3,7 +3,7 @@ use Rattle.std.specs.Vec.Iter.{into_iter_items}
 use Rattle.router_trace.specs.Trace.{Entry}
 use Rattle.router_trace.specs.declared.event.Event.{Event}
 use Rattle.disk_core.specs.Disk.{LeavesOnly}
-use Rattle.router_store.specs.Store.{Stands, disk_of}
+use Rattle.journal_store.specs.Store.{Stands, disk_of}
 use Rattle.router_core.specs.Handling.{Fits, id_of, is_failed, store_of}
 use Rattle.router_core.specs.Leaving.{LeftBy}
 use Rattle.router_core.specs.Runs.{Run}

@@ -2,8 +2,9 @@ use Rattle.std.proofs.Common.{◌∙◌, ◌≡◌, ◌++◌, refl, ◌⊎◌, L
 use Rattle.std.proofs.lemmas.Result.{err_from_is_err_and}
 use Rattle.router_trace.specs.Trace.{Entry}
 use Rattle.router_core.specs.Handling.{Fits, is_failed}
-use Rattle.router_core.specs.Runs.{Taking, InTurn, sent, taking, Waits}
-use Rattle.router_core.specs.declared.fault.CoreFault.TheVariants.{Memory}
+use Rattle.router_core.specs.Runs.{InTurn, sent, Waits}
+use Rattle.core_machine.specs.Moves.{Taking, taking}
+use Rattle.core_machine.specs.declared.fault.CoreFault.TheVariants.{Memory}
 use Rattle.router_core.proofs.RunLemmas.{one_more, still_waits, unready}
 use Rattle.router_core.proofs.driving.empty.Goals as goal
 

@@ -1,6 +1,6 @@
 use Rattle.std.proofs.Common.{◌∙◌, sym, subst, List, [], ◌∷◌}
 use Rattle.std.specs.Prelude.{Option}
-use Rattle.router_core.specs.declared.fault.CoreFault.{CoreFault}
+use Rattle.core_machine.specs.declared.fault.CoreFault.{CoreFault}
 use Rattle.router_play.specs.declared.line.Line.{Line}
 use Rattle.router_play.specs.Script.{no_book}
 use Rattle.router_play.specs.Ending.{TellsOf, size_line}

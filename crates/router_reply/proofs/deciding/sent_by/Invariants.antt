@@ -1,6 +1,6 @@
 use Rattle.std.proofs.Common.{◌≡◌, ◌++◌}
 use Rattle.std.specs.Prelude.{filter, map}
-use Rattle.book_core.specs.Book.{is_from}
+use Rattle.book_model.specs.Book.{is_from}
 use Rattle.book_core.specs.Rows.{rows_left}
 use Rattle.router_reply.proofs.deciding.sent_by.Given as goal
 

@@ -2,21 +2,21 @@ use Rattle.std.proofs.Common.{◌≡◌, ◌∙◌, sym, ap, subst, ℕ, true, L
 use Rattle.std.proofs.lemmas.Result.{on_ok_weaker}
 use Rattle.std.specs.Prelude.{Option}
 use Rattle.amqp_link.specs.declared.part.Part.{Part}
-use Rattle.book_core.specs.declared.row.RowNumber.{RowNumber}
+use Rattle.book_model.specs.declared.row.RowNumber.{RowNumber}
 use Rattle.router_trace.specs.Trace.{Entry, Put, goes, puts}
 use Rattle.router_trace.specs.Sessions.{theirs, maps}
 use Rattle.router_trace.specs.Links.{link_place}
 use Rattle.router_trace.specs.Settling.{part_of}
 use Rattle.router_trace.specs.declared.event.Event.TheVariants as event
-use Rattle.router_links.specs.Fits.{channel_of}
+use Rattle.state_links.specs.Fits.{channel_of}
 use Rattle.router_state.specs.Tables.{TablesFit}
-use Rattle.router_rows.specs.declared.answer.Answer.{Answer}
-use Rattle.router_rows.specs.declared.answer.Answer.TheVariants.{Taken, Settle}
-use Rattle.router_rows.specs.Rows.{said}
-use Rattle.router_rows.proofs.Mapped.{IsHere, answer_here}
+use Rattle.reply_rows.specs.declared.answer.Answer.{Answer}
+use Rattle.reply_rows.specs.declared.answer.Answer.TheVariants.{Taken, Settle}
+use Rattle.reply_rows.specs.Rows.{said}
+use Rattle.reply_rows.proofs.Mapped.{IsHere, answer_here}
 use Rattle.router_reply.specs.Acts.{found_journal, full_at}
 use Rattle.router_reply.specs.Heard.{ids_named, ids_found}
-use Rattle.router_transfers.specs.Transfers.{given_behind, disposition_in}
+use Rattle.reply_transfers.specs.Transfers.{given_behind, disposition_in}
 use Rattle.router_reply.specs.Replies.{attach_put, behind_answer, settled_put, row_found}
 use Rattle.router_reply.proofs.Behind.{taken_is, settled_is, other_is, taken_left, settled_left}
 use Rattle.router_reply.proofs.events.begin_item.Goals as goal

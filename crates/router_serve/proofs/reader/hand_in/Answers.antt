@@ -1,5 +1,5 @@
 use Rattle.std.proofs.Common.{rules, ◌≤◌, sym, subst, List, [], ◌∷◌, ◌++◌, length}
-use Rattle.amqp_frames.specs.declared.item.Item.{Item}
+use Rattle.amqp_model.specs.declared.item.Item.{Item}
 use Rattle.router_serve.specs.Submitting.{CountsGone}
 use Rattle.router_serve.proofs.Submits.{core_hinders, gone_joined, no_longer, one_came, some_behind, some_gone}
 use Rattle.router_serve.proofs.reader.hand_in.Goals as goal

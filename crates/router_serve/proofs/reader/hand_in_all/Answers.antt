@@ -1,6 +1,6 @@
 use Rattle.std.proofs.Common.{rules, ◌<◌, length}
 use Rattle.router_serve.proofs.Reading.{begins, goes_on, hindered, hindered_first, refused, stops, tires}
-use Rattle.router_service.proofs.Streams.{still_roomy}
+use Rattle.serve_streams.proofs.Streams.{still_roomy}
 use Rattle.router_serve.proofs.reader.hand_in_all.Goals as goal
 
 pub returns-in_default : goal.returns-in_default

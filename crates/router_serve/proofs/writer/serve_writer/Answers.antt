@@ -1,5 +1,5 @@
 use Rattle.std.proofs.Common.{◌≡◌, ◌∙◌, ◌+◌, sym, subst, length, true, rules}
-use Rattle.router_service.specs.declared.end.WriteEnd.TheVariants as end
+use Rattle.serve_streams.specs.declared.end.WriteEnd.TheVariants as end
 use Rattle.router_serve.specs.Wrote.{Wrote}
 use Rattle.router_serve.proofs.Batches.{stops, goes, breaks, no_more}
 use Rattle.router_serve.proofs.writer.serve_writer.Goals as goal

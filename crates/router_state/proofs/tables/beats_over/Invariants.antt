@@ -1,6 +1,6 @@
 use Rattle.std.proofs.Common.{◌≡◌, ◌++◌, List, drop}
 use Rattle.router_trace.specs.Trace.{Entry, puts_of}
-use Rattle.router_conns.specs.Timing.{ClocksFit}
+use Rattle.state_connections.specs.Timing.{ClocksFit}
 use Rattle.router_state.specs.Tables.{beats_over}
 use Rattle.router_state.proofs.tables.beats_over.Given as goal
 

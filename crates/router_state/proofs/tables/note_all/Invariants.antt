@@ -1,8 +1,8 @@
 use Rattle.std.proofs.Common.{◌≡◌, ℕ, drop}
 use Rattle.std.specs.Prelude.{if◌then◌else◌}
-use Rattle.router_conns.specs.Fits.{in_slots}
+use Rattle.state_connections.specs.Fits.{in_slots}
 use Rattle.router_trace.specs.Connection.{is_ready, has}
-use Rattle.router_conns.specs.Noting.{is_noted}
+use Rattle.state_connections.specs.Noting.{is_noted}
 use Rattle.router_state.proofs.tables.note_all.Given as goal
 
 -- once the rest is noted too, all are

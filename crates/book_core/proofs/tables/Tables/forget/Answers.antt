@@ -1,5 +1,5 @@
 use Rattle.std.proofs.Common.{refl}
-use Rattle.book_core.specs.Book.{forgotten}
+use Rattle.book_model.specs.Book.{forgotten}
 use Rattle.book_core.proofs.Looked.{row_missing}
 use Rattle.book_core.proofs.Steps.{row_stays, row_gone, row_forgotten}
 use Rattle.book_core.proofs.tables.Tables.forget.Goals as goal

@@ -1,5 +1,5 @@
 use Rattle.std.proofs.Common.{◌∙◌, subst}
-use Rattle.book_core.specs.Book.{BookView, effect}
+use Rattle.book_model.specs.Book.{BookView, effect}
 use Rattle.book_core.specs.Tables.{Shows}
 use Rattle.book_core.proofs.Runs.{fault_here, first_on, effects_on, first_done, effects_done}
 use Rattle.book_core.proofs.tables.Tables.run.Goals as goal

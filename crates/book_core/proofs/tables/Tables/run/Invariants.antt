@@ -1,5 +1,5 @@
 use Rattle.std.proofs.Common.{◌≡◌, drop}
-use Rattle.book_core.specs.Book.{BookView, first_fault, effects}
+use Rattle.book_model.specs.Book.{BookView, first_fault, effects}
 use Rattle.book_core.specs.Tables.{Shows, SameBefore}
 use Rattle.book_core.proofs.tables.Tables.run.Given as goal
 

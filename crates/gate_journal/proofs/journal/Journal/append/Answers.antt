@@ -1,6 +1,6 @@
 use Rattle.std.proofs.Common.{◌≡◌, None, ◌∷◌, [], sym, subst, arith, length-append}
-use Rattle.book_core.specs.Book.{BookView, first_fault}
-use Rattle.act_codec.specs.Batches.{IsNext}
+use Rattle.book_model.specs.Book.{BookView, first_fault}
+use Rattle.journal_codec.specs.Batches.{IsNext}
 use Rattle.gate_journal.proofs.Nexts.{next_reserve, reserve_behind}
 use Rattle.gate_journal.proofs.journal.Journal.append.Goals as goal
 

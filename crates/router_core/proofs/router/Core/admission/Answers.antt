@@ -1,8 +1,8 @@
 use Rattle.std.proofs.Common.{◌≡◌, ◌∙◌, refl, sym, ap, subst, List, []}
 use Rattle.std.proofs.lemmas.Result.{IfOk-weaker}
-use Rattle.book_core.specs.declared.act.Act.{Act}
-use Rattle.router_store.specs.Store.{Writable}
-use Rattle.router_store.proofs.Writing.{none_writable}
+use Rattle.book_model.specs.declared.act.Act.{Act}
+use Rattle.journal_store.specs.Store.{Writable}
+use Rattle.journal_store.proofs.Writing.{none_writable}
 use Rattle.router_reply.specs.Admitting.{admits}
 use Rattle.router_core.specs.Handling.{kept_book}
 use Rattle.router_core.proofs.Preparing.{none_ended, item_admits, itemless_admits}

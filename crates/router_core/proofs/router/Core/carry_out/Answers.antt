@@ -1,10 +1,10 @@
 use Rattle.std.proofs.Common.{◌≡◌, ◌∙◌, sym, ap, subst, ℕ, ◌+◌, List}
 use Rattle.std.specs.Prelude.{◌⊎◌}
 use Rattle.disk_core.specs.Disk.{LeavesOnly}
-use Rattle.book_core.specs.Book.{effects}
+use Rattle.book_model.specs.Book.{effects}
 use Rattle.gate_journal.specs.Journal.{batch_count}
-use Rattle.router_store.specs.declared.store.Store.{Store}
-use Rattle.router_store.specs.Store.{OpensTo, Stands, disk_of, journal_of, book_of}
+use Rattle.journal_store.specs.declared.store.Store.{Store}
+use Rattle.journal_store.specs.Store.{OpensTo, Stands, disk_of, journal_of, book_of}
 use Rattle.router_trace.specs.Trace.{step_of}
 use Rattle.router_state.specs.declared.tables.State.{State}
 use Rattle.router_state.specs.Tables.{TablesFit}

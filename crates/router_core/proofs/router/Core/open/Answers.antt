@@ -1,6 +1,7 @@
 use Rattle.std.proofs.Common.{refl}
 use Rattle.route_table.specs.Places.{routing_of}
-use Rattle.router_store.specs.Store.{used_of, count_of}
+use Rattle.journal_store.specs.Store.{used_of, count_of}
+use Rattle.router_core.proofs.Machines.{made_of}
 use Rattle.router_core.proofs.router.Core.open.Goals as goal
 
 pub returns-clause-fits : goal.returns-clause-fits
@@ -8,4 +9,13 @@ returns-clause-fits g c = record {
   tables = c.new-3.ensures (record { routing = routing_of c.args.config.now; book = c.in_ok-store.store.kept.book; used = used_of c.in_ok-store.store; batches = count_of c.in_ok-store.store }) c.in-Ok.ensures;
   started = refl;
   journal = record { book = refl; batches = refl; used = refl; kept = c.in_ok-store.ensures.kept };
+}
+
+pub returns-clause-opened : goal.returns-clause-opened
+returns-clause-opened g c = record {
+  fits = returns-clause-fits g c;
+  keeps = (c.in_ok-store.ensures.stands, refl);
+  made = made_of (g.D.Disk.seen c.args.disk) c.in_ok-store.store.kept.book c.in_ok-store.ensures.book;
+  works = refl;
+  counts = c.none.ensures;
 }

@@ -1,5 +1,5 @@
 use Rattle.std.proofs.Common.{◌∙◌, refl, ap}
-use Rattle.book_core.specs.Book.{BookView}
+use Rattle.book_model.specs.Book.{BookView}
 use Rattle.router_reply.specs.Acts.{event_answer}
 use Rattle.router_core.specs.Handling.{kept_book}
 use Rattle.router_core.proofs.Preparing.{planned_told}

@@ -5,7 +5,7 @@ use Rattle.router_trace.specs.Connection.{due, phase_found}
 use Rattle.router_trace.specs.Refusing.{refuses}
 use Rattle.router_state.specs.Tables.{TablesFit, TablesAt}
 use Rattle.router_state.proofs.Bound.{booked_fits}
-use Rattle.router_rows.specs.declared.answer.Answer.{Answer}
+use Rattle.reply_rows.specs.declared.answer.Answer.{Answer}
 use Rattle.router_reply.specs.Acts.{event_answer, booked, answer_to_event}
 use Rattle.router_core.specs.Handling.{TakenIn, kept_book, state_of}
 use Rattle.router_core.proofs.Booking.{booked_keeps, taken_booked, phase_booked}

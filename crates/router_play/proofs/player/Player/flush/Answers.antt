@@ -1,6 +1,6 @@
 use Rattle.std.proofs.Common.{refl, subst, sym, ◌++◌, ◌∷◌, []}
 use Rattle.router_core.specs.Handling.{is_failed}
-use Rattle.router_core.specs.Runs.{taking}
+use Rattle.core_machine.specs.Moves.{taking}
 use Rattle.router_play.specs.Script.{Scene}
 use Rattle.router_play.specs.Playing.{Follows}
 use Rattle.router_play.proofs.Scenes.{back, take_all_more, turns_more}

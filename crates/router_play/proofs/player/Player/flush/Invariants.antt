@@ -1,6 +1,6 @@
 use Rattle.std.proofs.Common.{◌≡◌, true, false, List}
 use Rattle.router_core.specs.Handling.{is_failed}
-use Rattle.router_core.specs.Runs.{Taking}
+use Rattle.core_machine.specs.Moves.{Taking}
 use Rattle.router_play.specs.Script.{Scene, take_all, AllInTurn}
 use Rattle.router_play.specs.Playing.{Follows, Tells}
 use Rattle.router_play.proofs.player.Player.flush.Given as goal

@@ -1,7 +1,7 @@
 use Rattle.std.proofs.Common.{◌∙◌, ◌++◌, sym, ap}
 use Rattle.std.proofs.lemmas.List.{append-nil, drop_all}
 use Rattle.router_trace.specs.Trace.{puts_of}
-use Rattle.router_passing.specs.Passing.{grant_flows}
+use Rattle.state_messages.specs.Passing.{grant_flows}
 use Rattle.router_state.proofs.tables.State.grants.Goals as goal
 
 pub returns-clause-due : goal.returns-clause-due

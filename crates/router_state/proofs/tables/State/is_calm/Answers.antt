@@ -3,9 +3,9 @@ use Rattle.std.specs.Prelude.{Option}
 use Rattle.amqp_session.specs.declared.window.Window.{Window}
 use Rattle.router_trace.specs.Connection.{live}
 use Rattle.router_trace.specs.Sessions.{session}
-use Rattle.router_sessions.specs.Windows.{is_narrow_window}
-use Rattle.router_sessions.specs.Fits.{window_by}
-use Rattle.router_sessions.proofs.Quiet.{all_quiet}
+use Rattle.state_sessions.specs.Windows.{is_narrow_window}
+use Rattle.state_sessions.specs.Fits.{window_by}
+use Rattle.state_sessions.proofs.Quiet.{all_quiet}
 use Rattle.router_state.proofs.tables.State.is_calm.Goals as goal
 
 pub returns : goal.returns

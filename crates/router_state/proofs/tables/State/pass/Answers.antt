@@ -1,4 +1,4 @@
-use Rattle.router_passing.specs.Passing.{passing}
+use Rattle.state_messages.specs.Passing.{passing}
 use Rattle.router_state.proofs.Bound.{bound_fits}
 use Rattle.router_state.proofs.tables.State.pass.Goals as goal
 

@@ -1,4 +1,4 @@
-use Rattle.router_passing.proofs.Quiet.{ticked_fits}
+use Rattle.state_messages.proofs.Quiet.{ticked_fits}
 use Rattle.router_state.proofs.tables.State.tick.Goals as goal
 
 pub returns : goal.returns

@@ -1,5 +1,5 @@
 use Rattle.std.proofs.Common.{rules}
-use Rattle.router_passing.proofs.Quiet.{risen_fits}
+use Rattle.state_messages.proofs.Quiet.{risen_fits}
 use Rattle.router_state.proofs.tables.State.up.Goals as goal
 
 pub returns : goal.returns

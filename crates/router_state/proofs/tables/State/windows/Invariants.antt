@@ -1,6 +1,6 @@
 use Rattle.std.proofs.Common.{◌≡◌, ◌++◌, List, drop}
 use Rattle.router_trace.specs.Trace.{Entry, puts_of}
-use Rattle.router_sessions.specs.Windows.{windows_over}
+use Rattle.state_sessions.specs.Windows.{windows_over}
 use Rattle.router_state.specs.Tables.{TablesFit}
 use Rattle.router_state.proofs.tables.State.windows.Given as goal
 

@@ -1,0 +1,14 @@
+pub mod Codes
+pub mod Copies
+pub mod Data
+pub mod Descriptors
+pub mod FrameFaults
+pub mod ItemSpelling
+pub mod Parts
+pub mod PerfFaults
+pub mod PerfSpelling
+pub mod Room
+pub mod Texts
+pub mod TypeFaults
+pub mod ValueSpelling
+pub mod View

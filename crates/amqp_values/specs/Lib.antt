@@ -1,4 +1,0 @@
-pub mod Faults
-pub mod Codes
-pub mod Data
-pub mod View

@@ -1,0 +1,5 @@
+pub mod Act
+pub mod Book
+pub mod Fault
+pub mod Keys
+pub mod Made

@@ -1,0 +1,9 @@
+pub mod Counting
+pub mod Faults
+pub mod Meaning
+pub mod Moves
+pub mod Opened
+pub mod Turns
+pub use Rattle.router_trace.specs.Trace
+pub use Rattle.router_trace.specs.Connection
+pub use Rattle.router_trace.specs.Refusing

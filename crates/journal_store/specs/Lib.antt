@@ -1,0 +1,5 @@
+pub mod Acting
+pub mod Lost
+pub mod Settling
+pub mod Store
+pub mod Writable

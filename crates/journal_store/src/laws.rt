@@ -1,0 +1,49 @@
+//! Laws of the store's definitions. Each is the clause of a function that does nothing.
+ghost use Rattle.std.specs.Prelude.{◌≡◌, ◌≢◌, ◌≤◌, [], List, ℕ, None, length};
+ghost use Rattle.amqp_model.specs.declared.state.DeliveryState.{DeliveryState};
+ghost use Rattle.amqp_perf.specs.Fitting.{FitsState};
+ghost use Rattle.amqp_model.specs.PerfSpelling.{state_spelling};
+ghost use Rattle.book_model.specs.declared.act.Decision.{Decision};
+ghost use Rattle.book_model.specs.declared.row.Row.{Row};
+ghost use Rattle.book_model.specs.declared.row.RowNumber.{RowNumber};
+ghost use Rattle.book_model.specs.Book.{BookView, first_fault, effects};
+ghost use Rattle.book_core.specs.Rising.{Rises};
+ghost use Rattle.journal_codec.specs.Batches.{HaveOutcomes, IsOutcome, IsTerminal};
+ghost use Rattle.journal_codec.specs.Format.{acts_bytes};
+ghost use Rattle.gate_journal.specs.Opening.{Explains};
+ghost use Rattle.gate_journal.specs.Reserve.{IsFull};
+ghost use Rattle.gate_journal.specs.declared.fault.OpenFault.TheVariants.{NotAJournal, Damaged};
+ghost use Rattle.journal_store.specs.Acting.{journal_outcome, settles, rows_behind};
+ghost use Rattle.journal_store.specs.Store.{OpensTo};
+ghost use Rattle.journal_store.specs.Lost.{start_acts};
+
+/// A file opens to one book only, and then it is a journal without damage: opening it answers that book, or that the disk
+/// failed or memory was refused.
+pub fn opens_to_one_book()
+    ensures one { (file : List ℕ) (first second : BookView) → OpensTo file first → OpensTo file second → first ≡ second }
+    ensures is_journal { (file : List ℕ) (book : BookView) → OpensTo file book → Explains file NotAJournal → ⊥ }
+    ensures is_whole { (file : List ℕ) (book : BookView) (place : ℕ) → OpensTo file book → Explains file (Damaged place) → ⊥ }
+{}
+
+/// What a router decides at its start can be written: the acts apply to the book that a file opens to, they fit one batch,
+/// and each outcome is one that its encoding gives back; and a journal is never too full for them.
+pub fn start_can_be_written()
+    ensures applies { (file : List ℕ) (book : BookView) → OpensTo file book → first_fault book (start_acts book) ≡ None }
+    ensures small { (file : List ℕ) (book : BookView) → OpensTo file book → length (acts_bytes (start_acts book)) ≤ 4194304 }
+    ensures outcomes { (book : BookView) → HaveOutcomes (start_acts book) }
+    ensures never_full { (book : BookView) (used kept : ℕ) → start_acts book ≢ [] → IsFull used kept (start_acts book) → ⊥ }
+{}
+
+/// What is written of an outcome can be written: it is a terminal state that its encoding gives back, of at most 400 bytes. Each
+/// terminal state whose numbers, texts and sizes are within the limits of their types is written as it is, if it is that short.
+pub fn outcomes_are_written()
+    ensures outcome { (state : DeliveryState) → IsOutcome (journal_outcome state) }
+    ensures short { (state : DeliveryState) → length (state_spelling (journal_outcome state)) ≤ 400 }
+    ensures itself { (state : DeliveryState) → IsTerminal state → FitsState 32 state → length (state_spelling state) ≤ 400 → journal_outcome state ≡ state }
+{}
+
+/// Behind what an event decides and forgets only the rows differ: each is what became of that row.
+pub fn settled_rows_are_known()
+    ensures { (book : BookView) (ds : List Decision) (numbers : List RowNumber) → Rises (λ (r : Row). r.number.0) book.rows
+        → effects book (settles book ds numbers) ≡ record book { rows = rows_behind ds numbers book.rows } }
+{}

@@ -1,5 +1,0 @@
-use Rattle.std.proofs.Common.{length}
-use Rattle.library_cases.proofs.batches.+have_outcomes.Given as goal
-
-abbrev pub decreases-have_outcomes : goal.decreases-have_outcomes
-decreases-have_outcomes l = length l.acts.now

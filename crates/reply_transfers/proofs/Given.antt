@@ -1,0 +1,118 @@
+-- What a transfer that is taken makes of its delivery, for the link on which it was received.
+use Rattle.std.proofs.Common.{◌≡◌, ℕ, Bool, true, false, refl, sym, ap, subst, List, Option, Some, None}
+use Rattle.std.specs.Prelude.{if◌then◌else◌, option_map, unwrap_or, is_some}
+use Rattle.amqp_model.specs.declared.item.Item.{Item}
+use Rattle.amqp_link.specs.declared.part.Delivery.{Delivery as Told}
+use Rattle.book_model.specs.declared.row.RowNumber.{RowNumber}
+use Rattle.router_trace.specs.declared.binding.Binding.{Binding}
+use Rattle.router_trace.specs.declared.handle.Attachment.{Attachment}
+use Rattle.router_trace.specs.Trace.{Trace, puts}
+use Rattle.router_trace.specs.Links.{Link, link}
+use Rattle.router_trace.specs.Following.{link_of}
+use Rattle.router_trace.specs.declared.binding.Origin.{Origin}
+use Rattle.state_messages.specs.Passing.{consumer_of, binding_to, passing, standing_at, with_bound}
+use Rattle.router_state.specs.declared.tables.State.{State}
+use Rattle.router_state.specs.Tables.{TablesFit}
+use Rattle.reply_transfers.specs.Transfers.{claimed_id, from_link, fresh_bound, ignored_put, lasts_on, may_pass, origin_of, released, unbound_put, consumer_for, whole_bound, whole_put}
+
+-- what is put and bound for a delivery that isn't resumed, by whether it may be bound
+abbrev fresh_put : Trace → ℕ → ℕ → ℕ → Told → Bool → List Item
+fresh_put t c own handle d may = unbound_put t c own handle (claimed_id t c own handle d.id) (if may then consumer_of t (link t c own handle) else None)
+
+-- it may not be bound
+pub unfit_given : (s : State) (t : Trace) (c own handle : ℕ) (d : Told) (row : Option RowNumber) (payload : List ℕ) (claimed : Option ℕ)
+    → claimed ≡ claimed_id t c own handle d.id → may_pass (lasts_on (link t c own handle)) (claimed_id t c own handle d.id) row ≡ false
+    → TablesFit s (puts c (unbound_put t c own handle claimed None) t)
+    → TablesFit s (puts c (unbound_put t c own handle (claimed_id t c own handle d.id) (consumer_for t c own handle d row)) (with_bound (fresh_bound t c own handle d row payload (link t c own handle)) t))
+unfit_given s t c own handle d row payload claimed id unfit fit =
+    subst (λ (may : Bool). TablesFit s (puts c (fresh_put t c own handle d may) (with_bound (by_link may (link t c own handle)) t))) (sym unfit)
+    (subst (λ (b : Option Binding). TablesFit s (puts c (unbound_put t c own handle (claimed_id t c own handle d.id) None) (with_bound b t))) (sym (none (link t c own handle)))
+    (subst (λ (q : Option ℕ). TablesFit s (puts c (unbound_put t c own handle q None) t)) id fit))
+  where
+    by_link : Bool → Option Link → Option Binding
+    by_link may None = None
+    by_link may (Some l) =
+        if may then passing t (from_link c own handle l) (option_map (origin_of (from_link c own handle l)) (claimed_id t c own handle d.id)) row (unwrap_or d.format 0) payload else None
+
+    none : (l : Option Link) → by_link false l ≡ None
+    none None = refl
+    none (Some l) = refl
+
+-- a message of the link on a handle, that may be bound
+pub fresh_given : (s : State) (t : Trace) (c own handle : ℕ) (d : Told) (row : Option RowNumber) (payload : List ℕ) (claimed : Option ℕ) (format : ℕ) (from : Attachment) (l : Option Link)
+    → claimed ≡ claimed_id t c own handle d.id → may_pass (lasts_on (link t c own handle)) (claimed_id t c own handle d.id) row ≡ true
+    → format ≡ unwrap_or d.format 0 → Some from ≡ option_map (standing_at c own handle) l → l ≡ link t c own handle
+    → TablesFit s (puts from.conn.0 (unbound_put t from.conn.0 from.channel from.handle claimed (consumer_of t (link_of t from)))
+    (with_bound (passing t from (option_map (origin_of from) claimed) row format payload) t))
+    → TablesFit s (puts c (unbound_put t c own handle (claimed_id t c own handle d.id) (consumer_for t c own handle d row)) (with_bound (fresh_bound t c own handle d row payload (link t c own handle)) t))
+fresh_given s t c own handle d row payload claimed format from None id may as_told stands here fit = absurd cc
+fresh_given s t c own handle d row payload claimed format from (Some k) id may as_told stands here fit =
+    subst (λ v. TablesFit s (puts c (unbound_put t c own handle (claimed_id t c own handle d.id) (consumer_for t c own handle d row)) (with_bound (fresh_bound t c own handle d row payload v) t)))
+    here
+    (subst (λ (b : Bool). TablesFit s (puts c (fresh_put t c own handle d b)
+    (with_bound (if b then passing t (from_link c own handle k) (option_map (origin_of (from_link c own handle k)) (claimed_id t c own handle d.id)) row (unwrap_or d.format 0) payload else None) t)))
+    (sym may)
+    (subst (λ (q : Option ℕ). TablesFit s (puts c (unbound_put t c own handle q (consumer_of t (link t c own handle)))
+    (with_bound (passing t (from_link c own handle k) (option_map (origin_of (from_link c own handle k)) q) row (unwrap_or d.format 0) payload) t)))
+    id
+    (subst (λ (n : ℕ). TablesFit s (puts c (unbound_put t c own handle claimed (consumer_of t (link t c own handle)))
+    (with_bound (passing t (from_link c own handle k) (option_map (origin_of (from_link c own handle k)) claimed) row n payload) t)))
+    as_told
+    (subst (λ (a : Attachment). TablesFit s (puts a.conn.0 (unbound_put t a.conn.0 a.channel a.handle claimed (consumer_of t (link_of t a)))
+    (with_bound (passing t a (option_map (origin_of a) claimed) row format payload) t)))
+    (is stands) fit))))
+  where
+    is : Some from ≡ Some (from_link c own handle k) → from ≡ from_link c own handle k
+    is e = cc
+
+-- its link isn't attached
+pub linkless_given : (s : State) (t : Trace) (c own handle : ℕ) (d : Told) (row : Option RowNumber) (payload : List ℕ) (claimed : Option ℕ)
+    → claimed ≡ claimed_id t c own handle d.id → link t c own handle ≡ None
+    → TablesFit s (puts c (unbound_put t c own handle claimed None) t)
+    → TablesFit s (puts c (unbound_put t c own handle (claimed_id t c own handle d.id) (consumer_for t c own handle d row)) (with_bound (fresh_bound t c own handle d row payload (link t c own handle)) t))
+linkless_given s t c own handle d row payload claimed id gone fit =
+    subst (λ (b : Option Binding). TablesFit s (puts c (unbound_put t c own handle (claimed_id t c own handle d.id) (consumer_for t c own handle d row)) (with_bound b t)))
+    (sym (ap (fresh_bound t c own handle d row payload) gone))
+    (subst (λ (at : Option Attachment). TablesFit s (puts c (unbound_put t c own handle (claimed_id t c own handle d.id) at) t))
+    (sym (nobody (may_pass (lasts_on (link t c own handle)) (claimed_id t c own handle d.id) row)))
+    (subst (λ (q : Option ℕ). TablesFit s (puts c (unbound_put t c own handle q None) t)) id fit))
+  where
+    none_of : consumer_of t (link t c own handle) ≡ None
+    none_of = ap (consumer_of t) gone
+
+    nobody : (may : Bool) → (if may then consumer_of t (link t c own handle) else None) ≡ None
+    nobody true = none_of
+    nobody false = refl
+
+-- a resumed one binds nothing
+pub resumed_given : (s : State) (t : Trace) (c own handle : ℕ) (d : Told) (row : Option RowNumber) (payload : List ℕ) (claimed : Option ℕ) → d.resume ≡ true
+    → claimed ≡ claimed_id t c own handle d.id → TablesFit s (puts c (ignored_put t c own handle claimed) t)
+    → TablesFit s (puts c (whole_put t c own handle d row) (with_bound (whole_bound t c own handle d row payload) t))
+resumed_given s t c own handle d row payload claimed resumed id fit =
+    subst (λ (b : Bool). TablesFit s (puts c (if b then ignored_put t c own handle (claimed_id t c own handle d.id)
+    else unbound_put t c own handle (claimed_id t c own handle d.id) (consumer_for t c own handle d row))
+    (with_bound (if b then None else fresh_bound t c own handle d row payload (link t c own handle)) t))) (sym resumed)
+    (subst (λ (q : Option ℕ). TablesFit s (puts c (ignored_put t c own handle q) t)) id fit)
+
+-- any other is bound or released
+pub anew_given : (s : State) (t : Trace) (c own handle : ℕ) (d : Told) (row : Option RowNumber) (payload : List ℕ) → d.resume ≡ false
+    → TablesFit s (puts c (unbound_put t c own handle (claimed_id t c own handle d.id) (consumer_for t c own handle d row)) (with_bound (fresh_bound t c own handle d row payload (link t c own handle)) t))
+    → TablesFit s (puts c (whole_put t c own handle d row) (with_bound (whole_bound t c own handle d row payload) t))
+anew_given s t c own handle d row payload anew fit =
+    subst (λ (b : Bool). TablesFit s (puts c (if b then ignored_put t c own handle (claimed_id t c own handle d.id)
+    else unbound_put t c own handle (claimed_id t c own handle d.id) (consumer_for t c own handle d row))
+    (with_bound (if b then None else fresh_bound t c own handle d row payload (link t c own handle)) t))) (sym anew) fit
+
+-- one for which no consumer is chosen is released
+pub released_given : (found left : State) (t : Trace) (from : Attachment) (claimed : Option ℕ) (row : Option RowNumber) (format : ℕ) (payload : List ℕ) (origin : Option Origin)
+    → is_some (consumer_of t (link_of t from)) ≡ false → TablesFit found (with_bound (passing t from origin row format payload) t)
+    → ((u : Trace) → TablesFit found u → TablesFit left (puts from.conn.0 (released u from.conn.0 from.channel from.handle claimed) u))
+    → TablesFit left (puts from.conn.0 (unbound_put t from.conn.0 from.channel from.handle claimed (consumer_of t (link_of t from)))
+    (with_bound (passing t from (option_map (origin_of from) claimed) row format payload) t))
+released_given found left t from claimed row format payload origin none fit release = by (consumer_of t (link_of t from)) none fit
+  where
+    by : (at : Option Attachment) → is_some at ≡ false → TablesFit found (with_bound (option_map (binding_to t origin row format payload) at) t)
+        → TablesFit left (puts from.conn.0 (unbound_put t from.conn.0 from.channel from.handle claimed at)
+        (with_bound (option_map (binding_to t (option_map (origin_of from) claimed) row format payload) at) t))
+    by None is same = release t same
+    by (Some at) is same = absurd cc

@@ -1,0 +1,118 @@
+-- What a transfer that is taken makes of its delivery, and the answers to the deliveries that a disposition decides.
+use Rattle.std.specs.Prelude.{ℕ, Bool, true, false, not, ◌||◌, is_some, nat_lt, if◌then◌else◌, List, [], ◌∷◌, map, Option, Some, None, option_map, unwrap_or}
+use Rattle.amqp_model.specs.declared.perf.Perf.{Perf}
+use Rattle.amqp_model.specs.declared.perf.Perf.TheVariants as perf
+use Rattle.amqp_model.specs.declared.perf.Disposition.{Disposition as ADisposition}
+use Rattle.amqp_model.specs.declared.perf.Role.TheVariants.{Sender, Receiver}
+use Rattle.amqp_model.specs.declared.state.DeliveryState.{DeliveryState}
+use Rattle.amqp_model.specs.declared.state.DeliveryState.TheVariants as state
+use Rattle.amqp_link.specs.declared.part.Delivery.{Delivery as Told}
+use Rattle.amqp_link.specs.declared.part.Part.{Part}
+use Rattle.amqp_link.specs.declared.part.Part.TheVariants as part
+use Rattle.amqp_model.specs.declared.item.Item.{Item}
+use Rattle.amqp_model.specs.declared.item.Item.TheVariants as item
+use Rattle.book_model.specs.declared.row.RowNumber.{RowNumber}
+use Rattle.router_trace.specs.declared.condition.Condition.{Condition}
+use Rattle.router_trace.specs.declared.condition.Condition.TheVariants.{ResourceLimitExceeded, MessageSizeExceeded}
+use Rattle.router_trace.specs.Trace.{Trace, puts}
+use Rattle.router_trace.specs.Connection.{conn}
+use Rattle.router_trace.specs.declared.binding.Binding.{Binding}
+use Rattle.router_trace.specs.declared.binding.Origin.{Origin}
+use Rattle.router_trace.specs.declared.handle.Attachment.{Attachment}
+use Rattle.router_trace.specs.DeliveryFrames.{outcome_item}
+use Rattle.router_trace.specs.Settling.{unbound, is_claimed_on}
+use Rattle.router_trace.specs.LinkFrames.{detach_item}
+use Rattle.router_trace.specs.Links.{Link, link, durable_key}
+use Rattle.state_messages.specs.Passing.{passing, consumer_of, with_bound}
+
+-- The deliveries that a disposition decides without settling are answered, each settled, with the outcome as the router keeps it.
+abbrev pub settled_answers : ℕ → Option DeliveryState → List ℕ → List Item
+settled_answers own None ids = []
+settled_answers own (Some s) ids = map (λ id. outcome_item own Sender id true s) ids
+
+-- the disposition in an item, allowed or not, and the answers to the deliveries that it decides
+abbrev pub disposition_of : Perf → Option ADisposition
+disposition_of (perf.Disposition x) = Some x
+disposition_of _ = None
+
+abbrev pub disposition_in : Item → Option ADisposition
+disposition_in (item.Frame sasl channel body payload) = disposition_of body
+disposition_in _ = None
+
+-- the id of a delivery, if its producer hasn't settled it: the link still claims it
+abbrev pub claimed_id : Trace → ℕ → ℕ → ℕ → Option ℕ → Option ℕ
+claimed_id after c own handle None = None
+claimed_id after c own handle (Some id) = if is_claimed_on after c own handle id then Some id else None
+
+-- A whole delivery, after the event. A resumed one is ignored, as the router knows none of its deliveries. Another is bound to a consumer of its
+-- address; if none is chosen, it is released, or dropped if its producer has settled it. On a durable link one that its producer hasn't settled
+-- is bound only if it has a row in the book; else it is released, and its producer settles it. A link has at most 1,024 deliveries that were
+-- ignored, or released in this way, and that their producer has yet to settle.
+abbrev pub from_link : ℕ → ℕ → ℕ → Link → Attachment
+from_link c own handle l = record { number = l.number; conn = record { 0 = c }; channel = own; handle = handle }
+
+abbrev pub origin_of : Attachment → ℕ → Origin
+origin_of from id = record { link = from; id = id }
+
+abbrev pub lasts_on : Option Link → Bool
+lasts_on l = is_some (durable_key l)
+
+abbrev pub may_pass : Bool → Option ℕ → Option RowNumber → Bool
+may_pass durable None row = true
+may_pass durable (Some id) row = not durable || is_some row
+
+abbrev pub consumer_for : Trace → ℕ → ℕ → ℕ → Told → Option RowNumber → Option Attachment
+consumer_for after c own handle d row =
+    if may_pass (lasts_on (link after c own handle)) (claimed_id after c own handle d.id) row then consumer_of after (link after c own handle) else None
+
+abbrev pub fresh_bound : Trace → ℕ → ℕ → ℕ → Told → Option RowNumber → List ℕ → Option Link → Option Binding
+fresh_bound after c own handle d row payload None = None
+fresh_bound after c own handle d row payload (Some l) =
+    if may_pass (lasts_on (link after c own handle)) (claimed_id after c own handle d.id) row
+    then passing after (from_link c own handle l) (option_map (origin_of (from_link c own handle l)) (claimed_id after c own handle d.id)) row (unwrap_or d.format 0) payload
+    else None
+
+abbrev pub whole_bound : Trace → ℕ → ℕ → ℕ → Told → Option RowNumber → List ℕ → Option Binding
+whole_bound after c own handle d row payload = if d.resume then None else fresh_bound after c own handle d row payload (link after c own handle)
+
+-- a detach for too many deliveries, or for one that is too large: it closes the link unless the link is durable
+abbrev pub let_go : Trace → ℕ → ℕ → ℕ → Condition → List Item
+let_go after c own handle x = detach_item own handle (not (lasts_on (link after c own handle))) (Some x) ∷ []
+
+abbrev pub unless_many : Trace → ℕ → ℕ → ℕ → List Item → List Item
+unless_many after c own handle items = if nat_lt 1024 (unbound after c own handle) then let_go after c own handle ResourceLimitExceeded else items
+
+abbrev pub ignored_put : Trace → ℕ → ℕ → ℕ → Option ℕ → List Item
+ignored_put after c own handle None = []
+ignored_put after c own handle (Some id) = unless_many after c own handle []
+
+abbrev pub released_by : Trace → ℕ → ℕ → ℕ → Bool → ℕ → List Item
+released_by after c own handle false id = outcome_item own Receiver id true state.Released ∷ []
+released_by after c own handle true id = unless_many after c own handle (outcome_item own Receiver id false state.Released ∷ [])
+
+abbrev pub released : Trace → ℕ → ℕ → ℕ → Option ℕ → List Item
+released after c own handle None = []
+released after c own handle (Some id) = released_by after c own handle (lasts_on (link after c own handle)) id
+
+abbrev pub unbound_put : Trace → ℕ → ℕ → ℕ → Option ℕ → Option Attachment → List Item
+unbound_put after c own handle id None = released after c own handle id
+unbound_put after c own handle id (Some consumer) = []
+
+abbrev pub whole_put : Trace → ℕ → ℕ → ℕ → Told → Option RowNumber → List Item
+whole_put after c own handle d row =
+    if d.resume then ignored_put after c own handle (claimed_id after c own handle d.id)
+    else unbound_put after c own handle (claimed_id after c own handle d.id) (consumer_for after c own handle d row)
+
+-- what is put for a transfer that is taken: for a whole delivery, one that is too large, or nothing yet
+abbrev pub part_put : Trace → ℕ → ℕ → ℕ → Option RowNumber → Option Part → List Item
+part_put after c own handle row (Some (part.Whole d payload)) = whole_put after c own handle d row
+part_put after c own handle row (Some part.TooLarge) = let_go after c own handle MessageSizeExceeded
+part_put after c own handle row _ = []
+
+abbrev pub part_bound : Trace → ℕ → ℕ → ℕ → Option RowNumber → Option Part → Option Binding
+part_bound after c own handle row (Some (part.Whole d payload)) = whole_bound after c own handle d row payload
+part_bound after c own handle row _ = None
+
+-- the trace after a transfer that is taken is handled, bound and answered; and all that an answer to an item does
+abbrev pub given_behind : Trace → ℕ → ℕ → ℕ → Option RowNumber → Option Part → Trace
+given_behind after c own handle row part = puts c (part_put after c own handle row part) (with_bound (part_bound after c own handle row part) after)

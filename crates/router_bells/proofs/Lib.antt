@@ -1,2 +1,0 @@
-pub mod Ringings
-pub mod Wakings

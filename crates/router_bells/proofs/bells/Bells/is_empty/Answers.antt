@@ -1,7 +1,0 @@
-use Rattle.std.proofs.Common.{◌≡◌, ◌∙◌, sym, ℕ, List, [], ◌∷◌}
-use Rattle.std.specs.Cmp.Lexicographic.{same_text}
-use Rattle.router_bells.proofs.Ringings.{empty_rings}
-use Rattle.router_bells.proofs.bells.Bells.is_empty.Goals as goal
-
-pub returns : goal.returns
-returns g = λ is. empty_rings g.args.self.now.words (same_text g.args.self.now.words _ (sym is ∙ g.eq.ensures))

@@ -1,8 +1,0 @@
-use Rattle.std.proofs.Common.{◌≡◌, ◌<◌, ℕ, slice_index_or}
-use Rattle.router_bells.proofs.bells.Bells.pop.Given as goal
-
-abbrev pub invariant-loop-place : goal.invariant-loop-place
-invariant-loop-place l = record {
-  same : l.self ≡ l.fn.self;
-  empty : (k : ℕ) → k < l.place → slice_index_or l.fn.self.words k 0 ≡ 0;
-}

@@ -1,7 +1,0 @@
--- Which connections are noted as ready.
-use Rattle.std.specs.Prelude.{ℕ, Bool}
-use Rattle.router_places.specs.Marks.{has}
-use Rattle.router_conns.specs.declared.ready.Ready.{Ready}
-
-abbrev pub is_noted : Ready → ℕ → Bool
-is_noted ready c = has ready.marks c

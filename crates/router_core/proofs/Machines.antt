@@ -1,0 +1,76 @@
+-- What a core does, in the words of the trait that it is used through.
+use Rattle.std.proofs.Common.{◌≡◌, ◌∙◌, sym, ap, refl, subst, inl, inr, ◌⊎◌, ⊎_elim, ℕ, ◌+◌, ◌≤◌, List, [], ◌∷◌, Result, Ok, Err, OnOk, OnErr, IfOk}
+use Rattle.disk_core.specs.Disk.{LeavesOnly}
+use Rattle.book_model.specs.declared.act.Act.{Act}
+use Rattle.book_model.specs.Book.{BookView}
+use Rattle.book_model.specs.Made.{IsMade}
+use Rattle.gate_journal.specs.Journal.{batch_count}
+use Rattle.journal_store.specs.Store.{OpensTo, Stands, batches_behind, disk_of, journal_of}
+use Rattle.journal_store.specs.declared.store.Store.{Store}
+use Rattle.journal_store.proofs.Makes.{made_by}
+use Rattle.router_trace.specs.declared.event.Event.{Event}
+use Rattle.router_trace.specs.Trace.{Entry, Trace, step_of}
+use Rattle.router_reply.specs.Acts.{Journaled, acts_of, book_behind, book_in, booked, journaled}
+use Rattle.core_machine.specs.Meaning.{BookAt}
+use Rattle.router_core.specs.declared.router.Core.{Core}
+use Rattle.router_core.specs.Handling.{BeforeOrBehind, Fits, id_of, kept_book, store_of}
+use Rattle.router_core.specs.Machine.{KeepsBook, LeavesBook, core_meaning}
+use Rattle.router_core.specs.Replies.{Replies, handled}
+use Rattle.router_core.proofs.Books.{view_answered}
+
+-- what holds of any answer Ok, from what holds of it
+pub on_ok : {A E : Type 0} (r : Result A E) {P Q : Type 0} → (P → Q) → OnOk r P → OnOk r Q
+on_ok (Ok x) f is = f is
+on_ok (Err e) f is = is
+
+pub on_ok_both : {A E : Type 0} (r : Result A E) {P Q R : Type 0} → (P → Q → R) → OnOk r P → OnOk r Q → OnOk r R
+on_ok_both (Ok x) f is also = f is also
+on_ok_both (Err e) f is also = is
+
+pub if_ok : {A E : Type 0} (r : Result A E) (Q : A → Type 0) → ((x : A) → Q x) → IfOk r Q
+if_ok (Ok x) Q f = f x
+if_ok (Err e) Q f = tt
+
+pub on_err : {A E : Type 0} (r : Result A E) (Q : Type 0) → Q → OnErr r Q
+on_err (Ok x) Q is = tt
+on_err (Err e) Q is = is
+
+-- the trace after the event is the one that the definitions give
+pub fits_next : {D : Type 0} (new : Core D) (id : List ℕ) (t : List Entry) (e : Event) → (u : List Entry) × Replies id t (step_of e) u × Fits new u → Fits new (handled id t (step_of e))
+fits_next new id t e more = subst (λ (u : List Entry). Fits new u) more.1.answers more.2
+
+-- the journal has one batch more exactly if there are acts
+one_more : (old new : ℕ) (acts : List Act) → new ≡ batches_behind old acts → (new ≡ old) ⊎ (new ≡ old + 1)
+one_more old new [] is = inl is
+one_more old new (act ∷ acts) is = inr is
+
+pub batches_next : {D : Type 0} (old new : Core D) (id : List ℕ) (t : List Entry) (e : Event) → Fits old t → Fits new (handled id t (step_of e))
+    → (batch_count (journal_of (store_of new)) ≡ batch_count (journal_of (store_of old))) ⊎ (batch_count (journal_of (store_of new)) ≡ batch_count (journal_of (store_of old)) + 1)
+batches_next old new id t e before after =
+    one_more (batch_count (journal_of (store_of old))) (batch_count (journal_of (store_of new))) (acts_of t e)
+    (after.journal.batches ∙ ap (λ (j : Journaled). j.batches) (view_answered journaled (λ c i u. refl) (λ b u. refl) id (booked t e) e)
+    ∙ ap (λ n. batches_behind n (acts_of t e)) (sym before.journal.batches))
+
+-- acts made the book to which a file opens
+pub made_of : (file : List ℕ) (b : BookView) → OpensTo file b → IsMade b
+made_of file b opens = subst IsMade (sym opens.leaves) (made_by opens.batches opens.holds.valid)
+
+module _ {D : Type 0} (seen : D → List ℕ) (may_leave : D → List ℕ → Type 0) where
+  -- the disk keeps the next book
+  pub keeps_next : (old new : Core D) (id : List ℕ) (t : List Entry) (e : Event) → Fits new (handled id t (step_of e))
+      → (Stands seen may_leave (store_of old) → Stands seen may_leave (store_of new))
+      → KeepsBook seen may_leave old (book_in t) → KeepsBook seen may_leave new (book_in (handled id t (step_of e)))
+  keeps_next old new id t e after stands keeps = (stands keeps.0, after.journal.book)
+
+  -- nothing of the journal changes
+  pub keeps_on : (old new : Core D) (b : BookView) → store_of new ≡ store_of old → KeepsBook seen may_leave old b → KeepsBook seen may_leave new b
+  keeps_on old new b same keeps = (subst (λ (s : Store D). Stands seen may_leave s) (sym same) keeps.0, ap (λ (s : Store D). s.kept.book) same ∙ keeps.1)
+
+  -- a crash leaves the book before the event, or the book after it
+  pub leaves_next : (moment : D → ℕ) (left_since : D → ℕ → List ℕ → Type 0) → ((disk : D) (t : ℕ) (c : List ℕ) → t ≤ moment disk → may_leave disk c → left_since disk t c)
+      → (failures : D → ℕ) (old new : Core D) (t : List Entry) (e : Event)
+      → LeavesOnly moment left_since (disk_of (store_of old)) (disk_of (store_of new)) (BeforeOrBehind t e)
+      → LeavesBook may_leave new (BookAt (core_meaning seen may_leave failures) t e)
+  leaves_next moment left_since counts_now failures old new t e run file left =
+      ⊎_elim (λ opens. (book_in t, opens, inl refl)) (λ opens. (book_behind t e, opens, inr refl))
+      (run.each file (counts_now (disk_of (store_of new)) (moment (disk_of (store_of old))) file run.later left))

@@ -1,6 +1,0 @@
-use Rattle.std.proofs.Common.{◌≡◌, map, take}
-use Rattle.router_core.specs.Door.{mechanism_of}
-use Rattle.router_core.proofs.door.mechanisms_of.Given as goal
-
-abbrev pub invariant-loop-word : goal.invariant-loop-word
-invariant-loop-word l = l.found.items ≡ map mechanism_of (take l.word-index l.words)

@@ -1,0 +1,22 @@
+use Rattle.router_core.specs.Handling.{id_of}
+use Rattle.router_core.proofs.Machines.{batches_next, fits_next, keeps_next, leaves_next, on_ok, on_ok_both}
+use Rattle.router_core.proofs.machine.CoreMachine.handle.Goals as goal
+
+pub returns-clause-fits : goal.returns-clause-fits
+returns-clause-fits g c =
+    on_ok c.handle.result (λ more t f. fits_next c.handle.new.self (id_of c.args.self.now) t c.args.event (more t f)) c.handle.ensures.fits
+
+pub returns-clause-batches : goal.returns-clause-batches
+returns-clause-batches g c =
+    on_ok c.handle.result (λ more t f. batches_next c.args.self.now c.handle.new.self (id_of c.args.self.now) t c.args.event f (fits_next c.handle.new.self (id_of c.args.self.now) t c.args.event (more t f))) c.handle.ensures.fits
+
+pub returns-clause-keeps : goal.returns-clause-keeps
+returns-clause-keeps g c =
+    on_ok_both c.handle.result
+    (λ more stands t f keeps. keeps_next g.D.Disk.seen g.D.Disk.may_leave c.args.self.now c.handle.new.self (id_of c.args.self.now) t c.args.event (fits_next c.handle.new.self (id_of c.args.self.now) t c.args.event (more t f)) stands keeps)
+    c.handle.ensures.fits c.handle.ensures.stands
+
+pub returns-clause-leaves : goal.returns-clause-leaves
+returns-clause-leaves g c =
+    λ t f keeps. leaves_next g.D.Disk.seen g.D.Disk.may_leave g.D.Disk.moment g.D.Disk.left_since (λ disk. g.met.D.Disk.counts_now disk) g.D.Disk.failures c.args.self.now c.handle.new.self t c.args.event
+    (c.handle.ensures.any_moment t f keeps.0)

@@ -1,0 +1,48 @@
+//! The core as a machine: what those who drive it through the trait may use.
+ghost use Rattle.std.specs.Prelude.{◌≡◌, ◌⊎◌, ◌+◌, ◌<◌, ◌≤◌, ◌∷◌, ◌&&◌, ◌||◌, not, nat_lt, length, true, false, Err, None, option_map, is_some};
+ghost use Rattle.router_core.specs.Machine.{core_meaning};
+
+use crate::router::Core;
+use core_machine::{CoreFault, Counts, Done, Machine, Taken};
+use disk_core::Disk;
+use router_trace::{ConnectionId, Event};
+
+impl<D: Disk> Machine for Core<D> {
+    ghost meaning = { core_meaning D.seen D.may_leave D.failures };
+
+    fn handle(&mut self, event: Event) -> Result<Done, CoreFault> {
+        Core::handle(self, event)
+    }
+
+    fn take_items(&mut self, conn: ConnectionId, most: usize) -> Result<Taken, CoreFault> {
+        self.take_out(conn, most)
+    }
+
+    fn is_failed(&self) -> bool {
+        Core::is_failed(self)
+    }
+
+    fn is_live(&self, conn: ConnectionId) -> bool {
+        Core::is_live(self, conn)
+    }
+
+    fn answers(&self, conn: ConnectionId) -> bool {
+        Core::is_failed(self) || Core::is_ready(self, conn) || !Core::knows(self, conn)
+    }
+
+    fn ready(&self) -> Option<ConnectionId> {
+        Core::ready(self)
+    }
+
+    fn ready_after(&self, conn: ConnectionId) -> Option<ConnectionId> {
+        Core::ready_behind(self, conn)
+    }
+
+    fn counts(&self) -> Counts {
+        Core::counts(self)
+    }
+
+    fn batch(&self) -> u64 {
+        Core::batch(self)
+    }
+}

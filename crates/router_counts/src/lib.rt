@@ -1,6 +1,0 @@
-//! Counts of what the router did.
-#![tactic(auto)]
-
-mod counts;
-
-pub use counts::Counts;

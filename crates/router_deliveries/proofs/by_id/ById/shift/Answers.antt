@@ -1,6 +1,0 @@
-use Rattle.router_deliveries.proofs.Identified.{ids_moved}
-use Rattle.router_deliveries.proofs.by_id.ById.shift.Goals as goal
-
-pub returns : goal.returns
-returns c = λ known is fit.
-    ids_moved c.args.self.now c.drop_from.new.self _ c.args.number c.args.before c.args.after known c.drop_from.ensures c.in_ok-add_to.ensures.stands c.in_ok-add_to.ensures.small is fit

@@ -1,6 +1,0 @@
-use Rattle.router_places.specs.Slots.{in_slots}
-use Rattle.router_deliveries.specs.Indexing.{standing}
-use Rattle.router_deliveries.proofs.store.Store.deciding_by.Goals as goal
-
-pub returns : goal.returns
-returns c = λ indexed. c.in_ok-deciding_by.ensures (λ n. standing (in_slots c.args.self.now.deliveries n)) indexed.indexes

@@ -1,9 +1,0 @@
-use Rattle.router_places.specs.Slots.{in_slots}
-use Rattle.router_deliveries.specs.Indexing.{standing}
-use Rattle.router_deliveries.proofs.store.Store.leave.Goals as goal
-
-pub returns-in_ok-end-clause-indexed : goal.returns-in_ok-end-clause-indexed
-returns-in_ok-end-clause-indexed c = λ before. record {
-  indexes = c.in_ok-end.ensures (λ n. standing (in_slots c.args.self.now.deliveries n)) before.indexes;
-  called = before.called;
-}

@@ -1,8 +1,0 @@
-use Rattle.router_frames.proofs.Short.{kept_len, outcome_frame_len}
-use Rattle.router_frames.proofs.laws.outcomes_are_short.Goals as goal
-
-pub returns : goal.returns
-returns c = record {
-  kept = kept_len;
-  told = outcome_frame_len;
-}

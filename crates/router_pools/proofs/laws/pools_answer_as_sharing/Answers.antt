@@ -1,9 +1,0 @@
-use Rattle.router_pools.specs.Fits.{is_due, is_touched, place_of, pool_at, table_of}
-use Rattle.router_pools.proofs.Listed.{choice_is, grants_are}
-use Rattle.router_pools.proofs.laws.pools_answer_as_sharing.Goals as goal
-
-pub returns : goal.returns
-returns c pools share known actual last count fits none numbered address = (
-  choice_is (is_touched pools) (table_of pools) share (pool_at pools) (place_of pools) (is_due pools) known actual last count address fits none numbered,
-  grants_are (is_touched pools) (table_of pools) share (pool_at pools) (place_of pools) (is_due pools) known actual last count address fits none numbered,
-)

@@ -1,3 +1,0 @@
-pub mod Adding
-pub mod Blank
-pub use Rattle.router_counts.specs.Counting

@@ -1,7 +1,0 @@
-use Rattle.std.proofs.Common.{◌≡◌, ◌++◌, drop}
-use Rattle.router_service.specs.Spelled.{spelled}
-use Rattle.router_service.proofs.writing.spell.Given as goal
-
--- once the rest is encoded too, all are
-abbrev pub invariant-loop-item : goal.invariant-loop-item
-invariant-loop-item l = l.buffer.items ++ spelled (drop l.item-index l.items) ≡ spelled l.items

@@ -1,0 +1,4 @@
+mod Histories
+mod Queues
+mod Ringings
+mod Wakings

@@ -1,0 +1,9 @@
+use Rattle.std.proofs.Common.{◌∙◌, sym}
+use Rattle.serve_lock.proofs.Histories.{none_yet}
+use Rattle.serve_lock.proofs.locked.Locked.new.Goals as goal
+
+pub invariant_of-result : goal.invariant_of-result
+invariant_of-result g c = record {
+  counted = c.requires.opened.counts ∙ sym c.requires.totals;
+  history = ∣ none_yet g.M.Machine.meaning g.G.Ledgers.opening c.args.router c.requires.opened ∣₁;
+}

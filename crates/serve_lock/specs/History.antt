@@ -1,0 +1,35 @@
+-- What happened to a router since it was opened: the events that it handled and the batches that were taken, in one order; and where its
+-- journal stands by them.
+use Rattle.std.specs.Prelude.{◌≡◌, ◌⊎◌, true, false, List, [], ◌∷◌}
+use Rattle.book_model.specs.Made.{IsMade}
+use Rattle.router_trace.specs.declared.event.Event.{Event}
+use Rattle.router_trace.specs.Trace.{Beginning, Trace}
+use Rattle.router_trace.specs.Configuration.{beginning}
+use Rattle.core_machine.specs.declared.counts.Counts.{Counts}
+use Rattle.core_machine.specs.Counting.{uncounted, with_event, with_batch}
+use Rattle.core_machine.specs.Meaning.{Meaning, BookAt}
+use Rattle.core_machine.specs.Moves.{Move, handles, takes, GoesInTurnBy}
+use Rattle.core_machine.specs.Turns.{declines}
+
+-- the counts after these moves: one more for each event, by kind, and for each take
+abbrev pub tally : List Move → Counts → Counts
+tally [] n = n
+tally (handles s ∷ ms) n = tally ms (with_event s.event n)
+tally (takes x ∷ ms) n = tally ms (with_batch n)
+
+-- where the journal of a router that failed stands: it keeps the book of the trace; or a last event was cut off, and whatever a crash leaves opens
+-- to that book, or to that book after the acts of the last event
+abbrev pub IsCutOff : {M : Type 0} → Meaning M → M → Trace → Type 0
+IsCutOff m router t = m.keeps router (m.book t) ⊎ ((e : Event) × (declines t e ≡ false) × m.leaves router (BookAt m t e))
+
+-- These moves, one after another, since the router was opened so: they give this trace, and each is counted once. While the router works, its tables
+-- and its book are those of the trace, and its journal keeps that book.
+pub record IsHistory {M : Type 0} (m : Meaning M) (g : Beginning) (router : M) (moves : List Move) (t : Trace) : Type 0 where
+  pub goes : GoesInTurnBy (m.next (m.id router)) moves (beginning g) t
+  pub counted : m.counts router ≡ tally moves uncounted
+  pub made : IsMade g.book
+  pub works : m.is_failed router ≡ false → m.fits router t × m.keeps router (m.book t)
+  pub failed : m.is_failed router ≡ true → IsCutOff m router t
+
+abbrev pub HasHistory : {M : Type 0} → Meaning M → Beginning → M → Type 0
+HasHistory m g router = (moves : List Move) × (t : Trace) × IsHistory m g router moves t

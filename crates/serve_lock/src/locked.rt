@@ -1,0 +1,250 @@
+//! The data under the lock.
+ghost use Rattle.std.specs.Prelude.{◌≡◌, ◌≤◌, ◌<◌, ◌+◌, ◌∷◌, ◌%◌, ◌==◌, ◌⊎◌, ◌&&◌, ◌||◌, not, ℕ, if◌then◌else◌, [], None, true, is_some, length, OnOk, OnErr, IfOk, IfErr, IfSome, IsErrOf};
+ghost use Rattle.router_trace.specs.Trace.{Trace, Took, step_of};
+ghost use Rattle.router_trace.specs.Connection.{conn as known, is_ready, is_live};
+ghost use Rattle.core_machine.specs.Counting.{uncounted, with_event, with_batch};
+ghost use Rattle.core_machine.specs.Meaning.{IsBatchOf};
+ghost use Rattle.core_machine.specs.Turns.{declines};
+ghost use Rattle.core_machine.specs.declared.fault.CoreFault.TheVariants.{Disk as DiskFailed, Memory, Failed, NoConnection};
+ghost use Rattle.serve_lock.specs.Adding.{sums, Handled};
+ghost use Rattle.serve_lock.specs.Handing.{Enough, Stopped, gone, handed};
+ghost use Rattle.serve_lock.specs.History.{HasHistory};
+ghost use Rattle.core_machine.specs.Opened.{IsOpened};
+ghost use Rattle.serve_lock.specs.Ringing.{is_set};
+
+use crate::bells::Bells;
+use crate::kind::Kind;
+use crate::ledgers::Ledgers;
+use crate::seat::Seat;
+use crate::sleepers::Sleepers;
+use crate::totals::{Returned, Totals};
+use amqp_model::Item;
+use core_machine::{Batch, CoreFault, Counts, Machine, take};
+use router_trace::{ConnectionId, Event};
+use std::collections::VecDeque;
+
+/// The most items that are taken at a time, and that are handed in while the lock is taken once.
+const MOST: usize = 64;
+
+/// The most items that write to the journal while the lock is taken once.
+const WRITES: usize = 8;
+
+/// A log of a router's events and takes.
+pub trait Log: Drop {}
+
+/// A log that keeps nothing.
+#[derive(Clone, Copy, Debug, Drop)]
+pub struct NoLog {}
+
+impl Log for NoLog {}
+
+/// A batch of the journal that was written for an event. None is given out yet.
+#[derive(Debug, Drop)]
+pub struct Receipt {
+    batch: u64,
+}
+
+/// The result of closing the router.
+#[derive(Drop)]
+pub struct Closed<M: Machine, L: Log> {
+    /// Whether every seat came back.
+    pub all: bool,
+    /// The sum of the counts of the seats that came back.
+    pub counts: Counts,
+    /// The number of the journal's last batch; 0 where there is none.
+    pub appended: u64,
+    /// That number when the router was opened.
+    pub opened: u64,
+    /// The router.
+    pub core: M,
+    /// The log.
+    pub log: L,
+}
+
+/// A router, the totals of the seats' counts, which are the router's own counts, and its history: all that it did since it was opened, in one order, and
+/// where its journal stands by that.
+#[derive(Drop)]
+pub struct Locked<M: Machine, L: Log, G: Ledgers> {
+    router: M,
+    totals: Totals<G>,
+    log: L,
+    // the number of the journal's last batch when the router was opened
+    opened: u64,
+    sleepers: Sleepers,
+    ghost counted: { M.meaning.counts router ≡ totals },
+    ghost history: { ∥ HasHistory M.meaning G.opening router ∥₁ },
+}
+
+impl<M: Machine, L: Log, G: Ledgers> Locked<M, L, G> {
+    /// A router that was just opened, with totals of nothing.
+    pub fn new(router: M, totals: Totals<G>, log: L) -> Locked<M, L, G>
+        requires opened { IsOpened M.meaning G.opening router }
+        requires totals { totals ≡ uncounted }
+    {
+        let opened = router.batch();
+        Locked {
+            router,
+            totals,
+            log,
+            opened,
+            sleepers: Sleepers::none(),
+        }
+    }
+
+    /// A seat that has counted nothing; none if no part of a ledger is left.
+    pub fn seat(&mut self) -> Option<Seat<G>>
+        ensures { IfSome result (λ seat. seat ≡ uncounted) }
+    {
+        self.totals.seat()
+    }
+
+    /// Handles one event, and returns whether it wrote to the journal.
+    pub fn handle(&mut self, seat: &mut Seat<G>, event: Event) -> Result<bool, CoreFault>
+        ensures counted { OnOk result (seat.new ≡ with_event event seat.old) }
+        ensures uncounted { OnErr result (seat.new ≡ seat.old) }
+        ensures fits { OnOk result ((t : Trace) → M.meaning.fits self.old.router t → M.meaning.fits self.new.router (M.meaning.next (M.meaning.id self.old.router) t (step_of event))) }
+        ensures wrote { IfOk result (λ wrote. (t : Trace) → M.meaning.fits self.old.router t → M.meaning.batches self.new.router ≡ M.meaning.batches self.old.router + (if wrote then 1 else 0)) }
+        ensures named { M.meaning.id self.new.router ≡ M.meaning.id self.old.router }
+
+        // Which fault occurs, and what it leaves.
+        ensures refused { IfErr result (λ f. f ≡ NoConnection → (self.new.router ≡ self.old.router) × ((t : Trace) → M.meaning.fits self.old.router t → declines t event ≡ true)) }
+        ensures failed { IfErr result (λ f. f ≡ Failed → (self.new.router ≡ self.old.router) × (M.meaning.is_failed self.old.router ≡ true)) }
+        ensures memory { IfErr result (λ f. f ≡ Memory → M.meaning.is_failed self.new.router ≡ true) }
+        ensures disk { IfErr result (λ f. f ≡ DiskFailed → M.meaning.is_failed self.new.router ≡ true) }
+        ensures cause { IfErr result (λ f. f ≡ DiskFailed → M.meaning.failures self.old.router < M.meaning.failures self.new.router) }
+        ensures no_other { (IsErrOf result DiskFailed → ⊥) → M.meaning.failures self.new.router ≡ M.meaning.failures self.old.router }
+    {
+        let kind = Kind::of(&event);
+        let before = self.router.batch();
+        let done = self.router.handle(event)?;
+        drop(done);
+        self.totals.add(seat, kind, self.router.counts());
+        Ok(self.router.batch() != before)
+    }
+
+    /// Handles the items at the front of a queue, in order, each as an event of its own: all of them, but at most 64, and none behind
+    /// one that is refused or the eighth that wrote to the journal. One that is refused is dropped.
+    pub fn handle_items(
+        &mut self,
+        seat: &mut Seat<G>,
+        conn: ConnectionId,
+        items: &mut VecDeque<Item>,
+    ) -> Result<(), CoreFault>
+        ensures handled { OnOk result (Handled 0 seat.old seat.new items.old.items items.new.items) }
+        ensures refused { OnErr result (Handled 1 seat.old seat.new items.old.items items.new.items) }
+        ensures enough { OnOk result (Enough items.old.items items.new.items) }
+
+        // Exactly the items that left the queue were handled; and none is left without a reason.
+        ensures fits { OnOk result ((t : Trace) → M.meaning.fits self.old.router t → M.meaning.fits self.new.router (handed (M.meaning.next (M.meaning.id self.old.router)) conn (gone items.old.items items.new.items) t)) }
+        ensures stopped { OnOk result ((t : Trace) → M.meaning.fits self.old.router t → Stopped items.old.items items.new.items (M.meaning.batches self.old.router) (M.meaning.batches self.new.router)) }
+        ensures writes { OnOk result ((t : Trace) → M.meaning.fits self.old.router t → M.meaning.batches self.new.router ≤ M.meaning.batches self.old.router + 8) }
+    {
+        let mut writes = WRITES;
+        for _turn in 0..MOST {
+            if writes == 0 {
+                return Ok(());
+            }
+            let Some(item) = items.pop_front() else {
+                return Ok(());
+            };
+            let wrote = self.handle(seat, Event::Item(conn, item))?;
+            writes = left_of(writes, wrote);
+        }
+        Ok(())
+    }
+
+    /// Handles one take.
+    pub fn take(&mut self, seat: &mut Seat<G>, conn: ConnectionId) -> Result<Batch, CoreFault>
+        ensures fits { IfOk result (λ batch. (t : Trace) → M.meaning.fits self.old.router t → M.meaning.fits self.new.router (Took conn.0 (length batch.items.items) ∷ t)) }
+        ensures batch { IfOk result (λ batch. (t : Trace) → M.meaning.fits self.old.router t → IsBatchOf (known t conn.0) 64 batch) }
+        ensures whose { IfOk result (λ b. b.conn ≡ conn) }
+        ensures most { IfOk result (λ b. length b.items.items ≤ 64) }
+        ensures counted { OnOk result (seat.new ≡ with_batch seat.old) }
+        ensures uncounted { OnErr result (seat.new ≡ seat.old) }
+
+        // Which fault occurs, and what it leaves.
+        ensures refused { IfErr result (λ f. f ≡ NoConnection → (self.new.router ≡ self.old.router) × ((t : Trace) → M.meaning.fits self.old.router t → known t conn.0 ≡ None)) }
+        ensures failed { IfErr result (λ f. f ≡ Failed → (self.new.router ≡ self.old.router) × (M.meaning.is_failed self.old.router ≡ true)) }
+        ensures memory { IfErr result (λ f. f ≡ Memory → M.meaning.is_failed self.new.router ≡ true) }
+        ensures no_disk { IfErr result (λ f. f ≡ DiskFailed → ⊥) }
+    {
+        let batch = take(&mut self.router, conn, MOST)?;
+        self.totals.add_batch(seat, self.router.counts());
+        Ok(batch)
+    }
+
+    /// Whether a connection is up and the router didn't end it.
+    pub fn is_live(&self, conn: ConnectionId) -> bool
+        ensures { (t : Trace) → M.meaning.fits self.now.router t → result ≡ is_live (known t conn.0) }
+    {
+        self.router.is_live(conn)
+    }
+
+    /// Whether the router failed.
+    pub fn is_failed(&self) -> bool
+        ensures { result ≡ M.meaning.is_failed self.now.router }
+    {
+        self.router.is_failed()
+    }
+
+    /// Whether the writer of a connection has to wait: the connection is known and not ready, and the router works. If so, its bell is noted as
+    /// one at which a writer sleeps.
+    pub fn sleeps(&mut self, conn: ConnectionId) -> bool
+        ensures router { self.new.router ≡ self.old.router }
+        ensures waits { (t : Trace) → M.meaning.fits self.old.router t → result ≡ not (M.meaning.is_failed self.old.router || is_ready (known t conn.0) || not (is_some (known t conn.0))) }
+        ensures noted { (b : ℕ) → is_set self.new.sleepers.noted.words b ≡ ((result && (conn.0 % 256 == b)) || is_set self.old.sleepers.noted.words b) }
+    {
+        self.sleepers.sleeps(&self.router, conn)
+    }
+
+    /// The bells of the writers that sleep and needn't: of connections that are ready, of one that is lost, and all of
+    /// them if the router failed. No bell that was noted is forgotten: it is given, or is still noted.
+    pub fn wake(&mut self, lost: Option<ConnectionId>) -> Bells
+        ensures router { self.new.router ≡ self.old.router }
+        ensures ready { (t : Trace) → M.meaning.fits self.old.router t → (c : ℕ) → is_ready (known t c) ≡ true
+            → is_set self.old.sleepers.noted.words (c % 256) ≡ true → is_set result.words (c % 256) ≡ true }
+        ensures lost { IfSome lost (λ conn. is_set self.old.sleepers.noted.words (conn.0 % 256) ≡ true → is_set result.words (conn.0 % 256) ≡ true) }
+        ensures failed { M.meaning.is_failed self.old.router ≡ true → (b : ℕ) → b < 256 → is_set self.old.sleepers.noted.words b ≡ true → is_set result.words b ≡ true }
+        ensures still { (b : ℕ) → b < 256 → is_set self.old.sleepers.noted.words b ≡ true → (is_set result.words b ≡ true) ⊎ (is_set self.new.sleepers.noted.words b ≡ true) }
+    {
+        self.sleepers.wake(&self.router, lost)
+    }
+
+    /// Adds up the seats' counts, beside the router's.
+    pub fn close(self, seats: Vec<Seat<G>>, receipts: Vec<Receipt>) -> Closed<M, L>
+        requires cut { (G.Ups.seats ≡ G.Ups.parts) × (G.Items.seats ≡ G.Items.parts) × (G.Downs.seats ≡ G.Downs.parts) × (G.Ticks.seats ≡ G.Ticks.parts) × (G.Starts.seats ≡ G.Starts.parts) × (G.Batches.seats ≡ G.Batches.parts) }
+        ensures counts { result.counts ≡ sums seats.items }
+        ensures all { result.all ≡ true → M.meaning.counts result.core ≡ result.counts }
+        ensures appended { result.appended ≡ M.meaning.batches result.core }
+        ensures history { ∥ HasHistory M.meaning G.opening result.core ∥₁ }
+    {
+        drop(receipts);
+        let Locked {
+            router,
+            totals,
+            log,
+            opened,
+            sleepers: _,
+        } = self;
+        let Returned { all, counts } = totals.add_up(seats);
+        Closed {
+            all,
+            counts,
+            appended: router.batch(),
+            opened,
+            core: router,
+            log,
+        }
+    }
+}
+
+/// How many more items may write to the journal, after one that wrote, or didn't.
+fn left_of(writes: usize, wrote: bool) -> usize
+    ensures { 0 < writes → writes ≡ result + (if wrote then 1 else 0) }
+{
+    if wrote {
+        writes.saturating_sub(1)
+    } else {
+        writes
+    }
+}

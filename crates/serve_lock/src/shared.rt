@@ -1,0 +1,185 @@
+//! The lock, and the bells beside it.
+ghost use Rattle.std.specs.Prelude.{◌≡◌, ◌<◌, ◌≤◌, true, length, vec_len, OnOk, OnErr, IfOk, IfSome};
+ghost use Rattle.core_machine.specs.Counting.{uncounted, with_event, with_batch};
+ghost use Rattle.serve_lock.specs.Adding.{sums, Handled};
+ghost use Rattle.serve_lock.specs.Handing.{Enough};
+ghost use Rattle.serve_lock.specs.History.{HasHistory};
+ghost use Rattle.core_machine.specs.Opened.{IsOpened};
+
+use crate::bells::{BELLS, Bells, bell_of};
+use crate::ledgers::{Blanks, Ledgers};
+use crate::locked::{Closed, Locked, Log, Receipt};
+use crate::seat::Seat;
+use crate::totals::Totals;
+use amqp_model::Item;
+use core_machine::{Batch, CoreFault, Machine};
+use router_trace::{ConnectionId, Event};
+use std::alloc::{AllocError, Global};
+use std::collections::VecDeque;
+use std::sync::{Condvar, Mutex, Wait};
+
+/// The router under one lock, for threads that each have a seat. Whenever the lock is taken, the data under it is a router that
+/// failed, or one whose tables agree with one order of events and takes that contains each submit and each batch of a seat
+/// once. A writer that waits sleeps at the bell of its connection.
+#[derive(Drop)]
+pub struct Shared<M: Machine, L: Log, G: Ledgers> {
+    state: Mutex<Locked<M, L, G>>,
+    bells: Vec<Condvar>,
+    ghost all_bells: { vec_len bells ≡ 256 },
+}
+
+impl<M: Machine, L: Log, G: Ledgers> Shared<M, L, G> {
+    /// Puts a new router under a lock, with a log, and the blanks of ledgers with this many parts, one for each
+    /// seat. Fails if there is no memory for the bells.
+    pub fn new(
+        alloc: Global,
+        core: M,
+        log: L,
+        blanks: Blanks,
+        seats: u64,
+    ) -> Result<Shared<M, L, G>, AllocError>
+        requires opened { IsOpened M.meaning G.opening core }
+        requires ups { (blanks.ups.name ≡ G.Ups.name) × (blanks.ups.parts ≡ G.Ups.parts) × (seats ≡ G.Ups.seats) × (G.Ups.seats ≡ G.Ups.parts) }
+        requires items { (blanks.items.name ≡ G.Items.name) × (blanks.items.parts ≡ G.Items.parts) × (seats ≡ G.Items.seats) × (G.Items.seats ≡ G.Items.parts) }
+        requires downs { (blanks.downs.name ≡ G.Downs.name) × (blanks.downs.parts ≡ G.Downs.parts) × (seats ≡ G.Downs.seats) × (G.Downs.seats ≡ G.Downs.parts) }
+        requires ticks { (blanks.ticks.name ≡ G.Ticks.name) × (blanks.ticks.parts ≡ G.Ticks.parts) × (seats ≡ G.Ticks.seats) × (G.Ticks.seats ≡ G.Ticks.parts) }
+        requires starts { (blanks.starts.name ≡ G.Starts.name) × (blanks.starts.parts ≡ G.Starts.parts) × (seats ≡ G.Starts.seats) × (G.Starts.seats ≡ G.Starts.parts) }
+        requires batches { (blanks.batches.name ≡ G.Batches.name) × (blanks.batches.parts ≡ G.Batches.parts) × (seats ≡ G.Batches.seats) × (G.Batches.seats ≡ G.Batches.parts) }
+    {
+        let Ok(bells) = bells(alloc) else {
+            drop(core);
+            drop(log);
+            drop(blanks);
+            return Err(AllocError);
+        };
+        let locked = Locked::new(core, Totals::new(blanks, seats), log);
+        Ok(Shared {
+            state: Mutex::new(locked),
+            bells,
+        })
+    }
+
+    /// A seat that has counted nothing; none if no part of a ledger is left.
+    pub fn seat<R: Wait>(&self, rt: &R) -> Option<Seat<G>>
+        ensures { IfSome result (λ seat. seat ≡ uncounted) }
+    {
+        self.state.lock(rt).seat()
+    }
+
+    /// Submits one event to the router, and wakes the writers that then have something to take. The seat counts the event exactly if
+    /// it is answered Ok. There are no receipts yet.
+    pub fn submit<R: Wait>(
+        &self,
+        rt: &R,
+        seat: &mut Seat<G>,
+        event: Event,
+    ) -> Result<Option<Receipt>, CoreFault>
+        ensures counted { OnOk result (seat.new ≡ with_event event seat.old) }
+        ensures uncounted { OnErr result (seat.new ≡ seat.old) }
+    {
+        let lost = lost_by(&event);
+        let mut locked = self.state.lock(rt);
+        let done = locked.handle(seat, event);
+        let woken = locked.wake(lost);
+        drop(locked);
+        self.ring(woken);
+        done?;
+        Ok(None)
+    }
+
+    /// Submits the items at the front of a queue, in order, each as an event of its own, while the lock is taken once: up to 64 of them, and
+    /// none behind one that is refused or the eighth that wrote to the journal. Then it wakes the writers that have something to take.
+    /// The seat counts exactly the items that left the queue, but for one that is refused, which is dropped.
+    pub fn submit_items<R: Wait>(
+        &self,
+        rt: &R,
+        seat: &mut Seat<G>,
+        conn: ConnectionId,
+        items: &mut VecDeque<Item>,
+    ) -> Result<(), CoreFault>
+        ensures handled { OnOk result (Handled 0 seat.old seat.new items.old.items items.new.items) }
+        ensures refused { OnErr result (Handled 1 seat.old seat.new items.old.items items.new.items) }
+        ensures enough { OnOk result (Enough items.old.items items.new.items) }
+    {
+        let mut locked = self.state.lock(rt);
+        let done = locked.handle_items(seat, conn, items);
+        let woken = locked.wake(None);
+        drop(locked);
+        self.ring(woken);
+        done
+    }
+
+    /// Waits until a connection is ready, and takes up to 64 items from its outbox. The seat counts exactly the batches that it
+    /// gets.
+    ///
+    /// # Errors
+    ///
+    /// `NoConnection` if the connection is unknown, `Failed` or `Memory` if the router fails.
+    pub fn wait_batch<R: Wait>(
+        &self,
+        rt: &R,
+        seat: &mut Seat<G>,
+        conn: ConnectionId,
+    ) -> Result<Batch, CoreFault>
+        ensures whose { IfOk result (λ b. b.conn ≡ conn) }
+        ensures most { IfOk result (λ b. length b.items.items ≤ 64) }
+        ensures counted { OnOk result (seat.new ≡ with_batch seat.old) }
+        ensures uncounted { OnErr result (seat.new ≡ seat.old) }
+    {
+        let bell = &self.bells[bell_of(conn)];
+        let mut locked = bell.wait_while(rt, self.state.lock(rt), |locked| locked.sleeps(conn));
+        locked.take(seat, conn)
+    }
+
+    /// Whether a connection is up and the router didn't end it.
+    pub fn is_live<R: Wait>(&self, rt: &R, conn: ConnectionId) -> bool {
+        self.state.lock(rt).is_live(conn)
+    }
+
+    /// Whether the router failed.
+    pub fn is_failed<R: Wait>(&self, rt: &R) -> bool {
+        self.state.lock(rt).is_failed()
+    }
+
+    /// Adds up the counts of the seats that come back, beside the router's: if all seats came back, the sums equal these, number by number.
+    pub fn close(self, seats: Vec<Seat<G>>, receipts: Vec<Receipt>) -> Closed<M, L>
+        requires cut { (G.Ups.seats ≡ G.Ups.parts) × (G.Items.seats ≡ G.Items.parts) × (G.Downs.seats ≡ G.Downs.parts) × (G.Ticks.seats ≡ G.Ticks.parts) × (G.Starts.seats ≡ G.Starts.parts) × (G.Batches.seats ≡ G.Batches.parts) }
+        ensures counts { result.counts ≡ sums seats.items }
+        ensures all { result.all ≡ true → M.meaning.counts result.core ≡ result.counts }
+        ensures appended { result.appended ≡ M.meaning.batches result.core }
+        ensures history { ∥ HasHistory M.meaning G.opening result.core ∥₁ }
+    {
+        let Shared { state, bells: _ } = self;
+        state.into_inner().close(seats, receipts)
+    }
+
+    /// Rings these bells.
+    fn ring(&self, woken: Bells) {
+        let mut woken = woken;
+        for _turn in 0..BELLS {
+            match woken.pop() {
+                None => return,
+                Some(bell) => self.bells[bell].notify_all(),
+            }
+        }
+    }
+}
+
+/// One bell for each place.
+fn bells(alloc: Global) -> Result<Vec<Condvar>, AllocError>
+    ensures { IfOk result (λ bells. vec_len bells ≡ 256) }
+{
+    let mut bells = Vec::with_capacity(alloc, BELLS)?;
+    for _place in 0..BELLS {
+        bells.push(Condvar::new())?;
+    }
+    Ok(bells)
+}
+
+/// The connection whose loss an event reports.
+fn lost_by(event: &Event) -> Option<ConnectionId> {
+    match event {
+        Event::Down(conn) => Some(*conn),
+        _ => None,
+    }
+}

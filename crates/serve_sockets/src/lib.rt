@@ -1,0 +1,14 @@
+//! Connections on sockets, each served by threads of its own, over a router that is known as a service.
+#![tactic(auto)]
+
+mod connection;
+mod lines;
+mod listening;
+mod program;
+mod socket;
+mod state;
+mod streams;
+
+pub use listening::listen;
+pub use program::Program;
+pub use state::ProgramState;

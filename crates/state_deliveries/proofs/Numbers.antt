@@ -1,0 +1,86 @@
+-- The first of the deliveries that pass a test, and how many there are, among all that were bound.
+use Rattle.std.proofs.Common.{◌≡◌, ◌∙◌, ◌<◌, ◌≤◌, ◌+◌, ℕ, zero, suc, Bool, true, false, refl, sym, ap, arith, [], ◌∷◌, Option, Some, None}
+use Rattle.std.specs.Prelude.{◌==◌, nat_lt, if◌then◌else◌}
+use Rattle.std.specs.Option.{option_and_then}
+use Rattle.std.proofs.lemmas.Bool.{eqb-true, ltb-true}
+use Rattle.std.proofs.lemmas.Bool.Decides.{nat_tests}
+use Rattle.router_trace.specs.Trace.{Trace, Did, Out, Took, Bound, Booked, Began}
+use Rattle.router_trace.specs.Counting.{IsCount}
+use Rattle.router_trace.specs.Deliveries.{Delivery, delivery, bindings, bound as fresh_delivery, name_in, number_named, unless_called, sending, named, unless_over, behind_event, behind_put, channels_found}
+use Rattle.router_trace.specs.Following.{first_delivery}
+use Rattle.router_trace.specs.Numbers.{first_below, or_other, if_passes}
+use Rattle.router_trace.proofs.Numbers.{not_true, none_below, count_is}
+use Rattle.state_deliveries.specs.Finding.{IsFirst, count_deliveries}
+
+-- the first below a bound
+one_below : (bound n : ℕ) (passes : ℕ → Bool) → n < bound → passes n ≡ true → ((m : ℕ) → m < n → passes m ≡ false) → first_below bound passes ≡ Some n
+unfolding first_below
+one_below zero n passes l p none = absurd (omega (arith, l))
+one_below (suc b) n passes l p none = by_test (n == b) refl (λ k. one_below b n passes k p none)
+  where
+    by_test : (t : Bool) → (n == b) ≡ t → (n < b → first_below b passes ≡ Some n) → or_other (first_below b passes) (if_passes (passes b) b) ≡ Some n
+    by_test true e below =
+        let is : n ≡ b = eqb-true n b e in
+        ap (λ v. or_other v (if_passes (passes b) b)) (none_below b passes (λ m k. none m (omega (arith, k, is))))
+        ∙ ap (λ t. if_passes t b) (ap passes (sym is) ∙ p) ∙ ap Some (sym is)
+    by_test false e below = ap (λ v. or_other v (if_passes (passes b) b)) (below (less n b l e))
+      where
+        less : (n b : ℕ) → n < suc b → (n == b) ≡ false → n < b
+        less n b l e = grind (arith, nat_tests)
+
+-- The first of all numbers that pass is the first below any bound on them.
+pub first_is : (bound : ℕ) (passes : ℕ → Bool) → ((n : ℕ) → passes n ≡ true → n < bound) → (r : Option ℕ) → IsFirst passes r → r ≡ first_below bound passes
+first_is bound passes low None x = sym (none_below bound passes (λ n l. x n))
+first_is bound passes low (Some n) x =
+    sym (one_below bound n passes (low n x.0) x.0 (λ m l. not_true (passes m) (λ e. let le : n ≤ m = x.1 m e in absurd (omega (arith, le, l)))))
+
+-- Only binding numbers have deliveries: from 1 to the number of bindings.
+abbrev none_is : (f : Delivery → Option Delivery) (v : Option Delivery) → v ≡ None → option_and_then f v ≡ None
+none_is f v e = ap (option_and_then f) e
+
+fresh : (new : Bool) (v w : Option Delivery) → new ≡ false → w ≡ None → (if new then v else w) ≡ None
+fresh true v w e f = absurd cc
+fresh false v w e f = f
+
+pub none_beyond : (t : Trace) (n : ℕ) → bindings t < n → delivery t n ≡ None
+none_beyond [] n l = refl
+none_beyond (Did s ∷ t) n l = none_is (λ d. unless_over (behind_event s.event (channels_found t) (named t) n d)) (delivery t n) (none_beyond t n l)
+none_beyond (Out c i ∷ t) n l = none_is (λ d. unless_over (behind_put (number_named t) i c n (sending t c) d)) (delivery t n) (none_beyond t n l)
+none_beyond (Took c k ∷ t) n l = none_beyond t n l
+none_beyond (Began g ∷ t) n l = none_beyond t n l
+none_beyond (Booked acts full ∷ t) n l = none_beyond t n l
+none_beyond (Bound b ∷ t) n l = fresh (bindings t + 1 == n) (Some (fresh_delivery (name_in t b) b)) (unless_called (name_in t b) (delivery t n)) (apart (bindings t) n l) (ap (unless_called (name_in t b)) (none_beyond t n (omega (arith, l))))
+  where
+    apart : (k n : ℕ) → k + 1 < n → (k + 1 == n) ≡ false
+    apart k n l = grind (arith, nat_tests)
+
+pub none_before : (t : Trace) → delivery t 0 ≡ None
+none_before [] = refl
+none_before (Did s ∷ t) = none_is (λ d. unless_over (behind_event s.event (channels_found t) (named t) 0 d)) (delivery t 0) (none_before t)
+none_before (Out c i ∷ t) = none_is (λ d. unless_over (behind_put (number_named t) i c 0 (sending t c) d)) (delivery t 0) (none_before t)
+none_before (Took c k ∷ t) = none_before t
+none_before (Began g ∷ t) = none_before t
+none_before (Booked acts full ∷ t) = none_before t
+none_before (Bound b ∷ t) = fresh (bindings t + 1 == 0) (Some (fresh_delivery (name_in t b) b)) (unless_called (name_in t b) (delivery t 0)) (apart (bindings t)) (ap (unless_called (name_in t b)) (none_before t))
+  where
+    apart : (k : ℕ) → (k + 1 == 0) ≡ false
+    apart k = grind (arith, nat_tests)
+
+-- so a number that passes is among them
+pub stands_below : (t : Trace) (passes : Option Delivery → Bool) → passes None ≡ false → (n : ℕ) → passes (delivery t n) ≡ true → n < bindings t + 1
+stands_below t passes none n e = by_test (nat_lt (bindings t) n) refl
+  where
+    not_less : (k n : ℕ) → nat_lt k n ≡ false → n < k + 1
+    not_less k n f = grind arith
+
+    by_test : (b : Bool) → nat_lt (bindings t) n ≡ b → n < bindings t + 1
+    by_test true f =
+        let wrong : true ≡ false = sym e ∙ ap passes (none_beyond t n (ltb-true (bindings t) n f)) ∙ none in
+        absurd cc
+    by_test false f = not_less (bindings t) n f
+
+pub first_delivery_is : (t : Trace) (passes : Option Delivery → Bool) → passes None ≡ false → (r : Option ℕ) → IsFirst (λ n. passes (delivery t n)) r → r ≡ first_delivery t passes
+first_delivery_is t passes none r x = first_is (bindings t + 1) (λ n. passes (delivery t n)) (stands_below t passes none) r x
+
+pub count_deliveries_is : (t : Trace) (passes : Option Delivery → Bool) → passes None ≡ false → (k : ℕ) → IsCount (λ n. passes (delivery t n)) k → k ≡ count_deliveries t passes
+count_deliveries_is t passes none k x = count_is (bindings t + 1) (λ n. passes (delivery t n)) (stands_below t passes none) k x

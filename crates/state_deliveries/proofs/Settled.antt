@@ -1,0 +1,145 @@
+-- A delivery that was changed in its place, and removed if it is over.
+use Rattle.std.proofs.Common.{◌≡◌, ◌∙◌, ℕ, Bool, true, false, refl, sym, ap, subst, Option, Some, None}
+use Rattle.std.specs.Prelude.{◌==◌, ◌&&◌, if◌then◌else◌}
+use Rattle.std.specs.Option.{option_map, option_and_then}
+use Rattle.state_collections.specs.Slots.{in_slots}
+use Rattle.std.proofs.lemmas.Bool.{eqb-true}
+use Rattle.router_trace.specs.declared.binding.DeliveryName.{DeliveryName}
+use Rattle.router_trace.specs.Deliveries.{Delivery, unless_over, is_over, same_name, is_number}
+use Rattle.state_deliveries.specs.declared.by_name.ByName.{ByName}
+use Rattle.state_deliveries.specs.declared.index.Index.{Index}
+use Rattle.state_deliveries.specs.declared.index.Keys.{Keys}
+use Rattle.state_deliveries.specs.declared.index.Moved.{Moved}
+use Rattle.state_deliveries.specs.declared.store.Store.{Store}
+use Rattle.state_deliveries.specs.Calling.{at_name, is_called}
+use Rattle.state_deliveries.specs.Fits.{Indexed}
+use Rattle.state_deliveries.specs.Indexing.{Indexes, keys, moved, standing}
+use Rattle.state_deliveries.specs.Touching.{is_touched_in, StandsSame, StoreTouches}
+use Rattle.state_deliveries.proofs.Called.{called_at}
+use Rattle.state_deliveries.proofs.Reindexed.{indexes_same, put_at}
+use Rattle.state_deliveries.proofs.Touching.{touches_at}
+
+abbrev pub step : (Delivery → Delivery) → Option Delivery → Option Delivery
+step f v = option_and_then (λ d. unless_over (f d)) v
+
+-- what is known of a delivery that may be there
+abbrev pub found_of : (Delivery → Delivery) → Option Delivery → Option Moved
+found_of f v = option_map (λ d. moved (keys d) (f d)) v
+
+-- what a change of one delivery leaves
+pub record Stepped (old new : Store) : Type 0 where
+  pub indexed : Indexed old → Indexed new
+  pub touches : StoreTouches old new
+
+-- there was one
+pub found_there : (f : Delivery → Delivery) (v : Option Delivery) (x : Moved) → Some x ≡ found_of f v → (d : Delivery) × (v ≡ Some d) × (x ≡ moved (keys d) (f d))
+found_there f None x e = absurd cc
+found_there f (Some d) x e = (d, refl, inside x (moved (keys d) (f d)) e)
+  where
+    of : Option Moved → Moved
+    of None = x
+    of (Some y) = y
+
+    inside : (y z : Moved) → Some y ≡ Some z → y ≡ z
+    inside y z g = ap of g
+
+one_step : (f : Delivery → Delivery) (m n : ℕ) (d : Delivery) (x : Moved) (old : ℕ → Option Delivery) (mid new : Option Delivery) → old m ≡ Some d → x ≡ moved (keys d) (f d)
+    → mid ≡ (if m == n then option_map f (old n) else old n)
+    → new ≡ (if x.over then (if m == n then None else mid) else mid)
+    → new ≡ (if m == n then step f (old n) else old n)
+one_step f m n d x old mid new was is changed gone = gone ∙ by_test (m == n) refl
+  where
+    either : (b : Bool) (v : Option Delivery) → (if b then v else v) ≡ v
+    either true v = refl
+    either false v = refl
+
+    by_test : (b : Bool) → (m == n) ≡ b → (if x.over then (if m == n then None else mid) else mid) ≡ (if b then step f (old n) else old n)
+    by_test true e =
+        let there : old n ≡ Some d = ap old (sym (eqb-true m n e)) ∙ was in
+        let now : mid ≡ Some (f d) = changed ∙ ap (λ b. if b then option_map f (old n) else old n) e ∙ ap (option_map f) there in
+        ap (λ (y : Moved). if y.over then (if m == n then None else mid) else mid) is
+        ∙ ap (λ b. if is_over (f d) then (if b then None else mid) else mid) e
+        ∙ ap (λ v. if is_over (f d) then None else v) now
+        ∙ sym (ap (step f) there)
+    by_test false e =
+        ap (λ b. if x.over then (if b then None else mid) else mid) e ∙ either x.over mid ∙ changed ∙ ap (λ b. if b then option_map f (old n) else old n) e
+
+pub one_stepped : (f : Delivery → Delivery) (m : ℕ) (x : Moved) (old new : Store) (mid : ℕ → Option Delivery) → ((d : Delivery) → (f d).name ≡ d.name)
+    → Some x ≡ found_of f (in_slots old.deliveries m)
+    → ((n : ℕ) → mid n ≡ (if m == n then option_map f (in_slots old.deliveries n) else in_slots old.deliveries n))
+    → ((n : ℕ) → in_slots new.deliveries n ≡ (if x.over then (if m == n then None else mid n) else mid n))
+    → ((known : ℕ → Keys) → known m ≡ x.before → Indexes old.index known → Indexes new.index (λ n. if m == n then x.after else known n))
+    → ((name : DeliveryName) → at_name new.by_name name ≡ (if x.over && same_name x.name name then None else at_name old.by_name name))
+    → ((k : ℕ) → is_touched_in new.touched k ≡ false → (is_touched_in old.touched k ≡ false) × StandsSame k x.before x.after)
+    → Stepped old new
+one_stepped f m x old new mid named found changed gone indexes called noted = record {
+  indexed = λ stood. record {
+    indexes = put_at new.index m (step f) (in_slots old.deliveries) (in_slots new.deliveries) steps
+        (subst (λ (a : Keys). Indexes new.index (λ n. if m == n then a else standing (in_slots old.deliveries n))) after
+        (indexes (λ n. standing (in_slots old.deliveries n)) (sym before) stood.indexes));
+    called = called_at old.by_name new.by_name m d (f d) (in_slots old.deliveries) (in_slots new.deliveries) (named d) was
+        (λ n. steps n ∙ here n (m == n) refl)
+        (λ name. called name ∙ ap (λ (y : Moved). if y.over && same_name y.name name then None else at_name old.by_name name) is)
+        stood.called;
+  };
+  touches = touches_at old new m (step f) x.before x.after before after steps noted;
+}
+  where
+    one : (d : Delivery) × (in_slots old.deliveries m ≡ Some d) × (x ≡ moved (keys d) (f d))
+    one = found_there f (in_slots old.deliveries m) x found
+
+    d : Delivery
+    d = one.0
+
+    was : in_slots old.deliveries m ≡ Some d
+    was = one.1
+
+    is : x ≡ moved (keys d) (f d)
+    is = one.2
+
+    before : x.before ≡ standing (in_slots old.deliveries m)
+    before = ap (λ (y : Moved). y.before) is ∙ sym (ap standing was)
+
+    after : x.after ≡ standing (step f (in_slots old.deliveries m))
+    after = ap (λ (y : Moved). y.after) is ∙ sym (ap (λ v. standing (step f v)) was)
+
+    steps : (n : ℕ) → in_slots new.deliveries n ≡ (if m == n then step f (in_slots old.deliveries n) else in_slots old.deliveries n)
+    steps n = one_step f m n d x (in_slots old.deliveries) (mid n) (in_slots new.deliveries n) was is (changed n) (gone n)
+
+    here : (n : ℕ) (b : Bool) → (m == n) ≡ b → (if b then step f (in_slots old.deliveries n) else in_slots old.deliveries n)
+        ≡ (if b then unless_over (f d) else in_slots old.deliveries n)
+    here n true e = ap (step f) (ap (in_slots old.deliveries) (sym (eqb-true m n e)) ∙ was)
+    here n false e = refl
+
+-- nothing was found to change
+pub unfound : (f : Delivery → Delivery) (m : ℕ) (s u : Store) (found : Option Moved) → found ≡ found_of f (in_slots s.deliveries m) → ((x : Moved) → found ≡ Some x → ⊥)
+    → ((n : ℕ) → in_slots u.deliveries n ≡ (if m == n then option_map f (in_slots s.deliveries n) else in_slots s.deliveries n))
+    → u.index ≡ s.index → u.by_name ≡ s.by_name → Indexed s → Indexed u
+unfound f m s u found is none at index by_name x = record {
+  indexes = subst (λ (i : Index). Indexes i (λ n. standing (in_slots u.deliveries n))) (sym index)
+      (indexes_same s.index (λ n. standing (in_slots s.deliveries n)) (λ n. standing (in_slots u.deliveries n)) (λ n. ap standing (sym (same n))) x.indexes);
+  called = λ name n. ap (λ (b : ByName). is_number (at_name b name) n) by_name ∙ x.called name n ∙ ap (is_called name) (sym (same n));
+}
+  where
+    nowhere : (v : Option Delivery) → found ≡ found_of f v → v ≡ None
+    nowhere None e = refl
+    nowhere (Some d) e = absurd (none (moved (keys d) (f d)) e)
+
+    mapped : (v : Option Delivery) → v ≡ None → option_map f v ≡ v
+    mapped v e = ap (option_map f) e ∙ sym e
+
+    same : (n : ℕ) → in_slots u.deliveries n ≡ in_slots s.deliveries n
+    same n = by_test (m == n) refl
+      where
+        by_test : (b : Bool) → (m == n) ≡ b → in_slots u.deliveries n ≡ in_slots s.deliveries n
+        by_test true e =
+            at n ∙ ap (λ b. if b then option_map f (in_slots s.deliveries n) else in_slots s.deliveries n) e
+            ∙ mapped (in_slots s.deliveries n) (ap (in_slots s.deliveries) (sym (eqb-true m n e)) ∙ nowhere (in_slots s.deliveries m) is)
+        by_test false e = at n ∙ ap (λ b. if b then option_map f (in_slots s.deliveries n) else in_slots s.deliveries n) e
+
+-- whether there was one, told by a Boolean
+pub one_there : (b : Bool) (x : Moved) (r : Option Moved) → b ≡ true → (if b then Some x else None) ≡ r → Some x ≡ r
+one_there b x r is e = sym (ap (λ c. if c then Some x else None) is) ∙ e
+
+pub none_there : (b : Bool) (x : Moved) (r : Option Moved) → b ≡ false → (if b then Some x else None) ≡ r → None ≡ r
+none_there b x r is e = sym (ap (λ c. if c then Some x else None) is) ∙ e

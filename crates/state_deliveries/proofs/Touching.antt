@@ -1,0 +1,60 @@
+-- What is touched after changes of a store.
+use Rattle.std.proofs.Common.{◌≡◌, ◌∙◌, ℕ, Bool, true, false, refl, sym, ap, subst, Option}
+use Rattle.std.specs.Prelude.{◌==◌, if◌then◌else◌}
+use Rattle.state_collections.specs.Slots.{in_slots}
+use Rattle.std.proofs.lemmas.Bool.{eqb-true}
+use Rattle.router_trace.specs.Deliveries.{Delivery, waits_on, undecided_on, held_from}
+use Rattle.state_deliveries.specs.declared.index.Keys.{Keys}
+use Rattle.state_deliveries.specs.declared.store.Store.{Store}
+use Rattle.state_deliveries.specs.Indexing.{standing}
+use Rattle.state_deliveries.specs.Touching.{is_touched_in, IsSameOn, StandsSame, StoreTouches}
+use Rattle.state_deliveries.proofs.Found.{waits_is, undecided_is, held_is}
+
+pub same_on : (k : ℕ) (v w : Option Delivery) → v ≡ w → IsSameOn k v w
+same_on k v w e = record { waits = ap (waits_on k) e; undecided = ap (undecided_on k) e; held = ap (held_from k) e }
+
+-- the same by its entries
+on_standing : (k : ℕ) (v w : Option Delivery) → StandsSame k (standing v) (standing w) → IsSameOn k v w
+on_standing k v w x = record {
+  waits = sym (waits_is k v) ∙ x.waiting ∙ waits_is k w;
+  undecided = sym (undecided_is k v) ∙ x.undecided ∙ undecided_is k w;
+  held = sym (held_is k v) ∙ x.held ∙ held_is k w;
+}
+
+-- nothing done, and one change after the other
+pub touches_nothing : (old new : Store) → new.touched ≡ old.touched → ((n : ℕ) → in_slots new.deliveries n ≡ in_slots old.deliveries n) → StoreTouches old new
+touches_nothing old new e same = record {
+  before = λ k f. ap (λ s. is_touched_in s k) (sym e) ∙ f;
+  same = λ k n f. same_on k (in_slots old.deliveries n) (in_slots new.deliveries n) (sym (same n));
+}
+
+pub touches_self : (s : Store) → StoreTouches s s
+touches_self s = touches_nothing s s refl (λ n. refl)
+
+pub touches_then : (old middle new : Store) → StoreTouches old middle → StoreTouches middle new → StoreTouches old new
+touches_then old middle new x y = record {
+  before = λ k f. x.before k (y.before k f);
+  same = λ k n f. let a = x.same k n (y.before k f) in let b = y.same k n f in record { waits = a.waits ∙ b.waits; undecided = a.undecided ∙ b.undecided; held = a.held ∙ b.held };
+}
+
+-- one delivery was changed in its place, added or removed
+pub touches_at : (old new : Store) (m : ℕ) (g : Option Delivery → Option Delivery) (stood stands : Keys)
+    → stood ≡ standing (in_slots old.deliveries m) → stands ≡ standing (g (in_slots old.deliveries m))
+    → ((n : ℕ) → in_slots new.deliveries n ≡ (if m == n then g (in_slots old.deliveries n) else in_slots old.deliveries n))
+    → ((k : ℕ) → is_touched_in new.touched k ≡ false → (is_touched_in old.touched k ≡ false) × StandsSame k stood stands)
+    → StoreTouches old new
+touches_at old new m g stood stands was is at noted = record {
+  before = λ k f. (noted k f).0;
+  same = λ k n f. by_test k n (m == n) refl (noted k f).1;
+}
+  where
+    by_test : (k n : ℕ) (b : Bool) → (m == n) ≡ b → StandsSame k stood stands → IsSameOn k (in_slots old.deliveries n) (in_slots new.deliveries n)
+    by_test k n true e x =
+        let here : in_slots old.deliveries m ≡ in_slots old.deliveries n = ap (in_slots old.deliveries) (eqb-true m n e) in
+        let now : in_slots new.deliveries n ≡ g (in_slots old.deliveries n) = at n ∙ ap (λ b. if b then g (in_slots old.deliveries n) else in_slots old.deliveries n) e in
+        let first : StandsSame k (standing (in_slots old.deliveries n)) stands = subst (λ (a : Keys). StandsSame k a stands) (was ∙ ap standing here) x in
+        let both : StandsSame k (standing (in_slots old.deliveries n)) (standing (in_slots new.deliveries n)) =
+        subst (λ (a : Keys). StandsSame k (standing (in_slots old.deliveries n)) a) (is ∙ ap (λ v. standing (g v)) here ∙ ap standing (sym now)) first in
+        on_standing k (in_slots old.deliveries n) (in_slots new.deliveries n) both
+    by_test k n false e x = same_on k (in_slots old.deliveries n) (in_slots new.deliveries n)
+        (sym (at n ∙ ap (λ b. if b then g (in_slots old.deliveries n) else in_slots old.deliveries n) e))

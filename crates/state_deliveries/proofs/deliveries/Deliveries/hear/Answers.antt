@@ -1,0 +1,36 @@
+use Rattle.std.proofs.Common.{◌∷◌, ◌∙◌, ap, sym, subst}
+use Rattle.router_trace.specs.Trace.{did}
+use Rattle.router_trace.specs.Deliveries.{named, sending, delivery}
+use Rattle.router_trace.specs.declared.event.Event.TheVariants as event
+use Rattle.state_deliveries.specs.Fits.{StoreFit}
+use Rattle.state_deliveries.specs.Hearing.{heard_by}
+use Rattle.state_collections.specs.Places.{at}
+use Rattle.state_collections.specs.Ids.{at_id}
+use Rattle.state_deliveries.specs.Stepping.{IsKept}
+use Rattle.state_deliveries.proofs.Puts.{kept}
+use Rattle.state_deliveries.proofs.Low.{low_named, low_sending}
+use Rattle.state_deliveries.proofs.Known.{still_known}
+use Rattle.state_deliveries.proofs.Named.{still}
+use Rattle.state_deliveries.proofs.Heard.{heard_follows}
+use Rattle.state_deliveries.proofs.deliveries.Deliveries.hear.Goals as goal
+
+pub returns-clause-fits : goal.returns-clause-fits
+returns-clause-fits c = λ t channel fit.
+    let known = at_id c.args.self.now.names.ids in
+    let hears = did (event.Item c.args.conn c.args.item.now) in
+    let store : StoreFit c.hear.new.store (hears ∷ t) = record {
+      deliveries = λ n.
+          c.in_ok-hear.ensures.deliveries (λ m. subst IsKept (sym (fit.store.deliveries m)) (kept t m)) fit.store.indexed fit.names.small n
+          ∙ ap (heard_by c.in_ok-change.change known n) (fit.store.deliveries n)
+          ∙ ap (λ x. heard_by x known n (delivery t n)) c.in_ok-change.ensures
+          ∙ heard_follows c.args.conn c.args.item.now t n c.args.own known channel (λ o id. fit.names.names c.args.conn.0 o id);
+      indexed = c.in_ok-hear.ensures.indexed fit.store.indexed;
+    } in
+    record {
+      bindings = fit.bindings;
+      counters = fit.counters;
+      store = store;
+      sending = record { numbers = λ d o h. still_known hears t (at c.args.self.now.sending.numbers d o h) (sending t d o h) (low_sending t d o h) (fit.sending.numbers d o h) };
+      next_ids = record { ids = λ d o. fit.next_ids.ids d o };
+      names = c.in_ok-settle_heard.ensures (hears ∷ t) store.deliveries (record { names = λ d o id. still hears t (known d o id) (named t d o id) (low_named t d o id) (fit.names.names d o id); small = fit.names.small });
+    }

@@ -1,0 +1,290 @@
+//! The table of deliveries.
+ghost use Rattle.std.specs.Prelude.{◌≡◌, ◌==◌, ◌&&◌, ◌∷◌, List, ℕ, OnOk, IfOk, false, if◌then◌else◌};
+ghost use Rattle.std.specs.Option.{option_map, is_none, is_some};
+ghost use Rattle.state_collections.specs.Slots.{in_slots};
+ghost use Rattle.router_trace.specs.Trace.{Beginning};
+ghost use Rattle.router_trace.specs.Configuration.{beginning};
+ghost use Rattle.router_trace.specs.Trace.{Entry, Out, Bound, did};
+ghost use Rattle.router_trace.specs.declared.event.Event.TheVariants as event;
+ghost use Rattle.router_trace.specs.Deliveries.{delivery, channels_found, name_of, next_id, sending, named, waits_on, undecided_on, held_from, is_to_tell};
+ghost use Rattle.router_trace.specs.Sessions.{maps, is_channel};
+ghost use Rattle.router_trace.specs.Following.{first_delivery, is_unsent_on, is_used};
+ghost use Rattle.router_trace.specs.Settling.{open_ids};
+ghost use Rattle.state_deliveries.specs.Calling.{Knows};
+ghost use Rattle.state_deliveries.specs.Deciding.{decided_rows, rows_from};
+ghost use Rattle.router_trace.specs.Counting.{IsCount};
+ghost use Rattle.state_deliveries.specs.Finding.{IsFirst, count_deliveries, is_above};
+ghost use Rattle.state_deliveries.specs.Naming.{Remembers};
+ghost use Rattle.router_trace.specs.Channels.{channel_of};
+ghost use Rattle.state_deliveries.specs.Fits.{DeliveriesFit, AreSending};
+ghost use Rattle.state_deliveries.specs.Touching.{is_touched, Touches};
+
+use crate::change::{Change, behind_heard};
+use crate::deciding::{decided_rows, rows_from};
+use crate::delivery::Delivery;
+use crate::hearing::hear;
+use crate::names::Names;
+use crate::next_ids::NextIds;
+use crate::sending::Sending;
+use crate::store::Store;
+use amqp_model::Item;
+use book_model::{Decision, RowNumber};
+use router_trace::{Binding, ConnectionId, DeliveryName};
+use std::alloc::{AllocError, Global};
+
+/// The deliveries that the router passes on. After an error the table's contents are unspecified.
+#[derive(Drop)]
+pub struct Deliveries {
+    alloc: Global,
+    // how many messages were bound, and how many of them have no row
+    bindings: u64,
+    counters: u64,
+    store: Store,
+    sending: Sending,
+    names: Names,
+    next_ids: NextIds,
+}
+
+impl Deliveries {
+    /// An empty table.
+    pub fn new(alloc: Global) -> Deliveries
+        ensures { (g : Beginning) → DeliveriesFit result (beginning g) }
+    {
+        Deliveries {
+            alloc,
+            bindings: 0,
+            counters: 0,
+            store: Store::new(alloc),
+            sending: Sending::new(alloc),
+            names: Names::new(alloc),
+            next_ids: NextIds::new(alloc),
+        }
+    }
+
+    /// The delivery with a number; none before it is bound, and once it is over.
+    pub fn delivery(&self, number: u64) -> Option<&Delivery>
+        ensures { (t : List Entry) → DeliveriesFit self.now t → option_map (λ d. d.now) result ≡ delivery t number }
+    {
+        self.store.get(number)
+    }
+
+    /// The next delivery-id that the router gives on a session: 0 after its begin, then one more than the last that it gave.
+    pub fn next_id(&self, conn: u64, own: u16) -> u32
+        ensures { (t : List Entry) → DeliveriesFit self.now t → result ≡ next_id t conn own }
+    {
+        self.next_ids.get(conn, own)
+    }
+
+    /// The delivery of which more frames remain to be sent on a handle of the router; it may be missing if the delivery is gone.
+    pub fn sending(&self, conn: u64, own: u16, handle: u32) -> Option<u64>
+        ensures { (t : List Entry) → DeliveriesFit self.now t → Knows (delivery t) result (sending t conn own handle) }
+    {
+        self.sending.on(conn, own, handle)
+    }
+
+    /// How many deliveries wait to start on the link with this number.
+    pub fn waiting(&self, link: u64) -> usize
+        ensures found { (t : List Entry) → DeliveriesFit self.now t → IsCount (λ n. waits_on link (delivery t n)) result }
+        ensures count { (t : List Entry) → DeliveriesFit self.now t → result ≡ count_deliveries t (waits_on link) }
+    {
+        self.store.waiting(link)
+    }
+
+    /// Whether frames of any delivery remain to be sent on the link with this number.
+    pub fn has_unsent(&self, link: u64) -> bool
+        ensures { (t : List Entry) → DeliveriesFit self.now t → result ≡ is_some (first_delivery t (is_unsent_on link)) }
+    {
+        self.store.first_unsent(link).is_some()
+    }
+
+    /// The first delivery, above a number or of all, of which frames remain to be sent on the link with this number.
+    pub fn unsent_behind(&self, link: u64, number: Option<u64>) -> Option<u64>
+        ensures { (t : List Entry) → DeliveriesFit self.now t → IsFirst (λ n. is_above number n && is_unsent_on link (delivery t n)) result }
+    {
+        self.store.unsent_behind(link, number.unwrap_or(0))
+    }
+
+    /// The lowest number of a link, above this one or of all, on which frames of a delivery remain to be sent.
+    pub fn unsent_link_behind(&self, link: Option<u64>) -> Option<u64>
+        ensures { (t : List Entry) → DeliveriesFit self.now t → IsFirst (λ k. is_above link k && is_some (first_delivery t (is_unsent_on k))) result }
+    {
+        self.store.unsent_link_behind(link)
+    }
+
+    /// The lowest number of a link whose waiting, undecided or held deliveries may have changed since it was last forgotten.
+    pub fn touched(&self) -> Option<u64>
+        ensures { IsFirst (is_touched self.now) result }
+    {
+        self.store.touched()
+    }
+
+    /// Forgets that the deliveries of the link with this number may have changed.
+    pub fn forget_touched(&mut self, link: u64)
+        ensures fits { (t : List Entry) → DeliveriesFit self.old t → DeliveriesFit self.new t }
+        ensures touched { (k : ℕ) → is_touched self.new k ≡ (if link == k then false else is_touched self.old k) }
+        ensures deliveries { (n : ℕ) → in_slots self.new.store.deliveries n ≡ in_slots self.old.store.deliveries n }
+    {
+        self.store.forget_touched(link);
+    }
+
+    /// How many deliveries are undecided on the consumer's link with this number.
+    pub fn undecided(&self, link: u64) -> usize
+        ensures found { (t : List Entry) → DeliveriesFit self.now t → IsCount (λ n. undecided_on link (delivery t n)) result }
+        ensures count { (t : List Entry) → DeliveriesFit self.now t → result ≡ count_deliveries t (undecided_on link) }
+    {
+        self.store.undecided(link)
+    }
+
+    /// How many deliveries are held, undecided, from the producer's link with this number.
+    pub fn held(&self, link: u64) -> usize
+        ensures found { (t : List Entry) → DeliveriesFit self.now t → IsCount (λ n. held_from link (delivery t n)) result }
+        ensures count { (t : List Entry) → DeliveriesFit self.now t → result ≡ count_deliveries t (held_from link) }
+    {
+        self.store.held(link)
+    }
+
+    /// The lowest number of a delivery, above this one or of all, whose outcome must be reported to its producer.
+    pub fn to_tell_behind(&self, number: Option<u64>) -> Option<u64>
+        ensures { (t : List Entry) → DeliveriesFit self.now t → IsFirst (λ n. is_above number n && is_to_tell (delivery t n)) result }
+    {
+        self.store.to_tell_behind(number)
+    }
+
+    /// The number of the delivery that an id of a router's session names; it may be missing if the delivery isn't undecided.
+    pub fn named(&self, conn: u64, own: u16, id: u32) -> Option<u64>
+        ensures { (t : List Entry) → DeliveriesFit self.now t → Remembers t result (named t conn own id) }
+    {
+        self.names.get(conn, own, id)
+    }
+
+    /// Whether an id of a router's session names an undecided delivery.
+    pub fn is_used(&self, conn: u64, own: u16, id: u32) -> bool
+        ensures { (t : List Entry) → DeliveriesFit self.now t → result ≡ is_used t (named t conn own id) }
+    {
+        self.names.is_used(&self.store, conn, own, id)
+    }
+
+    /// The ids in a disposition's range that name undecided deliveries of a router's session, in the range's order. It looks only at
+    /// deliveries that exist, never at each id of the range.
+    pub fn open_ids(
+        &self,
+        conn: u64,
+        own: u16,
+        first: u32,
+        last: u32,
+    ) -> Result<Vec<u32>, AllocError>
+        ensures { IfOk result (λ ids. (t : List Entry) → DeliveriesFit self.now t → ids.items ≡ open_ids t conn own first last) }
+    {
+        Ok(self.names.open_ids(&self.store, conn, own, first, last)?)
+    }
+
+    /// The numbers of the deliveries of which more frames remain to be sent on a router's session, in order of the handles; those that are gone may
+    /// be missing.
+    pub fn sending_on(&self, conn: u64, own: u16) -> Result<Vec<u64>, AllocError>
+        ensures { IfOk result (λ numbers. (t : List Entry) → DeliveriesFit self.now t → AreSending t conn own numbers.items) }
+    {
+        Ok(self.sending.all_on(self.alloc, conn, own)?)
+    }
+
+    /// The rows that these changes would decide, one after another, each with its outcome, in order of the deliveries' numbers.
+    pub fn decided_rows(&self, changes: &[Change]) -> Result<Vec<Decision>, AllocError>
+        ensures { IfOk result (λ rows. (t : List Entry) → DeliveriesFit self.now t → rows.items ≡ decided_rows t changes.now) }
+    {
+        Ok(decided_rows(&self.store, self.alloc, changes)?)
+    }
+
+    /// The rows of the deliveries to which a producer gave an id in this range, on a session, in order of the deliveries' numbers.
+    pub fn rows_from(
+        &self,
+        conn: u64,
+        own: u16,
+        first: u32,
+        last: u32,
+    ) -> Result<Vec<RowNumber>, AllocError>
+        ensures { IfOk result (λ rows. (t : List Entry) → DeliveriesFit self.now t → rows.items ≡ rows_from t conn own first last) }
+    {
+        Ok(rows_from(&self.store, self.alloc, conn, own, first, last)?)
+    }
+
+    /// Binds a message to a consumer's link. Fails if memory is refused, and if no binding number is left.
+    pub fn bind(&mut self, binding: Binding) -> Result<(), AllocError>
+        ensures fits { OnOk result ((t : List Entry) → DeliveriesFit self.old t → DeliveriesFit self.new (Bound binding ∷ t)) }
+        ensures touches { OnOk result (Touches self.old self.new) }
+    {
+        let Some(number) = self.bindings.checked_add(1) else {
+            return Err(AllocError);
+        };
+        let Some(counter) = self.counters.checked_add(1) else {
+            return Err(AllocError);
+        };
+        self.counters = counted(binding.row, self.counters, counter);
+        self.store
+            .bind(number, name_of(binding.row, counter), binding)?;
+        self.bindings = number;
+        Ok(())
+    }
+
+    /// A connection is lost.
+    pub fn down(&mut self, conn: ConnectionId) -> Result<(), AllocError>
+        ensures fits { OnOk result ((t : List Entry) → DeliveriesFit self.old t → DeliveriesFit self.new (did (event.Down conn) ∷ t)) }
+        ensures touches { OnOk result (Touches self.old self.new) }
+    {
+        self.store.down(conn)?;
+        self.sending.down(conn);
+        self.names.down(conn);
+        self.next_ids.down(conn);
+        Ok(())
+    }
+
+    /// An item was received on a connection; `own` is the router's channel of its session, if its channel has one and the event didn't
+    /// end the connection first.
+    pub fn hear(
+        &mut self,
+        conn: ConnectionId,
+        own: Option<u16>,
+        item: &Item,
+    ) -> Result<(), AllocError>
+        ensures fits { OnOk result ((t : List Entry) → ((o : ℕ) → is_channel own o ≡ maps (channels_found t conn.0 (channel_of item.now)) o)
+            → DeliveriesFit self.old t → DeliveriesFit self.new (did (event.Item conn item.now) ∷ t)) }
+        ensures touches { OnOk result (Touches self.old self.new) }
+    {
+        let change = behind_heard(conn.0, own, item)?;
+        hear(&mut self.store, &self.names, change)?;
+        self.names.settle_heard(&self.store, conn.0, own, item)?;
+        Ok(())
+    }
+
+    /// An item is put into the outbox of a connection. Fails if memory is refused, and if the sent bytes of a delivery overflow their
+    /// counter.
+    pub fn put(&mut self, conn: u64, item: &Item) -> Result<(), AllocError>
+        ensures fits { OnOk result ((t : List Entry) → DeliveriesFit self.old t → DeliveriesFit self.new (Out conn item.now ∷ t)) }
+        ensures touches { OnOk result (Touches self.old self.new) }
+    {
+        let number = self.sending.carried_by(conn, item, &self.store.by_name);
+        let ids = self.store.detached_ids(conn, item)?;
+        self.store.put(conn, item, number)?;
+        self.names.put(conn, item, &self.store)?;
+        self.names
+            .settle_put(&self.store, conn, item, ids.as_slice())?;
+        self.sending.put(conn, item, &self.store.by_name)?;
+        self.next_ids.put(conn, item)?;
+        Ok(())
+    }
+}
+
+/// The name of a delivery: its row's number, or this counter.
+fn name_of(row: Option<RowNumber>, counter: u64) -> DeliveryName
+    ensures { result ≡ name_of row counter }
+{
+    match row {
+        None => DeliveryName::Counter(counter),
+        Some(row) => DeliveryName::Row(row),
+    }
+}
+
+/// How many messages without a row were bound: `next`, if this one has none.
+fn counted(row: Option<RowNumber>, before: u64, next: u64) -> u64
+    ensures { result ≡ (if is_none row then next else before) }
+{
+    if row.is_none() { next } else { before }
+}

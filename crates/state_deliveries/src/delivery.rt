@@ -1,0 +1,318 @@
+//! Deliveries as the table keeps them.
+ghost use Rattle.std.specs.Prelude.{◌≡◌, ◌&&◌, OnOk, Some, if◌then◌else◌};
+ghost use Rattle.router_trace.specs.Settling.{is_open_as};
+ghost use Rattle.router_trace.specs.Deliveries.{bound, source, sender, holder, is_over, is_undecided, behind_frame, untold, unsettled, forsaken, ended, behind_ends};
+ghost use Rattle.state_deliveries.specs.Deciding.{bare, changed_by};
+ghost use Rattle.state_deliveries.specs.Stepping.{is_gone, is_decided_by, comes_with_id, changed};
+
+use crate::change::{Change, Gone, comes_with_id, is_in};
+use crate::state::failed;
+use amqp_model::{DeliveryState, Transfer, copy_state};
+use bytes::Bytes;
+use router_trace::{Attachment, Binding, DeliveryName, Origin};
+use std::alloc::AllocError;
+use std::marker::Model;
+
+/// A message bound to one consumer link (AMQP 1.0 part 2, section 2.6.12).
+#[derive(Drop)]
+pub struct Delivery {
+    /// Its name, from which its tag is made.
+    pub name: DeliveryName,
+    /// The consumer's link.
+    pub link: Attachment,
+    /// The producer's delivery, to which the outcome is reported; none if no report is due to it any more.
+    pub origin: Option<Origin>,
+    /// Whether its producer had settled it before it was bound.
+    pub presettled: bool,
+    /// The message format.
+    pub format: u32,
+    /// The message.
+    pub payload: Bytes,
+    /// Its delivery-id on the consumer's session, once it has started.
+    pub id: Option<u32>,
+    /// How many bytes of it were sent.
+    pub sent: u64,
+    /// Whether frames of it remain to be sent.
+    pub going_on: bool,
+    /// Its outcome, once decided.
+    pub outcome: Option<DeliveryState>,
+    /// The producer's delivery once its outcome was told, as long as the producer has yet to settle it.
+    pub told: Option<Origin>,
+    /// The producer's delivery, if that has a row and the producer settled it before it was decided.
+    pub early: Option<Origin>,
+    /// Whether it has a row and its consumer's link is durable.
+    pub lasting: bool,
+    /// Whether that link was suspended before it was decided.
+    pub suspended: bool,
+}
+
+impl Model for Delivery {
+    ghost use Rattle.router_trace.specs.Deliveries.{Delivery as View};
+
+    ghost Value = { View };
+
+    ghost view = { λ d. record {
+      name = d.name;
+      link = d.link;
+      origin = d.origin;
+      presettled = d.presettled;
+      format = d.format;
+      payload = d.payload;
+      id = d.id;
+      sent = d.sent;
+      going_on = d.going_on;
+      outcome = d.outcome;
+      told = d.told;
+      early = d.early;
+      lasting = d.lasting;
+      suspended = d.suspended;
+    } };
+}
+
+impl Delivery {
+    /// A message that was just bound, under a name.
+    pub(crate) fn bound(name: DeliveryName, binding: Binding) -> Delivery
+        ensures { result ≡ bound name binding }
+    {
+        Delivery {
+            name,
+            link: binding.consumer,
+            origin: binding.origin,
+            presettled: binding.origin.is_none(),
+            format: binding.format,
+            payload: binding.payload,
+            id: None,
+            sent: 0,
+            going_on: true,
+            outcome: None,
+            told: None,
+            early: None,
+            lasting: name.has_row() && binding.lasting,
+            suspended: false,
+        }
+    }
+
+    /// Whether it is decided or suspended, its producer needs no more of it, and no frame remains to be sent.
+    pub fn is_over(&self) -> bool
+        ensures { result ≡ is_over self.now }
+    {
+        !self.going_on && ((self.outcome.is_some() || self.suspended) && self.holder().is_none())
+    }
+
+    /// The producer's delivery, told or not.
+    pub(crate) fn source(&self) -> Option<Origin>
+        ensures { result ≡ source self.now }
+    {
+        match self.origin {
+            Some(origin) => Some(origin),
+            None => self.told,
+        }
+    }
+
+    /// The producer's delivery, settled by the producer or not.
+    pub(crate) fn sender(&self) -> Option<Origin>
+        ensures { result ≡ sender self.now }
+    {
+        match self.source() {
+            Some(origin) => Some(origin),
+            None => self.early,
+        }
+    }
+
+    /// The producer's delivery, as long as it counts for the producer's link: until the producer has settled it, and, if it has a row, until it
+    /// is decided too.
+    pub(crate) fn holder(&self) -> Option<Origin>
+        ensures { result ≡ holder self.now }
+    {
+        if self.outcome.is_none() {
+            self.sender()
+        } else {
+            self.source()
+        }
+    }
+
+    /// Whether its consumer has yet to decide it.
+    pub fn is_undecided(&self) -> bool
+        ensures { result ≡ is_undecided self.now }
+    {
+        self.outcome.is_none() && !(self.presettled || self.suspended)
+    }
+
+    /// Whether it is undecided and has this id on a router's session.
+    pub(crate) fn is_open_as(&self, conn: u64, own: u16, id: u32) -> bool
+        ensures { result ≡ is_open_as conn own id (Some self.now) }
+    {
+        self.is_undecided()
+            && ((self.link.conn.0 == conn && self.link.channel == own) && self.id == Some(id))
+    }
+
+    /// Notes a transfer that carries `count` bytes of it. Fails if its byte count overflows.
+    pub(crate) fn note_frame(&mut self, transfer: &Transfer, count: u64) -> Result<(), AllocError>
+        ensures { OnOk result (self.new ≡ behind_frame transfer.now count self.old) }
+    {
+        let Some(sent) = self.sent.checked_add(count) else {
+            return Err(AllocError);
+        };
+        if self.id.is_none() {
+            self.id = transfer.delivery_id;
+        }
+        self.sent = sent;
+        self.going_on = transfer.more;
+        if self.presettled && !transfer.more {
+            self.outcome = Some(DeliveryState::Accepted);
+        }
+        Ok(())
+    }
+
+    /// Its producer needs no more of it. If it has a row and isn't decided yet, it still counts for the producer's link.
+    pub(crate) fn untell(&mut self)
+        ensures { self.new ≡ untold self.old }
+    {
+        self.early = if self.outcome.is_none() && self.name.has_row() {
+            self.source()
+        } else {
+            None
+        };
+        self.origin = None;
+        self.told = None;
+    }
+
+    /// Its producer's link ends.
+    pub(crate) fn forsake(&mut self)
+        ensures { self.new ≡ forsaken self.old }
+    {
+        self.origin = None;
+        self.told = None;
+        self.early = None;
+    }
+
+    /// Its outcome was told, and its producer has yet to settle it.
+    fn tell(&mut self)
+        ensures { self.new ≡ unsettled self.old }
+    {
+        self.told = self.source();
+        self.origin = None;
+    }
+
+    /// Its link ends, closed for good or not.
+    pub(crate) fn end(&mut self, closed: bool)
+        ensures { self.new ≡ ended closed self.old }
+    {
+        if self.suspended {
+            return;
+        }
+        self.going_on = false;
+        if self.outcome.is_some() {
+            return;
+        }
+        if self.lasting && !closed {
+            self.suspended = true;
+        } else {
+            self.outcome = Some(failed());
+        }
+    }
+
+    /// Links end, closed for good or not, which may be its own or its producer's.
+    fn leave(&mut self, closed: bool, gone: Gone)
+        ensures { self.new ≡ behind_ends closed (is_gone gone) self.old }
+    {
+        if gone.has(self.link) {
+            self.end(closed);
+        }
+        if gone.has_origin(self.sender()) {
+            self.forsake();
+        }
+    }
+
+    /// Applies a change to it.
+    pub(crate) fn change(&mut self, change: &Change) -> Result<(), AllocError>
+        ensures { OnOk result (self.new ≡ changed change.now self.old) }
+    {
+        match change {
+            Change::Ends { gone, closed } => self.leave(*closed, *gone),
+            Change::Untold {
+                conn,
+                own,
+                first,
+                last,
+            } => self.untell_within(*conn, *own, *first, *last),
+            Change::Told {
+                conn,
+                own,
+                first,
+                last,
+            } => self.tell_within(*conn, *own, *first, *last),
+            Change::Decided {
+                conn,
+                own,
+                first,
+                last,
+                outcome,
+            } => {
+                if self.is_decided_by(*conn, *own, *first, *last) {
+                    self.outcome = Some(copy_state(outcome)?);
+                }
+            }
+        }
+        Ok(())
+    }
+
+    /// Applies changes to it, one after another.
+    pub(crate) fn change_by(&mut self, changes: &[Change]) -> Result<(), AllocError>
+        ensures { OnOk result (self.new ≡ changed_by changes.now self.old) }
+    {
+        for change in changes {
+            self.change(change)?;
+        }
+        Ok(())
+    }
+
+    /// A copy without the message and the outcome, which costs no memory.
+    pub(crate) fn bare(&self) -> Delivery
+        ensures { result ≡ bare self.now }
+    {
+        Delivery {
+            name: self.name,
+            link: self.link,
+            origin: self.origin,
+            presettled: self.presettled,
+            format: self.format,
+            payload: Bytes::new(),
+            id: self.id,
+            sent: self.sent,
+            going_on: self.going_on,
+            outcome: None,
+            told: self.told,
+            early: self.early,
+            lasting: self.lasting,
+            suspended: self.suspended,
+        }
+    }
+
+    /// Its outcome needs no report any more, if its producer gave it an id in this range, on a session.
+    fn untell_within(&mut self, conn: u64, own: u16, first: u32, last: u32)
+        ensures { self.new ≡ (if comes_with_id (source self.old) conn own first last then untold self.old else self.old) }
+    {
+        if comes_with_id(self.source(), conn, own, first, last) {
+            self.untell();
+        }
+    }
+
+    /// Its outcome was told, if its producer gave it an id in this range, on a session.
+    fn tell_within(&mut self, conn: u64, own: u16, first: u32, last: u32)
+        ensures { self.new ≡ (if comes_with_id (source self.old) conn own first last then unsettled self.old else self.old) }
+    {
+        if comes_with_id(self.source(), conn, own, first, last) {
+            self.tell();
+        }
+    }
+
+    /// Whether it is undecided and the router gave it an id in this range, on a session.
+    fn is_decided_by(&self, conn: u64, own: u16, first: u32, last: u32) -> bool
+        ensures { result ≡ is_decided_by self.now conn own first last }
+    {
+        self.is_undecided()
+            && ((self.link.conn.0 == conn && self.link.channel == own)
+                && is_in(self.id, first, last))
+    }
+}

@@ -1,0 +1,587 @@
+//! Deliveries by number.
+ghost use Rattle.std.specs.Prelude.{◌≡◌, ◌==◌, ℕ, Some, None, true, if◌then◌else◌, OnOk, IfOk, length, ◌||◌, ◌&&◌, nat_lt, ◌∷◌, List, Bool, false};
+ghost use Rattle.std.specs.Option.{option_map, option_and_then};
+ghost use Rattle.std.specs.Ordering.{nat_cmp};
+ghost use Rattle.std.specs.Map.{keys_of};
+ghost use Rattle.state_collections.specs.Slots.{in_slots};
+ghost use Rattle.amqp_session.specs.Ranges.{has};
+ghost use Rattle.router_trace.specs.declared.binding.DeliveryName.{DeliveryName as Name};
+ghost use Rattle.router_trace.specs.Deliveries.{unless_over, unless_called, same_name, bound, behind_frame, is_number, is_id, delivery, number_named, sending};
+ghost use Rattle.router_trace.specs.Settling.{is_open_as};
+ghost use Rattle.router_trace.specs.Trace.{Entry, Out, did};
+ghost use Rattle.amqp_model.specs.declared.item.Item.TheVariants as item;
+ghost use Rattle.router_trace.specs.declared.event.Event.TheVariants as event;
+ghost use Rattle.state_deliveries.specs.Calling.{at_name, is_called, Knows};
+ghost use Rattle.state_deliveries.specs.Deciding.{decide};
+ghost use Rattle.state_deliveries.specs.Fits.{Indexed, StoreFit, carried_in, carried_by};
+ghost use Rattle.state_deliveries.specs.declared.index.Keys.{Keys as TheKeys};
+ghost use Rattle.state_deliveries.specs.Indexing.{Indexes, keys, moved, standing, in_group, is_by_place, are_by_place, concerns};
+ghost use Rattle.state_deliveries.specs.Placing.{is_id_there};
+ghost use Rattle.std.specs.BTreeSet.{contains};
+ghost use Rattle.state_collections.specs.Marks.{has as is_marked};
+ghost use Rattle.state_deliveries.specs.Finding.{IsFirst, IsFirstLink, is_above};
+ghost use Rattle.state_deliveries.specs.Touching.{is_touched_in, StandsSame, StoreTouches};
+ghost use Rattle.state_deliveries.specs.Hearing.{id_of};
+ghost use Rattle.state_deliveries.specs.Naming.{is_open, is_detached, is_detached_in};
+ghost use Rattle.state_deliveries.specs.Stepping.{behind, behind_any, changed, IsKept};
+ghost use Rattle.state_deliveries.specs.Tallying.{tally, waiting_at, undecided_at};
+
+use crate::by_name::ByName;
+use crate::change::{Change, Gone, behind_put};
+use crate::delivery::Delivery;
+use crate::index::{Index, Keys, Moved};
+use crate::sets::{behind, first};
+use crate::touched::Touched;
+use amqp_model::{Item, Perf, Transfer};
+use bytes::Bytes;
+use router_trace::{Binding, ConnectionId, DeliveryName};
+use state_collections::{Kept, Slots};
+use std::alloc::{AllocError, Global};
+use std::collections::BTreeSet;
+
+/// So many deliveries with neighbouring numbers are found without an ordered map.
+const PLACES: usize = 1024;
+
+/// Deliveries by number; one that is over is removed. If an operation fails to allocate, the contents are unspecified.
+///
+/// Each stands in a box of its own: it has over 200 bytes, which an insertion or a removal beside it would move.
+#[derive(Drop)]
+pub(crate) struct Store {
+    alloc: Global,
+    deliveries: Slots<Kept<Delivery>>,
+    pub(crate) by_name: ByName,
+    index: Index,
+    touched: Touched,
+}
+
+impl Store {
+    /// An empty store.
+    pub(crate) fn new(alloc: Global) -> Store
+        ensures deliveries { (n : ℕ) → in_slots result.deliveries n ≡ None }
+        ensures indexed { Indexed result }
+    {
+        Store {
+            alloc,
+            deliveries: Slots::new(alloc, PLACES),
+            by_name: ByName::new(alloc),
+            index: Index::new(alloc),
+            touched: Touched::new(alloc),
+        }
+    }
+
+    /// The delivery with a number.
+    pub(crate) fn get(&self, number: u64) -> Option<&Delivery>
+        ensures { option_map (λ d. d.now) result ≡ in_slots self.now.deliveries number }
+    {
+        match self.deliveries.get(number) {
+            None => None,
+            Some(delivery) => Some(delivery.as_ref()),
+        }
+    }
+
+    /// How many deliveries of a link are undecided.
+    pub(crate) fn undecided(&self, link: u64) -> usize
+        ensures { result ≡ undecided_at self.now.index.consumers link }
+    {
+        self.index.consumers.undecided(link)
+    }
+
+    /// How many deliveries of a producer's link are undecided.
+    pub(crate) fn held(&self, link: u64) -> usize
+        ensures { result ≡ tally self.now.index.held link }
+    {
+        self.index.held.count(link)
+    }
+
+    /// How many deliveries wait to start on a link.
+    pub(crate) fn waiting(&self, link: u64) -> usize
+        ensures { result ≡ waiting_at self.now.index.consumers link }
+    {
+        self.index.consumers.waiting(link)
+    }
+
+    /// The first delivery of a link of which frames remain to be sent.
+    pub(crate) fn first_unsent(&self, link: u64) -> Option<u64>
+        ensures { IsFirst (in_group self.now.index.unsent link) result }
+    {
+        self.index.unsent.first(link)
+    }
+
+    /// The first of them above a number.
+    pub(crate) fn unsent_behind(&self, link: u64, number: u64) -> Option<u64>
+        ensures { IsFirst (λ n. nat_lt number n && in_group self.now.index.unsent link n) result }
+    {
+        self.index.unsent.first_behind(link, number)
+    }
+
+    /// The lowest link, above this one or of all, that has such deliveries.
+    pub(crate) fn unsent_link_behind(&self, link: Option<u64>) -> Option<u64>
+        ensures { IsFirstLink (in_group self.now.index.unsent) link result }
+    {
+        self.index.unsent.link_behind(link)
+    }
+
+    /// The lowest link that was touched.
+    pub(crate) fn touched(&self) -> Option<u64>
+        ensures { IsFirst (is_touched_in self.now.touched) result }
+    {
+        self.touched.first()
+    }
+
+    /// Forgets that a link was touched.
+    pub(crate) fn forget_touched(&mut self, link: u64)
+        ensures deliveries { self.new.deliveries ≡ self.old.deliveries }
+        ensures by_name { self.new.by_name ≡ self.old.by_name }
+        ensures index { self.new.index ≡ self.old.index }
+        ensures touched { (k : ℕ) → is_touched_in self.new.touched k ≡ (if link == k then false else is_touched_in self.old.touched k) }
+    {
+        self.touched.forget(link);
+    }
+
+    /// The lowest delivery, above this one or of all, whose outcome must be reported to its producer.
+    pub(crate) fn to_tell_behind(&self, number: Option<u64>) -> Option<u64>
+        ensures { IsFirst (λ n. is_above number n && is_marked self.now.index.to_tell n) result }
+    {
+        match number {
+            None => first(&self.index.to_tell),
+            Some(number) => behind(&self.index.to_tell, number),
+        }
+    }
+
+    /// Whether the delivery with a number is undecided.
+    pub(crate) fn is_open(&self, number: u64) -> bool
+        ensures { result ≡ is_open (in_slots self.now.deliveries number) }
+    {
+        match self.get(number) {
+            None => false,
+            Some(delivery) => delivery.is_undecided(),
+        }
+    }
+
+    /// Whether the delivery with a number has this id.
+    pub(crate) fn has_id(&self, number: u64, id: u32) -> bool
+        ensures { result ≡ is_id (id_of (in_slots self.now.deliveries number)) id }
+    {
+        match self.get(number) {
+            None => false,
+            Some(delivery) => delivery.id == Some(id),
+        }
+    }
+
+    /// Whether the delivery with a number is undecided, belongs to a session, and has this id.
+    pub(crate) fn is_open_as(&self, number: u64, conn: u64, own: u16, id: u32) -> bool
+        ensures { result ≡ is_open_as conn own id (in_slots self.now.deliveries number) }
+    {
+        match self.get(number) {
+            None => false,
+            Some(delivery) => delivery.is_open_as(conn, own, id),
+        }
+    }
+
+    /// Takes out the delivery with a number.
+    fn take(&mut self, number: u64) -> Option<Kept<Delivery>>
+        ensures gives { result ≡ in_slots self.old.deliveries number }
+        ensures gone { (n : ℕ) → in_slots self.new.deliveries n ≡ (if number == n then None else in_slots self.old.deliveries n) }
+        ensures by_name { self.new.by_name ≡ self.old.by_name }
+        ensures index { self.new.index ≡ self.old.index }
+        ensures touched { self.new.touched ≡ self.old.touched }
+    {
+        self.deliveries.remove(number)
+    }
+
+    /// Replaces the index entries of the delivery with a number, which was changed in its place; if it is over, removes it.
+    fn settle(&mut self, number: u64, moved: &Moved) -> Result<(), AllocError>
+        ensures deliveries { OnOk result ((n : ℕ) → in_slots self.new.deliveries n
+            ≡ (if moved.now.over then (if number == n then None else in_slots self.old.deliveries n) else in_slots self.old.deliveries n)) }
+        ensures indexed { OnOk result ((known : ℕ → TheKeys) → known number ≡ moved.now.before → Indexes self.old.index known
+            → Indexes self.new.index (λ n. if number == n then moved.now.after else known n)) }
+        ensures touched { OnOk result ((k : ℕ) → is_touched_in self.new.touched k ≡ false
+            → (is_touched_in self.old.touched k ≡ false) × StandsSame k moved.now.before moved.now.after) }
+        ensures called { OnOk result ((m : Name) → at_name self.new.by_name m ≡ (if moved.now.over && same_name moved.now.name m then None else at_name self.old.by_name m)) }
+    {
+        if moved.over {
+            let _ = self.deliveries.remove(number);
+            self.by_name.forget(moved.name);
+            return self.shift(number, &moved.before, &moved.after);
+        }
+        self.shift(number, &moved.before, &moved.after)
+    }
+
+    /// Replaces a delivery's index entries.
+    fn shift(&mut self, number: u64, before: &Keys, after: &Keys) -> Result<(), AllocError>
+        ensures deliveries { self.new.deliveries ≡ self.old.deliveries }
+        ensures by_name { self.new.by_name ≡ self.old.by_name }
+        ensures indexed { OnOk result ((known : ℕ → TheKeys) → known number ≡ before.now → Indexes self.old.index known
+            → Indexes self.new.index (λ n. if number == n then after.now else known n)) }
+        ensures touched { OnOk result ((k : ℕ) → is_touched_in self.new.touched k ≡ false
+            → (is_touched_in self.old.touched k ≡ false) × StandsSame k before.now after.now) }
+    {
+        self.touched.note(before, after)?;
+        self.index.shift(number, before, after)
+    }
+
+    /// Adds a message that was bound, under its number and its name. An earlier delivery of this name is removed.
+    pub(crate) fn bind(
+        &mut self,
+        number: u64,
+        name: DeliveryName,
+        binding: Binding,
+    ) -> Result<(), AllocError>
+        ensures deliveries { OnOk result (Indexed self.old
+            → (n : ℕ) → in_slots self.new.deliveries n ≡ (if number == n then Some (bound name binding) else unless_called name (in_slots self.old.deliveries n))) }
+        ensures indexed { OnOk result (in_slots self.old.deliveries number ≡ None → Indexed self.old → Indexed self.new) }
+        ensures touches { OnOk result (StoreTouches self.old self.new) }
+    {
+        self.remove_called(name)?;
+        self.add(number, name, binding)
+    }
+
+    /// Adds a message that was bound, under its number and its name.
+    fn add(&mut self, number: u64, name: DeliveryName, binding: Binding) -> Result<(), AllocError>
+        ensures deliveries { OnOk result ((n : ℕ) → in_slots self.new.deliveries n ≡ (if number == n then Some (bound name binding) else in_slots self.old.deliveries n)) }
+        ensures indexed { OnOk result (in_slots self.old.deliveries number ≡ None → ((n : ℕ) → is_called name (in_slots self.old.deliveries n) ≡ false)
+            → Indexed self.old → Indexed self.new) }
+        ensures touches { OnOk result (StoreTouches self.old self.new) }
+    {
+        self.by_name.set(name, number)?;
+        let delivery = Delivery::bound(name, binding);
+        let after = Keys::of(&delivery);
+        let delivery = Kept::new(self.alloc, delivery)?;
+        let before = put(&mut self.deliveries, number, delivery)?;
+        self.shift(number, &before, &after)?;
+        Ok(())
+    }
+
+    /// Removes the delivery with a name.
+    #[tactic(auto, using(crate::proofs::Touching::touches_self))]
+    fn remove_called(&mut self, name: DeliveryName) -> Result<(), AllocError>
+        ensures deliveries { OnOk result (Indexed self.old → (n : ℕ) → in_slots self.new.deliveries n ≡ unless_called name (in_slots self.old.deliveries n)) }
+        ensures indexed { OnOk result (Indexed self.old → Indexed self.new) }
+        ensures touches { OnOk result (StoreTouches self.old self.new) }
+    {
+        match self.by_name.get(name) {
+            None => Ok(()),
+            Some(number) => self.remove(number),
+        }
+    }
+
+    /// Removes the delivery with a number.
+    fn remove(&mut self, number: u64) -> Result<(), AllocError>
+        ensures deliveries { OnOk result ((n : ℕ) → in_slots self.new.deliveries n ≡ (if number == n then None else in_slots self.old.deliveries n)) }
+        ensures indexed { OnOk result (Indexed self.old → Indexed self.new) }
+        ensures touches { OnOk result (StoreTouches self.old self.new) }
+    {
+        let Some(taken) = self.take(number) else {
+            return Ok(());
+        };
+        let delivery = taken.as_ref();
+        let before = Keys::of(delivery);
+        self.by_name.forget(delivery.name);
+        self.shift(number, &before, &Keys::nowhere())
+    }
+
+    /// Notes a transfer that carries `count` bytes of the delivery with a number.
+    pub(crate) fn note_frame(
+        &mut self,
+        number: u64,
+        transfer: &Transfer,
+        count: u64,
+    ) -> Result<(), AllocError>
+        ensures deliveries { OnOk result ((n : ℕ) → in_slots self.new.deliveries n
+            ≡ (if number == n then option_and_then (λ d. unless_over (behind_frame transfer.now count d)) (in_slots self.old.deliveries n) else in_slots self.old.deliveries n)) }
+        ensures indexed { OnOk result (Indexed self.old → Indexed self.new) }
+        ensures touches { OnOk result (StoreTouches self.old self.new) }
+    {
+        let mut entries = Moved::new();
+        let found = note_in(&mut self.deliveries, number, transfer, count, &mut entries)?;
+        if !found {
+            return Ok(());
+        }
+        self.settle(number, &entries)?;
+        Ok(())
+    }
+
+    /// Changes the delivery with a number.
+    pub(crate) fn change(&mut self, number: u64, change: &Change) -> Result<(), AllocError>
+        ensures deliveries { OnOk result ((n : ℕ) → in_slots self.new.deliveries n
+            ≡ (if number == n then behind change.now (in_slots self.old.deliveries n) else in_slots self.old.deliveries n)) }
+        ensures indexed { OnOk result (Indexed self.old → Indexed self.new) }
+        ensures touches { OnOk result (StoreTouches self.old self.new) }
+    {
+        let mut entries = Moved::new();
+        let found = change_in(&mut self.deliveries, number, change, &mut entries)?;
+        if !found {
+            return Ok(());
+        }
+        self.settle(number, &entries)?;
+        Ok(())
+    }
+
+    /// Changes the deliveries with these numbers.
+    #[tactic(auto, using(crate::proofs::Touching::touches_self))]
+    pub(crate) fn change_all(&mut self, numbers: &[u64], change: &Change) -> Result<(), AllocError>
+        ensures deliveries { OnOk result ((n : ℕ) → in_slots self.new.deliveries n
+            ≡ (if has n numbers.now then behind change.now (in_slots self.old.deliveries n) else in_slots self.old.deliveries n)) }
+        ensures indexed { OnOk result (Indexed self.old → Indexed self.new) }
+        ensures touches { OnOk result (StoreTouches self.old self.new) }
+    {
+        for number in numbers {
+            self.change(*number, change)?;
+        }
+        Ok(())
+    }
+
+    /// Applies a change that isn't a consumer's disposition to all deliveries. It looks only at those that the indexes give for the change.
+    pub(crate) fn apply(&mut self, change: &Change) -> Result<(), AllocError>
+        ensures deliveries { OnOk result (is_by_place change.now ≡ true → ((n : ℕ) → IsKept (in_slots self.old.deliveries n)) → Indexed self.old
+            → (n : ℕ) → in_slots self.new.deliveries n ≡ behind change.now (in_slots self.old.deliveries n)) }
+        ensures indexed { OnOk result (Indexed self.old → Indexed self.new) }
+        ensures touches { OnOk result (StoreTouches self.old self.new) }
+    {
+        let numbers = self.index.concerned(self.alloc, change)?;
+        self.change_all(numbers.as_slice(), change)?;
+        self.leave(change)?;
+        Ok(())
+    }
+
+    /// Lets go of what the indexes keep for sessions that a change ends.
+    fn leave(&mut self, change: &Change) -> Result<(), AllocError>
+        ensures deliveries { self.new.deliveries ≡ self.old.deliveries }
+        ensures touched { self.new.touched ≡ self.old.touched }
+        ensures indexed { OnOk result (Indexed self.old → Indexed self.new) }
+    {
+        if let Change::Ends { gone, .. } = change {
+            self.index.end(*gone)?;
+        }
+        Ok(())
+    }
+
+    /// Applies a change that isn't a consumer's disposition to all deliveries, if there is one.
+    #[tactic(auto, using(crate::proofs::Touching::touches_self))]
+    pub(crate) fn apply_any(&mut self, change: Option<Change>) -> Result<(), AllocError>
+        ensures deliveries { OnOk result (are_by_place change ≡ true → ((n : ℕ) → IsKept (in_slots self.old.deliveries n)) → Indexed self.old
+            → (n : ℕ) → in_slots self.new.deliveries n ≡ behind_any change (in_slots self.old.deliveries n)) }
+        ensures indexed { OnOk result (Indexed self.old → Indexed self.new) }
+        ensures touches { OnOk result (StoreTouches self.old self.new) }
+    {
+        match change {
+            None => Ok(()),
+            Some(change) => self.apply(&change),
+        }
+    }
+
+    /// Notes a transfer with this payload of the delivery with a number, if there is one.
+    #[tactic(auto, using(crate::proofs::Touching::touches_self))]
+    pub(crate) fn note_carried(
+        &mut self,
+        number: Option<u64>,
+        transfer: &Transfer,
+        payload: &Bytes,
+    ) -> Result<(), AllocError>
+        ensures deliveries { OnOk result ((n : ℕ) → in_slots self.new.deliveries n
+            ≡ (if is_number number n then option_and_then (λ d. unless_over (behind_frame transfer.now (length payload.now) d)) (in_slots self.old.deliveries n) else in_slots self.old.deliveries n)) }
+        ensures indexed { OnOk result (Indexed self.old → Indexed self.new) }
+        ensures touches { OnOk result (StoreTouches self.old self.new) }
+    {
+        match number {
+            None => Ok(()),
+            Some(number) => {
+                let count = payload.len() as u64;
+                self.note_frame(number, transfer, count)
+            }
+        }
+    }
+
+    /// A connection is lost.
+    pub(crate) fn down(&mut self, conn: ConnectionId) -> Result<(), AllocError>
+        ensures fits { OnOk result ((t : List Entry) → StoreFit self.old t → StoreFit self.new (did (event.Down conn) ∷ t)) }
+        ensures touches { OnOk result (StoreTouches self.old self.new) }
+    {
+        self.apply(&Change::Ends {
+            gone: Gone::Connection(conn.0),
+            closed: false,
+        })
+    }
+
+    /// The ids of the deliveries on the link that an item of the router detaches.
+    pub(crate) fn detached_ids(&self, conn: u64, item: &Item) -> Result<Vec<u32>, AllocError>
+        ensures { IfOk result (λ ids. Indexed self.now → (n id : ℕ) → is_detached item.now conn (standing (in_slots self.now.deliveries n)) ≡ true
+            → is_id (id_of (in_slots self.now.deliveries n)) id ≡ true → has id ids.items ≡ true) }
+    {
+        match item {
+            Item::Frame { channel, perf, .. } => Ok(self.ids_detached_in(conn, *channel, perf)?),
+            _ => Ok(Vec::new(self.alloc)),
+        }
+    }
+
+    /// The ids of the deliveries on the link that a performative of the router detaches.
+    fn ids_detached_in(&self, conn: u64, own: u16, perf: &Perf) -> Result<Vec<u32>, AllocError>
+        ensures { IfOk result (λ ids. Indexed self.now → (n id : ℕ) → is_detached_in perf.now conn own (standing (in_slots self.now.deliveries n)) ≡ true
+            → is_id (id_of (in_slots self.now.deliveries n)) id ≡ true → has id ids.items ≡ true) }
+    {
+        match perf {
+            Perf::Detach(detach) => {
+                let handle = detach.handle;
+                let gone = Gone::Link { conn, own, handle };
+                Ok(self.ids_on(&Change::Ends {
+                    gone,
+                    closed: false,
+                })?)
+            }
+            _ => Ok(Vec::new(self.alloc)),
+        }
+    }
+
+    /// The ids of the deliveries that a change may change, if it isn't a consumer's disposition.
+    fn ids_on(&self, change: &Change) -> Result<Vec<u32>, AllocError>
+        ensures { IfOk result (λ ids. Indexed self.now → (n id : ℕ) → concerns change.now (standing (in_slots self.now.deliveries n)) ≡ true
+            → is_id (id_of (in_slots self.now.deliveries n)) id ≡ true → has id ids.items ≡ true) }
+    {
+        let numbers = self.index.concerned(self.alloc, change)?;
+        let mut ids = Vec::new(self.alloc);
+        for number in &numbers {
+            add_id(&mut ids, self.get(*number))?;
+        }
+        Ok(ids)
+    }
+
+    /// The numbers of the deliveries whose rows one of these changes may decide.
+    pub(crate) fn deciding_by(&self, changes: &[Change]) -> Result<BTreeSet<u64>, AllocError>
+        ensures { IfOk result (λ numbers. Indexed self.now → (n : ℕ) → decide changes.now (standing (in_slots self.now.deliveries n)) ≡ true
+            → contains nat_cmp numbers n ≡ true) }
+    {
+        Ok(self.index.deciding_by(self.alloc, changes)?)
+    }
+
+    /// The numbers of the deliveries to which a producer gave an id in this range, on a session.
+    pub(crate) fn with_ids(
+        &self,
+        conn: u64,
+        own: u16,
+        first: u32,
+        last: u32,
+    ) -> Result<BTreeSet<u64>, AllocError>
+        ensures { IfOk result (λ numbers. Indexed self.now → (n : ℕ) → is_id_there conn own first last (standing (in_slots self.now.deliveries n)).by_id ≡ true
+            → contains nat_cmp numbers n ≡ true) }
+    {
+        let mut numbers = BTreeSet::new(self.alloc);
+        let change = Change::Untold {
+            conn,
+            own,
+            first,
+            last,
+        };
+        self.index.add_concerned(self.alloc, &change, &mut numbers)?;
+        Ok(numbers)
+    }
+
+    /// An item is put into the outbox of a connection; `number` is the delivery that its transfer carries.
+    #[tactic(auto, using(crate::proofs::Touching::touches_self))]
+    pub(crate) fn put(
+        &mut self,
+        conn: u64,
+        item: &Item,
+        number: Option<u64>,
+    ) -> Result<(), AllocError>
+        ensures fits { OnOk result ((t : List Entry) → Knows (delivery t) number (carried_by (number_named t) item.now (sending t conn)) → StoreFit self.old t → StoreFit self.new (Out conn item.now ∷ t)) }
+        ensures touches { OnOk result (StoreTouches self.old self.new) }
+    {
+        match item {
+            Item::Frame {
+                channel,
+                perf,
+                payload,
+                ..
+            } => self.put_perf(conn, *channel, perf, payload, number)?,
+            _ => {}
+        }
+        Ok(())
+    }
+
+    /// A performative is put into the outbox of a connection, on a channel of the router.
+    fn put_perf(
+        &mut self,
+        conn: u64,
+        own: u16,
+        perf: &Perf,
+        payload: &Bytes,
+        number: Option<u64>,
+    ) -> Result<(), AllocError>
+        ensures fits { OnOk result ((t : List Entry) (sasl : Bool) → Knows (delivery t) number (carried_in (number_named t) perf.now (sending t conn own)) → StoreFit self.old t
+            → StoreFit self.new (Out conn (item.Frame sasl own perf.now payload.now) ∷ t)) }
+        ensures touches { OnOk result (StoreTouches self.old self.new) }
+    {
+        match perf {
+            Perf::Transfer(transfer) => self.note_carried(number, transfer, payload),
+            _ => self.apply_any(behind_put(conn, own, perf)),
+        }
+    }
+}
+
+/// Gives a number this delivery; the result are the index entries of the one that it had.
+fn put(
+    deliveries: &mut Slots<Kept<Delivery>>,
+    number: u64,
+    delivery: Kept<Delivery>,
+) -> Result<Keys, AllocError>
+    ensures deliveries { OnOk result ((n : ℕ) → in_slots deliveries.new n ≡ (if number == n then Some delivery else in_slots deliveries.old n)) }
+    ensures before { IfOk result (λ before. before ≡ standing (in_slots deliveries.old number)) }
+{
+    let before = deliveries.insert(number, delivery)?;
+    Ok(Keys::standing(&before))
+}
+
+/// Changes the delivery with a number in its place, and notes its entries; whether there is one.
+fn change_in(
+    deliveries: &mut Slots<Kept<Delivery>>,
+    number: u64,
+    change: &Change,
+    entries: &mut Moved,
+) -> Result<bool, AllocError>
+    ensures deliveries { OnOk result ((n : ℕ) → in_slots deliveries.new n
+        ≡ (if number == n then option_map (changed change.now) (in_slots deliveries.old n) else in_slots deliveries.old n)) }
+    ensures found { IfOk result (λ found. (if found then Some entries.new else None) ≡ option_map (λ d. moved (keys d) (changed change.now d)) (in_slots deliveries.old number)) }
+{
+    let Some(kept) = deliveries.get_mut(number) else {
+        return Ok(false);
+    };
+    let delivery = kept.as_mut();
+    entries.note_before(delivery);
+    delivery.change(change)?;
+    entries.note_after(delivery);
+    Ok(true)
+}
+
+/// Notes a transfer that carries `count` bytes of the delivery with a number, in its place, and notes its entries; whether there is one.
+fn note_in(
+    deliveries: &mut Slots<Kept<Delivery>>,
+    number: u64,
+    transfer: &Transfer,
+    count: u64,
+    entries: &mut Moved,
+) -> Result<bool, AllocError>
+    ensures deliveries { OnOk result ((n : ℕ) → in_slots deliveries.new n
+        ≡ (if number == n then option_map (behind_frame transfer.now count) (in_slots deliveries.old n) else in_slots deliveries.old n)) }
+    ensures found { IfOk result (λ found. (if found then Some entries.new else None) ≡ option_map (λ d. moved (keys d) (behind_frame transfer.now count d)) (in_slots deliveries.old number)) }
+{
+    let Some(kept) = deliveries.get_mut(number) else {
+        return Ok(false);
+    };
+    let delivery = kept.as_mut();
+    entries.note_before(delivery);
+    delivery.note_frame(transfer, count)?;
+    entries.note_after(delivery);
+    Ok(true)
+}
+
+/// Appends the id of a delivery, if it has one.
+fn add_id(ids: &mut Vec<u32>, delivery: Option<&Delivery>) -> Result<(), AllocError>
+    ensures { OnOk result ((id : ℕ) → has id ids.new.items ≡ (has id ids.old.items || is_id (id_of (option_map (λ d. d.now) delivery.entry)) id)) }
+{
+    if let Some(delivery) = delivery {
+        if let Some(id) = delivery.id {
+            ids.push(id)?;
+        }
+    }
+    Ok(())
+}

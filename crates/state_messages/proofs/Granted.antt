@@ -1,0 +1,161 @@
+-- The address whose grants come first.
+use Rattle.std.proofs.Common.{◌≡◌, ◌∙◌, ◌+◌, ◌<◌, ℕ, zero, suc, true, false, true≢false, refl, sym, ap, subst, Option, Some, None, List, [], ◌∷◌, ◌++◌, length, arith}
+use Rattle.std.specs.Prelude.{◌==◌, is_some, unwrap_or, IfNone, IfSome}
+use Rattle.std.specs.Str.{bytes_eq}
+use Rattle.std.specs.Map.{keys_of}
+use Rattle.std.specs.Cmp.Lexicographic.{slice_cmp}
+use Rattle.std.specs.Ordering.{nat_cmp, ordering_reverse}
+use Rattle.std.specs.declared.cmp.Ordering.{Ordering}
+use Rattle.std.specs.declared.cmp.Ordering.TheVariants.{Less, Equal, Greater}
+use Rattle.std.proofs.lemmas.Bool.{eqb-true}
+use Rattle.std.proofs.lemmas.Bool.Decides.{nat_tests}
+use Rattle.std.proofs.lemmas.Cmp.{nat_list_cmp_total}
+use Rattle.std.proofs.lemmas.Map.Lookups.{exact_bytes}
+use Rattle.route_credit.specs.Granting.{all_granted, gain, gains, grants_of}
+use Rattle.route_credit.specs.Pool.{by_id}
+use Rattle.route_credit.specs.declared.ids.ProducerId.{ProducerId}
+use Rattle.router_trace.specs.Trace.{Trace}
+use Rattle.router_trace.specs.Links.{attachments}
+use Rattle.state_pools.specs.Sharing.{Figure, consumer, producer, demand_at, entry, listed}
+use Rattle.state_pools.proofs.AtAddress.{same_bytes}
+use Rattle.state_messages.specs.Figures.{figure}
+use Rattle.state_messages.specs.Passing.{grants, grants_of_address, grants_on, if_some, lower, lower_of, lowest_below, pool_of, wants}
+use Rattle.state_messages.proofs.Seen.{by_test}
+
+-- an address isn't below another
+abbrev IsNotBelow : List ℕ → Option (List ℕ) → Type 0
+IsNotBelow q None = Unit {0}
+IsNotBelow q (Some a) = slice_cmp nat_cmp a q ≡ Less → ⊥
+
+lower_keeps : (q : List ℕ) (v w : Option (List ℕ)) → IsNotBelow q v → IsNotBelow q w → IsNotBelow q (lower v w)
+lower_keeps q None w e f = f
+lower_keeps q (Some a) None e f = e
+lower_keeps q (Some a) (Some b) e f = by_order (slice_cmp nat_cmp a b)
+  where
+    by_order : (o : Ordering) → IsNotBelow q (Some (lower_of o a b))
+    by_order Less = e
+    by_order Equal = f
+    by_order Greater = f
+
+all_keep : (n : ℕ) (f : ℕ → Option (List ℕ)) (q : List ℕ) → ((m : ℕ) → IsNotBelow q (f m)) → IsNotBelow q (lowest_below n f)
+unfolding lowest_below
+all_keep zero f q none = tt
+all_keep (suc n) f q none = lower_keeps q (lowest_below n f) (f n) (all_keep n f q none) (none n)
+
+-- the lower of two, of which one is this and the other isn't below it
+second : (q : List ℕ) (v : Option (List ℕ)) → IsNotBelow q v → lower v (Some q) ≡ Some q
+second q None e = refl
+second q (Some a) e = by_order (slice_cmp nat_cmp a q) refl
+  where
+    by_order : (o : Ordering) → slice_cmp nat_cmp a q ≡ o → Some (lower_of o a q) ≡ Some q
+    by_order Less is = absurd (e is)
+    by_order Equal is = refl
+    by_order Greater is = refl
+
+first : (q : List ℕ) (w : Option (List ℕ)) → IsNotBelow q w → lower (Some q) w ≡ Some q
+first q None e = refl
+first q (Some b) e = by_order (slice_cmp nat_cmp q b) refl
+  where
+    by_order : (o : Ordering) → slice_cmp nat_cmp q b ≡ o → Some (lower_of o q b) ≡ Some q
+    by_order Less is = refl
+    by_order Equal is = ap Some (sym (exact_bytes q b is))
+    by_order Greater is = absurd (e (nat_list_cmp_total.antisymm b q ∙ ap ordering_reverse is))
+
+pub lowest_is : (n : ℕ) (f : ℕ → Option (List ℕ)) (q : List ℕ) (m : ℕ) → ((k : ℕ) → IsNotBelow q (f k)) → m < n → f m ≡ Some q → lowest_below n f ≡ Some q
+unfolding lowest_below
+lowest_is zero f q m none below is = absurd (omega (arith, below))
+lowest_is (suc n) f q m none below is = by_test (m == n)
+    (λ e. ap (λ w. lower (lowest_below n f) w) (ap f (sym (eqb-true m n e)) ∙ is) ∙ second q (lowest_below n f) (all_keep n f q none))
+    (λ e. ap (λ v. lower v (f n)) (lowest_is n f q m none (less m n below e) is) ∙ first q (f n) (none n))
+  where
+    less : (m n : ℕ) → m < suc n → (m == n) ≡ false → m < n
+    less m n l e = grind (arith, nat_tests)
+
+-- if none has an address, there is no lowest
+pub lowest_none : (n : ℕ) (f : ℕ → Option (List ℕ)) → ((k : ℕ) → f k ≡ None) → lowest_below n f ≡ None
+unfolding lowest_below
+lowest_none zero f none = refl
+lowest_none (suc n) f none = ap (λ v. lower v (f n)) (lowest_none n f none) ∙ none n
+
+-- a nonempty list of numbers has one
+pub record Has {X : Type 0} (f : ℕ → Option X) (n : ℕ) : Type 0 where
+  pub number : ℕ
+  pub below : number < n + 1
+  pub has : is_some (f number) ≡ true
+
+empty_end : {X : Type 0} (xs : List (ℕ × X)) → xs ++ [] ≡ xs
+empty_end [] = refl
+empty_end (x ∷ xs) = ap (λ ys. x ∷ ys) (empty_end xs)
+
+has_more : {X : Type 0} (f : ℕ → Option X) (n : ℕ) → Has f n → Has f (suc n)
+has_more f n there = record { number = there.number; below = (let l : there.number < n + 1 = there.below in let g : there.number < suc n + 1 = omega (arith, l) in g); has = there.has }
+
+listed_by : {X : Type 0} (f : ℕ → Option X) (n : ℕ) (v : Option X) → f (suc n) ≡ v → (0 < length (listed f n) → Has f n) → 0 < length (listed f n ++ entry (suc n) v) → Has f (suc n)
+listed_by f n None is rest some = has_more f n (rest (subst (λ xs. 0 < length xs) (empty_end (listed f n)) some))
+listed_by f n (Some x) is rest some = record { number = suc n; below = omega arith; has = ap is_some is }
+
+listed_has : {X : Type 0} (f : ℕ → Option X) (n : ℕ) → 0 < length (listed f n) → Has f n
+listed_has f zero some = absurd (omega (arith, some))
+listed_has f (suc n) some = listed_by f n (f (suc n)) refl (listed_has f n) some
+
+-- if something is granted, there is a producer
+gains_some : {X : Type 0} (amount : ℕ → ℕ) (links : List (ℕ × X)) → 0 < length (gains amount (keys_of links)) → 0 < length links
+gains_some amount [] some = absurd (omega (arith, some))
+gains_some amount (l ∷ ls) some = let g : 0 < suc (length ls) = omega arith in g
+
+wants_some : (t : Trace) (q : List ℕ) (sums : List (ℕ × ℕ)) → 0 < length sums → if_some sums q ≡ Some q
+wants_some t q [] some = absurd (omega (arith, some))
+wants_some t q (s ∷ ss) some = refl
+
+wants_is : (t : Trace) (q : List ℕ) (v : Option Figure) → is_some (demand_at q v) ≡ true → 0 < length (grants_of (pool_of t q)) → wants t v ≡ Some q
+wants_is t q None e some = absurd cc
+wants_is t q (Some (consumer at free pending)) e some = absurd cc
+wants_is t q (Some (producer at unused kept)) e some = by_test (bytes_eq at q)
+    (λ is. let same : at ≡ q = same_bytes at q is in ap (λ a. if_some (grants_of (pool_of t a)) a) same ∙ wants_some t q (grants_of (pool_of t q)) some)
+    (λ is. absurd (true≢false (sym (rw is at e))))
+
+wants_not : (t : Trace) (q : List ℕ) (v : Option Figure) → ((a : List ℕ) → slice_cmp nat_cmp a q ≡ Less → grants_of (pool_of t a) ≡ []) → IsNotBelow q (wants t v)
+wants_not t q None none = tt
+wants_not t q (Some (consumer at free pending)) none = tt
+wants_not t q (Some (producer at unused kept)) none = by_sums (grants_of (pool_of t at)) refl
+  where
+    by_sums : (sums : List (ℕ × ℕ)) → grants_of (pool_of t at) ≡ sums → IsNotBelow q (if_some sums at)
+    by_sums [] is = tt
+    by_sums (s ∷ ss) is = λ less. filled s ss (sym is ∙ none at less)
+      where
+        filled : (s : ℕ × ℕ) (ss : List (ℕ × ℕ)) → s ∷ ss ≡ [] → ⊥
+        filled s ss e = absurd cc
+
+wants_none : (t : Trace) (v : Option Figure) → ((a : List ℕ) → grants_of (pool_of t a) ≡ []) → wants t v ≡ None
+wants_none t None none = refl
+wants_none t (Some (consumer at free pending)) none = refl
+wants_none t (Some (producer at unused kept)) none = ap (λ sums. if_some sums at) (none at)
+
+-- the grants as the table of pools gives them
+pub grants_none : (t : Trace) → ((a : List ℕ) → grants_of (pool_of t a) ≡ []) → grants t ≡ []
+unfolding grants
+grants_none t none = ap (grants_of_address t) (lowest_none (attachments t + 1) (λ n. wants t (figure t n)) (λ k. wants_none t (figure t k) none))
+
+length_by_id : (sums : List (ProducerId × ℕ)) → length (by_id sums) ≡ length sums
+length_by_id [] = refl
+length_by_id (s ∷ ss) = ap suc (length_by_id ss)
+
+pub grants_are : (t : Trace) (q : List ℕ) (sums : List (ProducerId × ℕ)) → by_id sums ≡ grants_of (pool_of t q) → 0 < length sums
+    → ((a : List ℕ) → slice_cmp nat_cmp a q ≡ Less → grants_of (pool_of t a) ≡ []) → grants_on t (by_id sums) ≡ grants t
+unfolding grants
+grants_are t q sums is some none =
+    let filled : 0 < length (grants_of (pool_of t q)) = subst (λ n. 0 < n) (sym (length_by_id sums) ∙ ap length is) some in
+    let one : Has (λ n. demand_at q (figure t n)) (attachments t) = listed_has (λ n. demand_at q (figure t n)) (attachments t)
+    (gains_some (gain (pool_of t q) (all_granted (pool_of t q))) (pool_of t q).producers filled) in
+    ap (grants_on t) is
+    ∙ sym (ap (grants_of_address t) (lowest_is (attachments t + 1) (λ n. wants t (figure t n)) q one.number (λ k. wants_not t q (figure t k) none) one.below
+    (wants_is t q (figure t one.number) one.has filled)))
+
+-- what holds of a result if there is none, and if there is one
+pub at_none : {A : Type 0} {P : Type 0} (r : Option A) → r ≡ None → IfNone r P → P
+at_none None e p = p
+at_none (Some x) e p = absurd cc
+
+pub at_some : {A : Type 0} (P : A → Type 0) (r : Option A) (a : A) → r ≡ Some a → IfSome r P → P a
+at_some P None a e p = absurd cc
+at_some {A = A} P (Some x) a e p = subst P (ap (λ (v : Option A). unwrap_or v x) e) p

@@ -1,0 +1,182 @@
+-- What a link has, read from the tables.
+use Rattle.std.proofs.Common.{◌≡◌, ◌∙◌, ◌+◌, ℕ, Bool, true, false, refl, sym, ap, Option, Some, None, List, [], ◌∷◌}
+use Rattle.std.specs.Prelude.{◌==◌, if◌then◌else◌, option_map, unwrap_or}
+use Rattle.std.specs.Ordering.{nat_cmp}
+use Rattle.std.specs.BTreeMap.{get}
+use Rattle.std.proofs.lemmas.Bool.{eqb-true}
+use Rattle.amqp_link.specs.Deliveries.{Frame}
+use Rattle.amqp_link.specs.Gathering.{gathered}
+use Rattle.amqp_link.specs.Figures.{left_at, unused_at}
+use Rattle.amqp_link.specs.Credit as credit
+use Rattle.amqp_link.specs.Receiving as receiving
+use Rattle.amqp_link.specs.Receiving.{middle}
+use Rattle.router_trace.specs.declared.handle.Attachment.{Attachment}
+use Rattle.router_trace.specs.Trace.{Trace}
+use Rattle.router_trace.specs.Links as view
+use Rattle.router_trace.specs.Links.{Happened, sends, receives, numbered, attachments, place_of, has_number, if_attached, is_attached}
+use Rattle.router_trace.specs.Following.{link_of as view_of}
+use Rattle.router_trace.specs.Settling.{told_first}
+use Rattle.state_links.specs.declared.link.Link.{Link}
+use Rattle.state_links.specs.declared.link.LinkEnd.{LinkEnd}
+use Rattle.state_links.specs.declared.link.LinkEnd.TheVariants as ends
+use Rattle.state_links.specs.declared.links.Links.{Links}
+use Rattle.state_links.specs.Ends.{end_of, link_of}
+use Rattle.state_links.specs.Fits.{LinksFit}
+use Rattle.state_links.specs.Looking.{link_on, numbered_link}
+use Rattle.state_links.specs.Naming.{Remembers}
+use Rattle.state_collections.specs.Places.{at}
+use Rattle.state_links.specs.Touching.{if_number}
+use Rattle.state_pools.specs.Sharing.{AreNumbered, Figure, consumer, producer}
+use Rattle.state_messages.specs.Figures.{begun_credit, figure, figure_at, figure_by, figure_on, free_of, held, undecided, unused_credit, waiting}
+use Rattle.state_messages.proofs.Numbered.{none_beyond, none_first, number_is}
+use Rattle.state_collections.specs.Slots.{in_slots}
+
+pub by_test : {P : Type 0} (b : Bool) → ((b ≡ true) → P) → ((b ≡ false) → P) → P
+by_test true f g = f refl
+by_test false f g = g refl
+
+-- what a link of the table has, with this many waiting, undecided and held deliveries
+abbrev pub seen_end : ℕ → ℕ → ℕ → Link → LinkEnd → Figure
+seen_end waits pending kept l (ends.Sends e) = consumer l.address (free_of l.drains (left_at e) waits pending) pending
+seen_end waits pending kept l (ends.Receives e) = producer l.address (unused_at e + begun_credit (option_map (λ g. g.delivery) e.middle)) kept
+
+abbrev pub seen_one : ℕ → ℕ → ℕ → Option Link → Option Figure
+seen_one waits pending kept None = None
+seen_one waits pending kept (Some l) = Some (seen_end waits pending kept l l.end)
+
+abbrev pub seen : ℕ → ℕ → ℕ → ℕ → (ℕ → ℕ → ℕ → Option Link) → Option Attachment → Option Figure
+seen n waits pending kept known None = None
+seen n waits pending kept known (Some a) = seen_one waits pending kept (if_number n (known a.conn.0 a.channel a.handle))
+
+told_same : (fs : List Frame) → told_first fs ≡ option_map (λ g. g.delivery) (gathered fs)
+told_same [] = refl
+told_same (f ∷ fs) = refl
+
+end_same : (t : Trace) (n : ℕ) (l : view.Link) (h : Happened) → l.number ≡ n
+    → figure_by t l h ≡ seen_end (waiting t n) (undecided t n) (held t n) (link_of l) (end_of h)
+end_same t n l (sends list) is = ap (λ k. consumer l.address (free_of l.drains (credit.credit list) (waiting t k) (undecided t k)) (undecided t k)) is
+end_same t n l (receives list) is =
+    ap (λ k. producer l.address (unused_credit list) (held t k)) is
+    ∙ ap (λ d. producer l.address (receiving.unused list + begun_credit d) (held t n)) (told_same (middle list))
+
+-- on the handle of its attachment
+on_same : (t : Trace) (n : ℕ) (v : Option view.Link)
+    → figure_on t n v ≡ seen_one (waiting t n) (undecided t n) (held t n) (if_number n (option_map link_of v))
+on_same t n None = refl
+on_same t n (Some l) = by_test (l.number == n)
+    (λ e. rw e (ap Some (end_same t n l l.happened (eqb-true l.number n e))))
+    (λ e. rw e refl)
+
+-- a link that is nowhere has nothing
+pub none_on : (t : Trace) (n : ℕ) (v : Option view.Link) → has_number n v ≡ false → figure_on t n v ≡ None
+none_on t n None e = refl
+none_on t n (Some l) e = rw e refl
+
+gone : (b : Bool) (a : Attachment) → (if b then Some a else None) ≡ None → b ≡ false
+gone true a e = absurd cc
+gone false a e = refl
+
+pub nowhere : (t : Trace) (n : ℕ) → place_of t n ≡ None → figure t n ≡ None
+nowhere t n e = by_number (numbered t n) refl e
+  where
+    by_number : (v : Option Attachment) → numbered t n ≡ v → if_attached t v ≡ None → figure_at t n v ≡ None
+    by_number None is e = refl
+    by_number (Some a) is e =
+        none_on t n (view_of t a) (ap (λ k. has_number k (view_of t a)) (sym (number_is t n a is)) ∙ gone (is_attached t a) a e)
+
+-- so what the table remembers of a number gives its figure
+pub seen_is : (s : Links) (t : Trace) (n : ℕ) → LinksFit s t
+    → figure t n ≡ seen n (waiting t n) (undecided t n) (held t n) (at s.table.links) (in_slots s.table.names.numbers.entries n)
+seen_is s t n fit = by_entry (in_slots s.table.names.numbers.entries n) (fit.table.names.numbers n)
+  where
+    by_entry : (v : Option Attachment) → Remembers v (numbered t n) (place_of t n)
+        → figure t n ≡ seen n (waiting t n) (undecided t n) (held t n) (at s.table.links) v
+    by_entry None there = nowhere t n there
+    by_entry (Some a) there =
+        ap (figure_at t n) there
+        ∙ on_same t n (view_of t a)
+        ∙ ap (λ v. seen_one (waiting t n) (undecided t n) (held t n) (if_number n v)) (sym (fit.table.links a.conn.0 a.channel a.handle))
+
+-- A link that is the same in both tables, with equal counts of deliveries, has the same figure.
+pub figure_same : (s u : Links) (t w : Trace) (n : ℕ) → LinksFit s t → LinksFit u w
+    → in_slots s.table.names.numbers.entries n ≡ in_slots u.table.names.numbers.entries n
+    → ((c o h : ℕ) → if_number n (at s.table.links c o h) ≡ if_number n (at u.table.links c o h))
+    → waiting t n ≡ waiting w n → undecided t n ≡ undecided w n → held t n ≡ held w n → figure t n ≡ figure w n
+figure_same s u t w n fit fit' numbers links waits pending kept =
+    seen_is s t n fit
+    ∙ ap (λ k. seen n k (undecided t n) (held t n) (at s.table.links) (in_slots s.table.names.numbers.entries n)) waits
+    ∙ ap (λ k. seen n (waiting w n) k (held t n) (at s.table.links) (in_slots s.table.names.numbers.entries n)) pending
+    ∙ ap (λ k. seen n (waiting w n) (undecided w n) k (at s.table.links) (in_slots s.table.names.numbers.entries n)) kept
+    ∙ ap (λ v. seen n (waiting w n) (undecided w n) (held w n) (at s.table.links) v) numbers
+    ∙ by_entry (in_slots u.table.names.numbers.entries n)
+    ∙ sym (seen_is u w n fit')
+  where
+    by_entry : (v : Option Attachment)
+        → seen n (waiting w n) (undecided w n) (held w n) (at s.table.links) v ≡ seen n (waiting w n) (undecided w n) (held w n) (at u.table.links) v
+    by_entry None = refl
+    by_entry (Some a) = ap (seen_one (waiting w n) (undecided w n) (held w n)) (links a.conn.0 a.channel a.handle)
+
+-- only numbers of attachments have anything
+pub are_numbered : (t : Trace) → AreNumbered (figure t) (attachments t)
+are_numbered t = record { first = ap (figure_at t 0) (none_first t); most = λ m above. ap (figure_at t m) (none_beyond t m above) }
+
+-- an attached number has what its link has
+pub figure_there : (t : Trace) (n : ℕ) (a : Attachment) → place_of t n ≡ Some a → (numbered t n ≡ Some a) × (has_number n (view_of t a) ≡ true)
+figure_there t n a e = by_number (numbered t n) refl e
+  where
+    there : (b : Bool) (c : Attachment) → (if b then Some c else None) ≡ Some a → (b ≡ true) × (Some c ≡ Some a)
+    there true c e = (refl, e)
+    there false c e = absurd cc
+
+    by_number : (v : Option Attachment) → numbered t n ≡ v → if_attached t v ≡ Some a → (numbered t n ≡ Some a) × (has_number n (view_of t a) ≡ true)
+    by_number None is e = absurd cc
+    by_number (Some c) is e =
+        let both : (is_attached t c ≡ true) × (Some c ≡ Some a) = there (is_attached t c) c e in
+        let one : numbered t n ≡ Some a = is ∙ both.1 in
+        (one, ap (λ k. has_number k (view_of t a)) (sym (number_is t n a one)) ∙ ap attached (sym both.1) ∙ both.0)
+      where
+        attached : Option Attachment → Bool
+        attached None = false
+        attached (Some d) = is_attached t d
+
+-- if a number has no link, it has nothing
+pub figure_nowhere : (t : Trace) (n : ℕ) → None ≡ option_map link_of (numbered_link t n) → figure t n ≡ None
+figure_nowhere t n none = by_place (place_of t n) refl none
+  where
+    by_view : (w : Option view.Link) → None ≡ option_map link_of w → figure_on t n w ≡ None
+    by_view None e = refl
+    by_view (Some l) e = absurd cc
+
+    by_place : (v : Option Attachment) → place_of t n ≡ v → None ≡ option_map link_of (link_on t v) → figure t n ≡ None
+    by_place None place e = nowhere t n place
+    by_place (Some a) place e =
+        let there : (numbered t n ≡ Some a) × (has_number n (view_of t a) ≡ true) = figure_there t n a place in
+        ap (figure_at t n) there.0 ∙ by_view (view_of t a) e
+
+-- otherwise it has what its link has
+pub record IsThere (t : Trace) (n : ℕ) (k : Link) : Type 0 where
+  pub link : view.Link
+  pub is : k ≡ link_of link
+  pub number : link.number ≡ n
+  pub figure : figure t n ≡ Some (figure_by t link link.happened)
+
+same_option : {A : Type 0} (x y : A) → Some x ≡ Some y → x ≡ y
+same_option {A = A} x y e = ap (λ (v : Option A). unwrap_or v x) e
+
+pub figure_here : (t : Trace) (n : ℕ) (k : Link) → Some k ≡ option_map link_of (numbered_link t n) → IsThere t n k
+figure_here t n k is = by_place (place_of t n) refl is
+  where
+    by_view : (w : Option view.Link) → Some k ≡ option_map link_of w → has_number n w ≡ true → figure t n ≡ figure_on t n w → IsThere t n k
+    by_view None e f g = absurd cc
+    by_view (Some l) e f g = record {
+      link = l;
+      is = same_option k (link_of l) e;
+      number = eqb-true l.number n f;
+      figure = g ∙ ap (λ b. if b then Some (figure_by t l l.happened) else None) f;
+    }
+
+    by_place : (v : Option Attachment) → place_of t n ≡ v → Some k ≡ option_map link_of (link_on t v) → IsThere t n k
+    by_place None place e = absurd cc
+    by_place (Some a) place e =
+        let there : (numbered t n ≡ Some a) × (has_number n (view_of t a) ≡ true) = figure_there t n a place in
+        by_view (view_of t a) e there.1 (ap (figure_at t n) there.0)

@@ -1,0 +1,25 @@
+use Rattle.std.proofs.Common.{rules, ◌≡◌, ◌∙◌, sym, ap, true, false}
+use Rattle.router_trace.specs.Following.{is_sending}
+use Rattle.state_links.specs.declared.link.Link.{Link}
+use Rattle.state_messages.specs.Figures.{held, undecided, waiting}
+use Rattle.state_messages.proofs.Telling.{consumer_is, producer_is}
+use Rattle.state_messages.proofs.figures.tell_link.Goals as goal
+
+pub returns-then-is_consumer : goal.returns-then-is_consumer
+returns-then-is_consumer c = λ t l is number stand share known other actual last old e really agree.
+    let sending : is_sending l.happened ≡ true = sym (c.is_consumer.ensures l is) ∙ c.if-is_consumer.true in
+    let same : c.as_str-address.result.now ≡ c.args.link.now.address = search rules in
+    let waits : c.waiting.result ≡ waiting t c.args.number = c.waiting.ensures.count t stand in
+    let pending : c.undecided-undecided.result ≡ undecided t c.args.number = c.undecided-undecided.ensures.count t stand in
+    c.in_ok-offer.ensures.fits share known other actual last old
+    (e ∙ consumer_is t l c.args.number c.as_str-address.result.now c.free-free.result c.waiting.result c.undecided-undecided.result number sending
+    (same ∙ ap (λ (k : Link). k.address) is) waits pending (c.free-free.ensures l is)) really agree
+
+pub returns : goal.returns
+returns c = λ t l is number stand share known other actual last old e really agree.
+    let sending : is_sending l.happened ≡ false = sym (c.is_consumer.ensures l is) ∙ c.if-is_consumer.false in
+    let same : c.as_str-address.result.now ≡ c.args.link.now.address = search rules in
+    let kept : c.in_ok-held.held ≡ held t c.args.number = c.in_ok-held.ensures ∙ c.held.ensures.count t stand in
+    c.in_ok-want.ensures.fits share known other actual last old
+    (e ∙ producer_is t l c.args.number c.as_str-address.result.now c.in_ok-unused.unused c.in_ok-held.held number sending
+    (same ∙ ap (λ (k : Link). k.address) is) (c.in_ok-unused.ensures l is) kept) really agree

@@ -1,0 +1,59 @@
+-- What each link offers and wants, in a trace (AMQP 1.0 part 2, section 2.6.7): the free credit of consumers, the credit that producers have.
+use Rattle.std.specs.Prelude.{ℕ, Bool, ◌+◌, ◌-◌, ◌==◌, min, if◌then◌else◌, Option, Some, None}
+use Rattle.amqp_link.specs.declared.part.Delivery.{Delivery as Told}
+use Rattle.amqp_link.specs.Credit as credit
+use Rattle.amqp_link.specs.Receiving as receiving
+use Rattle.amqp_link.specs.Receiving.{Received}
+use Rattle.state_pools.specs.Sharing.{Figure, consumer, producer}
+use Rattle.router_trace.specs.declared.handle.Attachment.{Attachment}
+use Rattle.router_trace.specs.Trace.{Trace}
+use Rattle.router_trace.specs.Links.{Link, Happened, sends, receives, numbered}
+use Rattle.router_trace.specs.Deliveries.{bindings, delivery, waits_on, undecided_on, held_from}
+use Rattle.router_trace.specs.Following.{link_of}
+use Rattle.router_trace.specs.Numbers.{count_below}
+use Rattle.router_trace.specs.Settling.{told_first}
+
+-- the deliveries that wait on a consumer's link, those that are undecided there, and the undecided ones from a producer's link
+abbrev pub waiting : Trace → ℕ → ℕ
+waiting t number = count_below (bindings t + 1) (λ n. waits_on number (delivery t n))
+
+abbrev pub undecided : Trace → ℕ → ℕ
+undecided t number = count_below (bindings t + 1) (λ n. undecided_on number (delivery t n))
+
+abbrev pub held : Trace → ℕ → ℕ
+held t number = count_below (bindings t + 1) (λ n. held_from number (delivery t n))
+
+-- Free credit: the credit left less the waiting deliveries, at most 64 less the undecided ones; none while the link drains.
+abbrev pub free_of : Bool → ℕ → ℕ → ℕ → ℕ
+free_of drains left waits pending = if drains then 0 else min (left - waits) (64 - pending)
+
+abbrev pub free_credit : Trace → Link → credit.Link → ℕ
+free_credit t l list = free_of l.drains (credit.credit list) (waiting t l.number) (undecided t l.number)
+
+-- A delivery in the middle that isn't resumed has used its producer's credit, but is bound to no consumer yet: it counts as one unused credit.
+abbrev pub begun_credit : Option Told → ℕ
+begun_credit None = 0
+begun_credit (Some d) = if d.resume then 0 else 1
+
+abbrev pub unused_credit : Received → ℕ
+unused_credit list = receiving.unused list + begun_credit (told_first (receiving.middle list))
+
+abbrev pub unused_by : Happened → ℕ
+unused_by (sends list) = 0
+unused_by (receives list) = unused_credit list
+
+abbrev pub figure_by : Trace → Link → Happened → Figure
+figure_by t l (sends list) = consumer l.address (free_credit t l list) (undecided t l.number)
+figure_by t l (receives list) = producer l.address (unused_credit list) (held t l.number)
+
+-- the link of an attachment's number, while it is attached
+abbrev pub figure_on : Trace → ℕ → Option Link → Option Figure
+figure_on t number None = None
+figure_on t number (Some l) = if l.number == number then Some (figure_by t l l.happened) else None
+
+abbrev pub figure_at : Trace → ℕ → Option Attachment → Option Figure
+figure_at t number None = None
+figure_at t number (Some a) = figure_on t number (link_of t a)
+
+abbrev pub figure : Trace → ℕ → Option Figure
+figure t number = figure_at t number (numbered t number)

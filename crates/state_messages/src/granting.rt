@@ -1,0 +1,252 @@
+//! The choice of the consumer for a message, and the credit that producers are granted.
+ghost use Rattle.std.specs.Prelude.{◌≡◌, ◌++◌, ℕ, List, Option, Some, None, IfOk, IfNone, OnOk, is_some, option_and_then};
+ghost use Rattle.router_trace.specs.Trace.{Entry};
+ghost use Rattle.route_table.specs.declared.sections.Distribution.{Distribution};
+ghost use Rattle.router_trace.specs.Configuration.{distribution};
+ghost use Rattle.router_trace.specs.Following.{link_of};
+ghost use Rattle.router_trace.specs.Links.{Link as View, link, numbered};
+ghost use Rattle.state_links.specs.Ends.{link_of as link_of_view};
+ghost use Rattle.state_links.specs.Fits.{LinksFit};
+ghost use Rattle.state_pools.specs.Fits.{NoneTouched, PoolsFit};
+ghost use Rattle.state_pools.specs.Sharing.{Figure};
+ghost use Rattle.route_credit.specs.Pool.{by_id};
+ghost use Rattle.state_messages.specs.Figures.{figure};
+ghost use Rattle.state_messages.specs.Fits.{NotedFit, PassingFit, Untouched};
+ghost use Rattle.state_messages.specs.Passing.{choice_of, consumer_of, grant_at, grant_by, grants, grants_on, last_behind, last_chosen, passing, with_bound};
+
+use crate::durable::lasts;
+use crate::figures::tell;
+use crate::grant::LinkGrant;
+use crate::passing::Passing;
+use book_model::RowNumber;
+use bytes::Bytes;
+use route_credit::ProducerId;
+use router_trace::{Attachment, Binding, ConnectionId, LinkState, Origin};
+use state_links::{Link, Links};
+use state_pools::Pools;
+use std::alloc::{AllocError, Global};
+
+impl Passing {
+    /// A link that may have changed since the pools were last told.
+    fn touched(&self) -> Option<u64>
+        ensures { IfNone result (Untouched self.now) }
+    {
+        match self.pools.touched() {
+            Some(number) => Some(number),
+            None => match self.links.touched() {
+                Some(number) => Some(number),
+                None => self.deliveries.touched(),
+            },
+        }
+    }
+
+    /// Tells the pools what a link has now.
+    fn tell(&mut self, number: u64) -> Result<(), AllocError>
+        ensures { OnOk result ((t : List Entry) → PassingFit self.old t → PassingFit self.new t) }
+    {
+        tell(&mut self.pools, &self.links, &self.deliveries, number)?;
+        self.links.forget_touched(number);
+        self.deliveries.forget_touched(number);
+        Ok(())
+    }
+
+    /// Tells the pools what all links have now.
+    fn tell_all(&mut self) -> Result<(), AllocError>
+        ensures fits { OnOk result ((t : List Entry) → PassingFit self.old t → PassingFit self.new t) }
+        ensures exact { OnOk result (Untouched self.new) }
+    {
+        for _turn in 0..u64::MAX {
+            match self.touched() {
+                None => return Ok(()),
+                Some(number) => self.tell(number)?,
+            }
+        }
+        Err(AllocError)
+    }
+
+    /// Binds a message of a producer's link to the chosen consumer of its address; returns whether there is one. A durable message comes with the
+    /// number of its row. Fails if memory is refused, and if no binding number is left.
+    pub fn pass(
+        &mut self,
+        from: Attachment,
+        origin: Option<Origin>,
+        row: Option<RowNumber>,
+        format: u32,
+        payload: Bytes,
+    ) -> Result<bool, AllocError>
+        ensures chosen { IfOk result (λ chosen. (t : List Entry) → PassingFit self.old t → chosen ≡ is_some (consumer_of t (link_of t from))) }
+        ensures fits { OnOk result ((t : List Entry) → PassingFit self.old t → PassingFit self.new (with_bound (passing t from origin row format payload) t)) }
+    {
+        self.tell_all()?;
+        match self.choose(from) {
+            None => {
+                drop(payload);
+                Ok(false)
+            }
+            Some(consumer) => {
+                let lasting = lasts(&self.links, consumer);
+                self.deliveries.bind(Binding {
+                    consumer,
+                    origin,
+                    row,
+                    lasting,
+                    format,
+                    payload,
+                })?;
+                self.claims.bind(origin)?;
+                Ok(true)
+            }
+        }
+    }
+
+    /// The consumer that [`Passing::pass`] would choose now for a message of the producer's link on a handle of the router; nothing is noted, so
+    /// asked again it answers the same.
+    pub fn consumer_for(
+        &mut self,
+        conn: u64,
+        own: u16,
+        handle: u32,
+    ) -> Result<Option<Attachment>, AllocError>
+        ensures consumer { IfOk result (λ at. (t : List Entry) → PassingFit self.old t → at ≡ consumer_of t (link t conn own handle)) }
+        ensures fits { OnOk result ((t : List Entry) → PassingFit self.old t → PassingFit self.new t) }
+    {
+        self.tell_all()?;
+        Ok(self.peek(conn, own, handle))
+    }
+
+    /// The same after the pools were told of all links.
+    fn peek(&self, conn: u64, own: u16, handle: u32) -> Option<Attachment>
+        ensures { (t : List Entry) → Untouched self.now → PassingFit self.now t → result ≡ consumer_of t (link t conn own handle) }
+    {
+        let place = Attachment {
+            number: 0,
+            conn: ConnectionId(conn),
+            channel: own,
+            handle,
+        };
+        match self.links.link(place) {
+            None => None,
+            Some(link) => peek_of(&self.pools, &self.links, link.address.as_str()),
+        }
+    }
+
+    /// The consumer chosen for a message of a producer's link, after the pools were told of all links; it is noted as the last one.
+    fn choose(&mut self, from: Attachment) -> Option<Attachment>
+        ensures chosen { (t : List Entry) → Untouched self.old → PassingFit self.old t → result ≡ consumer_of t (link_of t from) }
+        ensures fits { (t : List Entry) → Untouched self.old → PassingFit self.old t → NotedFit self.new t (last_behind t result) }
+    {
+        match self.links.link(from) {
+            None => None,
+            Some(link) => choose_of(&mut self.pools, &self.links, link.address.as_str()),
+        }
+    }
+
+    /// The grants that the producers of an address are due; empty if no producer is due any.
+    pub fn grants(&mut self) -> Result<Vec<LinkGrant>, AllocError>
+        ensures due { IfOk result (λ due. (t : List Entry) → PassingFit self.old t → due.items ≡ grants t) }
+        ensures fits { OnOk result ((t : List Entry) → PassingFit self.old t → PassingFit self.new t) }
+    {
+        self.tell_all()?;
+        let due = grants_due(self.alloc, &mut self.pools, &self.links)?;
+        Ok(due)
+    }
+}
+
+/// The consumer chosen for an address, after the pools were told of all links; it is noted as the last one.
+fn choose_of(pools: &mut Pools, links: &Links, address: &str) -> Option<Attachment>
+    ensures chosen { (t : List Entry) → LinksFit links.now t → NoneTouched pools.old → PoolsFit pools.old (distribution t) (figure t) (figure t) (last_chosen t)
+        → result ≡ option_and_then (numbered t) (choice_of t address.now) }
+    ensures fits { (t : List Entry) → LinksFit links.now t → NoneTouched pools.old → PoolsFit pools.old (distribution t) (figure t) (figure t) (last_chosen t)
+        → PoolsFit pools.new (distribution t) (figure t) (figure t) (last_behind t result) }
+{
+    match pools.choose(address) {
+        None => None,
+        Some(chosen) => links.place_of(chosen.0),
+    }
+}
+
+/// The consumer that would be chosen for an address, after the pools were told of all links.
+fn peek_of(pools: &Pools, links: &Links, address: &str) -> Option<Attachment>
+    ensures { (t : List Entry) → LinksFit links.now t → NoneTouched pools.now → PoolsFit pools.now (distribution t) (figure t) (figure t) (last_chosen t)
+        → result ≡ option_and_then (numbered t) (choice_of t address.now) }
+{
+    match pools.peek(address) {
+        None => None,
+        Some(number) => links.place_of(number),
+    }
+}
+
+/// The grants due to the producers of the first address that has any, after the pools were told of all links.
+fn grants_due(alloc: Global, pools: &mut Pools, links: &Links) -> Result<Vec<LinkGrant>, AllocError>
+    ensures due { IfOk result (λ due. (t : List Entry) → LinksFit links.now t → NoneTouched pools.old → PoolsFit pools.old (distribution t) (figure t) (figure t) (last_chosen t) → due.items ≡ grants t) }
+    ensures fits { OnOk result ((share : List ℕ → Distribution) (known actual : ℕ → Option Figure) (last : List ℕ → ℕ) → PoolsFit pools.old share known actual last → PoolsFit pools.new share known actual last) }
+{
+    match pools.grants()? {
+        None => Ok(Vec::new(alloc)),
+        Some(grants) => {
+            let told = told(alloc, links, grants.sums.as_slice())?;
+            Ok(told)
+        }
+    }
+}
+
+/// These grants, with the state of each link.
+fn told(
+    alloc: Global,
+    links: &Links,
+    sums: &[(ProducerId, u32)],
+) -> Result<Vec<LinkGrant>, AllocError>
+    ensures { IfOk result (λ told. (t : List Entry) → LinksFit links.now t → told.items ≡ grants_on t (by_id sums.now)) }
+{
+    let mut told = Vec::new(alloc);
+    for sum in sums {
+        add_grant(&mut told, links, sum.0.0, sum.1)?;
+    }
+    Ok(told)
+}
+
+/// Adds the grant of this credit to a producer.
+fn add_grant(
+    told: &mut Vec<LinkGrant>,
+    links: &Links,
+    number: u64,
+    amount: u32,
+) -> Result<(), AllocError>
+    ensures { OnOk result ((t : List Entry) → LinksFit links.now t → told.new.items ≡ told.old.items ++ grant_at t number amount (numbered t number)) }
+{
+    match links.place_of(number) {
+        None => {}
+        Some(at) => match links.link(at) {
+            None => {}
+            Some(link) => add_grant_on(told, at, link, amount)?,
+        },
+    }
+    Ok(())
+}
+
+/// Adds the grant of this credit to the producer of a link; nothing if the router is the sender on it.
+fn add_grant_on(
+    told: &mut Vec<LinkGrant>,
+    at: Attachment,
+    link: &Link,
+    amount: u32,
+) -> Result<(), AllocError>
+    ensures { OnOk result ((l : View) → link.now ≡ link_of_view l → told.new.items ≡ told.old.items ++ grant_by at amount l.happened) }
+{
+    if link.is_consumer() {
+        return Ok(());
+    }
+    match link.unused().checked_add(amount) {
+        None => Err(AllocError),
+        Some(credit) => {
+            let state = LinkState {
+                handle: at.handle,
+                count: link.count(),
+                credit,
+                drain: false,
+            };
+            told.push(LinkGrant { at, state })?;
+            Ok(())
+        }
+    }
+}

@@ -1,0 +1,161 @@
+//! Pools by address.
+ghost use Rattle.std.specs.Prelude.{◌≡◌, ◌==◌, ℕ, List, [], Bool, true, false, if◌then◌else◌, None, Some, OnOk, IfOk, IfSome, option_map, is_some};
+ghost use Rattle.route_table.specs.declared.sections.Distribution.{Distribution};
+ghost use Rattle.route_table.specs.Places.{distribution_of};
+ghost use Rattle.route_credit.specs.Granting.{all_granted, choice, grants_of};
+ghost use Rattle.route_credit.specs.Pool.{by_id, chose, has_no_links, no_links, offered, wanted, without_consumer, without_producer};
+ghost use Rattle.state_collections.specs.Slots.{in_slots};
+ghost use Rattle.state_pools.specs.Addresses.{rested, with_pool, without};
+ghost use Rattle.state_pools.specs.Digest.{digest_of};
+ghost use Rattle.state_pools.specs.Fits.{has_no_pools, in_row, pool_in, row_of};
+
+use crate::digest::digest;
+use crate::row::Row;
+use route_credit::{ConsumerId, ProducerId};
+use route_table::Table;
+use state_collections::Slots;
+use std::alloc::{AllocError, Global};
+
+/// So many places stand for rows, each for those of the digests whose remainder it is.
+const PLACES: usize = 1024;
+
+/// Pools by address: first by the address's digest, then by its bytes. So a look-up compares bytes about once, and addresses that were
+/// chosen to have one digest cost no more than a map by bytes does. A pool without links is removed, and a row without pools.
+/// What is told of a link again and again is told with the digest of its address.
+#[derive(Drop)]
+pub(crate) struct ByAddress {
+    alloc: Global,
+    rows: Slots<Row>,
+}
+
+impl ByAddress {
+    pub(crate) fn new(alloc: Global) -> ByAddress
+        ensures { (share : List ℕ → Distribution) (a : List ℕ) → pool_in share result a ≡ no_links (share a) }
+    {
+        ByAddress {
+            alloc,
+            rows: Slots::new(alloc, PLACES),
+        }
+    }
+
+    /// Puts the row of a digest.
+    fn put(&mut self, digest: u64, row: Row) -> Result<(), AllocError>
+        ensures { OnOk result ((d : ℕ) → in_slots self.new.rows d ≡ (if digest == d then Some row else in_slots self.old.rows d)) }
+    {
+        let _ = self.rows.insert(digest, row)?;
+        Ok(())
+    }
+
+    /// Sets what a consumer offers to an address, whose pool is shared as this table says. It is no producer there.
+    /// Returns whether the address may have grants then.
+    #[inline]
+    pub(crate) fn offer(
+        &mut self,
+        table: &Table,
+        digest: u64,
+        address: &str,
+        number: u64,
+        free: u64,
+        undecided: u64,
+    ) -> Result<bool, AllocError>
+        requires { digest ≡ digest_of address.now }
+        ensures quiet { IfOk result (λ may. may ≡ false → (share : List ℕ → Distribution) → grants_of (pool_in share self.new address.now) ≡ []) }
+        ensures changed { OnOk result ((share : List ℕ → Distribution) → distribution_of table.now address.now ≡ share address.now → (a : List ℕ) → pool_in share self.new a ≡ with_pool (pool_in share self.old) address.now (λ pool. offered (without_producer pool number) number free undecided) a) }
+    {
+        if let Some(row) = self.rows.get_mut(digest) {
+            return row.offer(table, address, number, free, undecided);
+        }
+        let mut row = Row::new(self.alloc);
+        row.offer(table, address, number, free, undecided)?;
+        self.put(digest, row)?;
+        Ok(true)
+    }
+
+    /// Sets what a producer wants of an address, whose pool is shared as this table says. It is no consumer there.
+    /// Returns whether the address may have grants then.
+    #[inline]
+    pub(crate) fn want(
+        &mut self,
+        table: &Table,
+        digest: u64,
+        address: &str,
+        number: u64,
+        unused: u32,
+        held: u32,
+    ) -> Result<bool, AllocError>
+        requires { digest ≡ digest_of address.now }
+        ensures quiet { IfOk result (λ may. may ≡ false → (share : List ℕ → Distribution) → grants_of (pool_in share self.new address.now) ≡ []) }
+        ensures changed { OnOk result ((share : List ℕ → Distribution) → distribution_of table.now address.now ≡ share address.now → (a : List ℕ) → pool_in share self.new a ≡ with_pool (pool_in share self.old) address.now (λ pool. wanted (without_consumer pool number) number unused 0 held) a) }
+    {
+        if let Some(row) = self.rows.get_mut(digest) {
+            return row.want(table, address, number, unused, held);
+        }
+        let mut row = Row::new(self.alloc);
+        row.want(table, address, number, unused, held)?;
+        self.put(digest, row)?;
+        Ok(true)
+    }
+
+    /// Removes a link from the pool of an address.
+    pub(crate) fn leave(&mut self, digest: u64, address: &[u8], number: u64)
+        requires { digest ≡ digest_of address.now }
+        ensures { (share : List ℕ → Distribution) (a : List ℕ) → pool_in share self.new a ≡ with_pool (pool_in share self.old) address.now (λ pool. without pool number) a }
+    {
+        if let Some(row) = self.rows.get_mut(digest) {
+            row.leave(address, number);
+        }
+    }
+
+    /// Removes the pool of an address if it has no links, and its row if no other pool is there.
+    pub(crate) fn forget(&mut self, digest: u64, address: &[u8])
+        requires { digest ≡ digest_of address.now }
+        ensures rested { (share : List ℕ → Distribution) → (pool_in share self.old address.now).distribution ≡ share address.now → (a : List ℕ) → pool_in share self.new a ≡ with_pool (pool_in share self.old) address.now rested a }
+        ensures gone { (share : List ℕ → Distribution) → has_no_links (pool_in share self.old address.now) ≡ true → is_some (in_row (row_of self.new address.now) address.now) ≡ false }
+        ensures swept { IfSome (row_of self.new address.now) (λ row. has_no_pools row ≡ false) }
+    {
+        if let Some(row) = self.rows.get_mut(digest) {
+            row.forget(address);
+            if row.is_empty() {
+                let _ = self.rows.remove(digest);
+            }
+        }
+    }
+
+    /// The consumer that would be chosen for the next delivery of an address.
+    #[inline]
+    pub(crate) fn peek(&self, address: &[u8]) -> Option<ConsumerId>
+        ensures { (share : List ℕ → Distribution) → option_map (λ c. c.0) result ≡ choice (pool_in share self.now address.now) }
+    {
+        let place = digest(address);
+        match self.rows.get(place) {
+            None => None,
+            Some(row) => row.peek(address),
+        }
+    }
+
+    /// Chooses the consumer of the next delivery of an address.
+    #[inline]
+    pub(crate) fn choose(&mut self, address: &[u8]) -> Option<ConsumerId>
+        ensures chosen { (share : List ℕ → Distribution) → option_map (λ c. c.0) result ≡ choice (pool_in share self.old address.now) }
+        ensures noted { (share : List ℕ → Distribution) (a : List ℕ) → pool_in share self.new a ≡ with_pool (pool_in share self.old) address.now (λ pool. chose pool (option_map (λ c. c.0) result)) a }
+    {
+        let place = digest(address);
+        match self.rows.get_mut(place) {
+            None => None,
+            Some(row) => row.choose(address),
+        }
+    }
+
+    /// The grants of an address.
+    #[inline]
+    pub(crate) fn grants(&mut self, address: &[u8]) -> Result<Vec<(ProducerId, u32)>, AllocError>
+        ensures sums { IfOk result (λ sums. (share : List ℕ → Distribution) → by_id sums.items ≡ grants_of (pool_in share self.old address.now)) }
+        ensures filled { OnOk result ((share : List ℕ → Distribution) (a : List ℕ) → pool_in share self.new a ≡ with_pool (pool_in share self.old) address.now all_granted a) }
+    {
+        let place = digest(address);
+        match self.rows.get_mut(place) {
+            None => Ok(Vec::new(self.alloc)),
+            Some(row) => row.grants(address),
+        }
+    }
+}

@@ -1,0 +1,16 @@
+-- What holds in every trace of the router holds of lists of events and of scripts of bytes: they have such traces.
+use Rattle.router_trace.specs.Trace.{Trace, Beginning}
+use Rattle.router_core.proofs.Moves.{run_is_trace}
+use Rattle.router_play.specs.Script.{new_router}
+use Rattle.router_play.proofs.PlayMoves.{play_is_trace}
+use Rattle.theorems.specs.Always.{Always, AlwaysFrom, InTraces, InTracesFrom, InScripts}
+
+pub holds_always : (P : Trace → Type 0) → InTraces P → Always P
+holds_always P all = (all, λ id g events xs u run. all id g u (run_is_trace id g events xs u run))
+
+pub holds_from : (P : Beginning → Trace → Type 0) → InTracesFrom P → AlwaysFrom P
+holds_from P all = (all, λ id g events xs u run. all id g u (run_is_trace id g events xs u run))
+
+pub holds_in_scripts : (P : Trace → Type 0) → InTraces P → InScripts P
+holds_in_scripts P all =
+    λ config steps u plays. all config.router_id (new_router config) u.trace (play_is_trace config steps u plays)

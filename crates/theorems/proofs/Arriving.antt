@@ -1,0 +1,288 @@
+-- What a transfer that is taken causes: a complete message is bound, or released.
+use Rattle.std.proofs.Common.{◌≡◌, ◌∙◌, sym, ap, refl, subst, inl, inr, ℕ, Bool, true, false, not, List, [], ◌∷◌, ◌++◌, length}
+use Rattle.std.specs.Prelude.{Option, Some, None, option_map, if◌then◌else◌, nat_lt, unwrap_or}
+use Rattle.amqp_model.specs.PerfSpelling.{state_spelling}
+use Rattle.amqp_model.specs.declared.perf.Perf.TheVariants as perf
+use Rattle.amqp_model.specs.declared.perf.Role.TheVariants.{Receiver}
+use Rattle.amqp_model.specs.declared.perf.Transfer.{Transfer}
+use Rattle.amqp_model.specs.declared.state.DeliveryState.{DeliveryState}
+use Rattle.amqp_model.specs.declared.state.DeliveryState.TheVariants as state
+use Rattle.amqp_model.specs.declared.item.Item.TheVariants as item
+use Rattle.amqp_link.specs.declared.part.Delivery.{Delivery as Told}
+use Rattle.amqp_link.specs.declared.part.Part.{Part}
+use Rattle.amqp_link.specs.declared.part.Part.TheVariants as part
+use Rattle.amqp_link.specs.Deliveries.{Frame, frame, bytes, delivery, is_too_large}
+use Rattle.amqp_link.specs.Receiving.{Received, middle, given, is_beyond}
+use Rattle.book_model.specs.declared.row.RowNumber.{RowNumber}
+use Rattle.router_trace.specs.declared.binding.Binding.{Binding}
+use Rattle.router_trace.specs.declared.binding.Origin.{Origin}
+use Rattle.router_trace.specs.declared.condition.Condition.TheVariants.{MessageSizeExceeded, ResourceLimitExceeded}
+use Rattle.router_trace.specs.declared.event.ConnectionId.{ConnectionId}
+use Rattle.router_trace.specs.declared.event.Event.TheVariants as event
+use Rattle.router_trace.specs.declared.handle.Attachment.{Attachment}
+use Rattle.router_trace.specs.Trace.{Entry, Step, Did, Out, Took, Bound, Booked, Began, goes, each_to}
+use Rattle.router_trace.specs.DeliveryFrames.{kept_outcome, outcome_item}
+use Rattle.router_trace.specs.Sessions.{theirs}
+use Rattle.router_trace.specs.Links.{Link, LinkPlace, Happened, link, link_place}
+use Rattle.router_trace.specs.Settling.{is_claimed_on, unbound, part_on, part_by, part_of}
+use Rattle.state_messages.specs.Passing.{consumer_of, binding_to, with_bound}
+use Rattle.reply_transfers.specs.Transfers.{claimed_id, from_link, origin_of, lasts_on, may_pass, fresh_bound, whole_put, whole_bound, part_put, part_bound, let_go, released_by, released, unbound_put, ignored_put}
+use Rattle.router_reply.specs.Replies.{row_found}
+use Rattle.theorems.specs.Came.{Handled, just_handled, bound_since, CameWhole, ComesFrom, HasRowOn}
+use Rattle.theorems.specs.Told.{IsUnbound}
+use Rattle.state_connections.proofs.Lists.{by_test}
+use Rattle.theorems.proofs.Tests.{some_same, none_not_some}
+use Rattle.theorems.proofs.Sound.{Sound, Lawful, AllLawful, quiet_lawful, goes_sound, bound_sound, quiet_sound, quiet_to}
+use Rattle.theorems.proofs.Quiet.{let_go_quiet, ignored_quiet}
+use Rattle.theorems.proofs.Transfers.{IsOn}
+
+-- a complete message
+
+pub record IsWhole (f : Frame) (list : Received) (d : Told) (payload : List ℕ) : Type 0 where
+  pub more : f.transfer.more ≡ false
+  pub aborted : f.transfer.aborted ≡ false
+  pub message : d ≡ delivery f (middle list)
+  pub joined : payload ≡ bytes (middle list) ++ f.payload
+
+given_whole : (f : Frame) (list : Received) (d : Told) (payload : List ℕ) → given f list ≡ part.Whole d payload → IsWhole f list d payload
+given_whole f list d payload h =
+    let all = by (is_beyond list) f.transfer.aborted (is_too_large (f ∷ middle list)) f.transfer.more h
+    in record { more = all.1; aborted = all.0; message = all.2; joined = all.3 }
+  where
+    by : (beyond aborted large more : Bool)
+        → (if beyond then part.BeyondCredit
+        else (if aborted then part.Aborted else if large then part.TooLarge else if more then part.More
+        else part.Whole (delivery f (middle list)) (bytes (f ∷ middle list)))) ≡ part.Whole d payload
+        → (aborted ≡ false) × (more ≡ false) × (d ≡ delivery f (middle list)) × (payload ≡ bytes (middle list) ++ f.payload)
+    by true aborted large more h = absurd cc
+    by false true large more h = absurd cc
+    by false false true more h = absurd cc
+    by false false false true h = absurd cc
+    by false false false false h = (refl, refl, cc, cc)
+
+-- ... and the trace that its last frame found
+pub record CameAt (t after : List Entry) (c own handle : ℕ) (d : Told) (payload : List ℕ) : Type 0 where
+  pub came : CameWhole after c own handle d payload
+  pub at : came.handled.found ≡ t
+
+pub came_whole : (t after : List Entry) (s : Step) (conn : ConnectionId) (sasl : Bool) (channel : ℕ) (x : Transfer) (carried : List ℕ) (own handle : ℕ) (d : Told) (payload : List ℕ)
+    → s.event ≡ event.Item conn (item.Frame sasl channel (perf.Transfer x) carried) → just_handled after ≡ Some (record { step = s; found = t })
+    → IsOn sasl (theirs t conn.0 channel) (link_place t conn.0 own x.handle) own handle
+    → part_of (item.Frame sasl channel (perf.Transfer x) carried) (link_place t conn.0 own) ≡ Some (part.Whole d payload)
+    → CameAt t after conn.0 own handle d payload
+came_whole t after s conn sasl channel x carried own handle d payload came just here is =
+    let plain : part_on x carried (link_place t conn.0 own x.handle) ≡ Some (part.Whole d payload)
+    = subst (λ (b : Bool). (if b then None else part_on x carried (link_place t conn.0 own x.handle)) ≡ Some (part.Whole d payload)) here.plain is
+    in let at : part_by x carried here.place.happened ≡ Some (part.Whole d payload)
+    = subst (λ (at : LinkPlace). part_on x carried at ≡ Some (part.Whole d payload)) here.on_handle plain
+    in let on_list : Some (given (frame x carried) here.happened) ≡ Some (part.Whole d payload)
+    = subst (λ (w : Happened). part_by x carried w ≡ Some (part.Whole d payload)) here.receiving at
+    in let whole = given_whole (frame x carried) here.happened d payload (some_same on_list)
+    in record {
+      came = record {
+        handled = record { step = s; found = t };
+        conn = conn;
+        channel = channel;
+        transfer = x;
+        carried = carried;
+        place = here.place;
+        happened = here.happened;
+        just = just;
+        came = subst (λ (b : Bool). s.event ≡ event.Item conn (item.Frame b channel (perf.Transfer x) carried)) here.plain came;
+        on_connection = refl;
+        on_session = here.session;
+        on_handle = here.on_handle;
+        receiving = here.receiving;
+        last = whole.more;
+        not_aborted = whole.aborted;
+        message_is = whole.message;
+        payload_is = whole.joined;
+      };
+      at = refl;
+    }
+
+-- its id, if its producer hasn't settled it
+
+claimed_is : (after : List Entry) (c own handle : ℕ) (v : Option ℕ) (id : ℕ) → claimed_id after c own handle v ≡ Some id → (v ≡ Some id) × (is_claimed_on after c own handle id ≡ true)
+claimed_is after c own handle None id h = absurd cc
+claimed_is after c own handle (Some k) id h =
+    by_test (is_claimed_on after c own handle k)
+    (λ e. let same : k ≡ id = some_same (rw e at h) in (ap (λ (n : ℕ). Some n) same, subst (λ (n : ℕ). is_claimed_on after c own handle n ≡ true) same e))
+    (λ e. absurd (none_some (rw e at h)))
+  where
+    none_some : {n : ℕ} → None ≡ Some n → ⊥
+    none_some e = cc
+
+-- released
+
+kept_released : kept_outcome state.Released ≡ state.Released
+kept_released = by (nat_lt 400 (length (state_spelling state.Released)))
+  where
+    by : (b : Bool) → (if b then state.Released else state.Released) ≡ state.Released
+    by true = refl
+    by false = refl
+
+-- a disposition that releases it
+releases : (after : List Entry) (c own handle : ℕ) (d : Told) (payload : List ℕ) (id : ℕ) (durable : Bool) (came : CameWhole after c own handle d payload) → d.resume ≡ false
+    → claimed_id after c own handle d.id ≡ Some id → lasts_on (link after c own handle) ≡ durable → IsUnbound after (link after c own handle) (row_found came.handled.found)
+    → Lawful after c (outcome_item own Receiver id (not durable) state.Released)
+releases after c own handle d payload id durable came fresh claimed lasts none =
+    let is = claimed_is after c own handle d.id id claimed
+    in (
+      tt,
+      record {
+        one = refl;
+        of = inr (record {
+          handle = handle;
+          message = d;
+          payload = payload;
+          came = came;
+          not_resumed = fresh;
+          its_id = is.0;
+          unsettled = is.1;
+          unbound = none;
+          told = ap (λ (s : DeliveryState). Some s) kept_released;
+          settled = sym (ap not lasts);
+        });
+      },
+    )
+
+released_lawful : (after : List Entry) (c own handle : ℕ) (d : Told) (payload : List ℕ) (v : Option ℕ) (came : CameWhole after c own handle d payload) → d.resume ≡ false
+    → claimed_id after c own handle d.id ≡ v → IsUnbound after (link after c own handle) (row_found came.handled.found) → AllLawful after (each_to c (released after c own handle v))
+released_lawful after c own handle d payload None came fresh claimed none = tt
+released_lawful after c own handle d payload (Some id) came fresh claimed none = by (lasts_on (link after c own handle)) refl
+  where
+    by : (durable : Bool) → lasts_on (link after c own handle) ≡ durable → AllLawful after (each_to c (released_by after c own handle durable id))
+    by false lasts = (releases after c own handle d payload id false came fresh claimed lasts none, tt)
+    by true lasts =
+        by_test (nat_lt 1024 (unbound after c own handle))
+        (λ e. rw e (quiet_lawful (each_to c (let_go after c own handle ResourceLimitExceeded)) after (quiet_to c (let_go after c own handle ResourceLimitExceeded) (let_go_quiet after c own handle ResourceLimitExceeded))))
+        (λ e. rw e (releases after c own handle d payload id true came fresh claimed lasts none, tt))
+
+-- bound
+
+from_is : (after : List Entry) (c own handle : ℕ) (l : Link) (d : Told) (v : Option ℕ) → claimed_id after c own handle d.id ≡ v
+    → ComesFrom (option_map (origin_of (from_link c own handle l)) v) after c own handle l d
+from_is after c own handle l d None claimed = claimed
+from_is after c own handle l d (Some id) claimed =
+    let is = claimed_is after c own handle d.id id claimed in (refl, is.0, is.1)
+
+none_since : (t : List Entry) (h : Handled) → just_handled t ≡ Some h → bound_since t ≡ 0
+none_since [] h just = refl
+none_since (Did s ∷ t) h just = refl
+none_since (Out c i ∷ t) h just = none_since t h just
+none_since (Took c k ∷ t) h just = absurd (none_not_some just)
+none_since (Bound b ∷ t) h just = absurd (none_not_some just)
+none_since (Booked acts full ∷ t) h just = absurd (none_not_some just)
+none_since (Began g ∷ t) h just = absurd (none_not_some just)
+
+-- whether it may be bound
+
+not_passed : (durable : Bool) (v : Option ℕ) (row : Option RowNumber) → may_pass durable v row ≡ false → (durable ≡ true) × (row ≡ None)
+not_passed true (Some id) None e = (refl, refl)
+not_passed true (Some id) (Some r) e = absurd cc
+not_passed false (Some id) row e = absurd cc
+not_passed durable None row e = absurd cc
+
+has_row : (durable : Bool) (f : ℕ → Origin) (v : Option ℕ) (row : Option RowNumber) → may_pass durable v row ≡ true → HasRowOn durable (option_map f v) row
+has_row true f (Some id) row e = e
+has_row false f (Some id) row e = tt
+has_row true f None row e = tt
+has_row false f None row e = tt
+
+-- a complete message, whether its link is attached or not, by whether it may be bound and the consumer chosen for it
+
+abbrev pub bound_on : List Entry → ℕ → ℕ → ℕ → Told → Option RowNumber → List ℕ → Option Link → Bool → Option Attachment → Option Binding
+bound_on after c own handle d row payload None passes x = None
+bound_on after c own handle d row payload (Some l) passes x =
+    if passes then option_map (binding_to after (option_map (origin_of (from_link c own handle l)) (claimed_id after c own handle d.id)) row (unwrap_or d.format 0) payload) x else None
+
+abbrev WholeSound : List Entry → ℕ → ℕ → ℕ → Told → Option RowNumber → List ℕ → Option Link → Bool → Bool → Option Attachment → Type 0
+WholeSound after c own handle d row payload v resumed passes x =
+    Sound (goes (each_to c (if resumed then ignored_put after c own handle (claimed_id after c own handle d.id)
+    else unbound_put after c own handle (claimed_id after c own handle d.id) (if passes then x else None)))
+    (with_bound (if resumed then None else bound_on after c own handle d row payload v passes x) after))
+
+whole_cases : (after : List Entry) (c own handle : ℕ) (d : Told) (row : Option RowNumber) (payload : List ℕ) (v : Option Link) (resumed passes : Bool) (x : Option Attachment)
+    → Sound after → (came : CameWhole after c own handle d payload) → row ≡ row_found came.handled.found → link after c own handle ≡ v → d.resume ≡ resumed
+    → may_pass (lasts_on (link after c own handle)) (claimed_id after c own handle d.id) row ≡ passes → consumer_of after (link after c own handle) ≡ x
+    → WholeSound after c own handle d row payload v resumed passes x
+whole_cases after c own handle d row payload v resumed passes x sound came its at fresh may chosen = by v resumed passes x at fresh may chosen
+  where
+    claimed : Option ℕ
+    claimed = claimed_id after c own handle d.id
+
+    let_off : d.resume ≡ false → IsUnbound after (link after c own handle) (row_found came.handled.found) → Sound (goes (each_to c (released after c own handle claimed)) after)
+    let_off fresh none = goes_sound (each_to c (released after c own handle claimed)) after (released_lawful after c own handle d payload claimed came fresh refl none) sound
+
+    no_row : may_pass (lasts_on (link after c own handle)) claimed row ≡ false → IsUnbound after (link after c own handle) (row_found came.handled.found)
+    no_row may = let is = not_passed (lasts_on (link after c own handle)) claimed row may in inr (is.0, sym its ∙ is.1)
+
+    passed : (l : Link) (a : Attachment) → link after c own handle ≡ Some l → d.resume ≡ false → may_pass (lasts_on (link after c own handle)) claimed row ≡ true
+        → consumer_of after (link after c own handle) ≡ Some a
+        → Sound (Bound (binding_to after (option_map (origin_of (from_link c own handle l)) claimed) row (unwrap_or d.format 0) payload a) ∷ after)
+    passed l a at fresh may chosen =
+        bound_sound (binding_to after (option_map (origin_of (from_link c own handle l)) claimed) row (unwrap_or d.format 0) payload a) after
+        (record {
+          conn = c;
+          own = own;
+          handle = handle;
+          message = d;
+          came = came;
+          once = none_since after came.handled came.just;
+          not_resumed = fresh;
+          row = its;
+          format = refl;
+          producer = l;
+          attached = at;
+          chosen = ap (consumer_of after) (sym at) ∙ chosen;
+          from = from_is after c own handle l d claimed refl;
+          has_row = has_row (lasts_on (Some l)) (origin_of (from_link c own handle l)) claimed row (ap (λ (w : Option Link). may_pass (lasts_on w) claimed row) (sym at) ∙ may);
+          lasting = refl;
+        }) sound
+
+    by : (v : Option Link) (resumed passes : Bool) (x : Option Attachment) → link after c own handle ≡ v → d.resume ≡ resumed
+        → may_pass (lasts_on (link after c own handle)) claimed row ≡ passes → consumer_of after (link after c own handle) ≡ x
+        → WholeSound after c own handle d row payload v resumed passes x
+    by v true passes x at fresh may chosen = quiet_sound (each_to c (ignored_put after c own handle claimed)) after (quiet_to c (ignored_put after c own handle claimed) (ignored_quiet after c own handle claimed)) sound
+    by None false false x at fresh may chosen = let_off fresh (no_row may)
+    by (Some l) false false x at fresh may chosen = let_off fresh (no_row may)
+    by None false true None at fresh may none = let_off fresh (inl none)
+    by (Some l) false true None at fresh may none = let_off fresh (inl none)
+    by None false true (Some a) at fresh may chosen = absurd (none_not_some (ap (consumer_of after) (sym at) ∙ chosen))
+    by (Some l) false true (Some a) at fresh may chosen = passed l a at fresh may chosen
+
+-- what is bound, on the link that stands there
+pub bound_there : (after : List Entry) (c own handle : ℕ) (d : Told) (row : Option RowNumber) (payload : List ℕ) (v : Option Link) → link after c own handle ≡ v
+    → fresh_bound after c own handle d row payload v
+    ≡ bound_on after c own handle d row payload v (may_pass (lasts_on (link after c own handle)) (claimed_id after c own handle d.id) row) (consumer_of after (link after c own handle))
+bound_there after c own handle d row payload None at = refl
+bound_there after c own handle d row payload (Some l) at = refl
+
+whole_sound : (after : List Entry) (c own handle : ℕ) (d : Told) (row : Option RowNumber) (payload : List ℕ) → Sound after → (came : CameWhole after c own handle d payload)
+    → row ≡ row_found came.handled.found
+    → Sound (goes (each_to c (whole_put after c own handle d row)) (with_bound (whole_bound after c own handle d row payload) after))
+whole_sound after c own handle d row payload sound came its =
+    subst (λ (b : Option Binding). Sound (goes (each_to c (whole_put after c own handle d row)) (with_bound (if d.resume then None else b) after)))
+    (sym (bound_there after c own handle d row payload (link after c own handle) refl))
+    (whole_cases after c own handle d row payload (link after c own handle) d.resume (may_pass (lasts_on (link after c own handle)) (claimed_id after c own handle d.id) row)
+    (consumer_of after (link after c own handle)) sound came its refl refl refl refl)
+
+part_sound : (t after : List Entry) (c own handle : ℕ) (row : Option RowNumber) (q : Option Part) → Sound after → row ≡ row_found t
+    → ((d : Told) (payload : List ℕ) → q ≡ Some (part.Whole d payload) → CameAt t after c own handle d payload)
+    → Sound (goes (each_to c (part_put after c own handle row q)) (with_bound (part_bound after c own handle row q) after))
+part_sound t after c own handle row (Some (part.Whole d payload)) sound its came =
+    let here = came d payload refl
+    in whole_sound after c own handle d row payload sound here.came (its ∙ sym (ap row_found here.at))
+part_sound t after c own handle row (Some part.TooLarge) sound its came =
+    quiet_sound (each_to c (let_go after c own handle MessageSizeExceeded)) after (quiet_to c (let_go after c own handle MessageSizeExceeded) (let_go_quiet after c own handle MessageSizeExceeded)) sound
+part_sound t after c own handle row _ sound its came = sound
+
+pub transfer_sound : (t after : List Entry) (s : Step) (conn : ConnectionId) (sasl : Bool) (channel : ℕ) (x : Transfer) (carried : List ℕ) (own handle : ℕ) → Sound after
+    → s.event ≡ event.Item conn (item.Frame sasl channel (perf.Transfer x) carried) → just_handled after ≡ Some (record { step = s; found = t })
+    → IsOn sasl (theirs t conn.0 channel) (link_place t conn.0 own x.handle) own handle
+    → Sound (goes (each_to conn.0 (part_put after conn.0 own handle (row_found t) (part_of (item.Frame sasl channel (perf.Transfer x) carried) (link_place t conn.0 own))))
+    (with_bound (part_bound after conn.0 own handle (row_found t) (part_of (item.Frame sasl channel (perf.Transfer x) carried) (link_place t conn.0 own))) after))
+transfer_sound t after s conn sasl channel x carried own handle sound came just here =
+    part_sound t after conn.0 own handle (row_found t) (part_of (item.Frame sasl channel (perf.Transfer x) carried) (link_place t conn.0 own)) sound refl
+    (λ d payload is. came_whole t after s conn sasl channel x carried own handle d payload came just here is)

@@ -1,0 +1,387 @@
+-- The acts of an event make of the book what its changes will make of the deliveries.
+use Rattle.std.proofs.Common.{◌≡◌, ◌∙◌, sym, ap, refl, subst, ℕ, ◌≤◌, ◌<◌, Bool, true, false, not, ◌&&◌, List, [], ◌∷◌, ◌++◌, arith, append_assoc}
+use Rattle.std.specs.Prelude.{Option, Some, None, map, is_some, is_none, option_map, if◌then◌else◌}
+use Rattle.std.specs.Option.{option_and_then}
+use Rattle.std.proofs.lemmas.Bool.{eqb-true, eq-eqb}
+use Rattle.amqp_model.specs.declared.perf.Perf.TheVariants as perf
+use Rattle.amqp_model.specs.declared.state.DeliveryState.{DeliveryState}
+use Rattle.amqp_model.specs.declared.item.Item.{Item}
+use Rattle.amqp_model.specs.declared.item.Item.TheVariants as item
+use Rattle.book_model.specs.declared.act.Act.{Act}
+use Rattle.book_model.specs.declared.act.Admission.{Admission}
+use Rattle.book_model.specs.declared.act.Decision.{Decision}
+use Rattle.book_model.specs.declared.row.Row.{Row as ARow}
+use Rattle.book_model.specs.declared.row.RowNumber.{RowNumber}
+use Rattle.book_model.specs.declared.terminus.LinkKey.{LinkKey}
+use Rattle.book_model.specs.declared.terminus.LinkRole.{LinkRole}
+use Rattle.book_model.specs.declared.terminus.LinkRole.TheVariants.{Producer, Consumer}
+use Rattle.book_model.specs.declared.terminus.Terminus.{Terminus}
+use Rattle.book_model.specs.Book.{BookView, row_at, terminus_at, terminus_of, is_from, is_undecided as is_open_row, decided, forgotten, effects, first_fault}
+use Rattle.gate_journal.specs.Ordered.{IsOrdered}
+use Rattle.journal_store.specs.declared.acting.TerminusAct.{TerminusAct}
+use Rattle.journal_store.specs.Acting.{journal_outcome, outcome_for, is_among, settles, decided_to, decided_by, forgotten_by, rows_behind, terminus_acts, event_acts as settled_acts}
+use Rattle.journal_store.proofs.Makes.{effects_more}
+use Rattle.journal_store.proofs.Rowwise.{Leaves as Left}
+use Rattle.journal_store.proofs.Settled.{settles_leave}
+use Rattle.journal_store.proofs.Started.{start_applies}
+use Rattle.router_trace.specs.declared.binding.DeliveryName.TheVariants.{Row}
+use Rattle.router_trace.specs.declared.binding.Origin.{Origin}
+use Rattle.router_trace.specs.declared.event.Event.{Event}
+use Rattle.router_trace.specs.declared.event.Event.TheVariants as event
+use Rattle.router_trace.specs.Connection.{due}
+use Rattle.router_trace.specs.DeliveryFrames.{kept_outcome}
+use Rattle.router_trace.specs.Deliveries.{Delivery, source, delivery, is_undecided}
+use Rattle.router_trace.specs.Links.{link, durable_key}
+use Rattle.router_trace.specs.Trace.{Trace, Booked}
+use Rattle.state_deliveries.specs.declared.change.Change.{Change}
+use Rattle.state_deliveries.specs.declared.change.Change.TheVariants as change
+use Rattle.state_deliveries.specs.declared.change.Gone.TheVariants as gone
+use Rattle.state_deliveries.specs.Deciding.{changed_by}
+use Rattle.state_deliveries.specs.Hearing.{disposed_change}
+use Rattle.state_deliveries.specs.Stepping.{is_gone, changed}
+use Rattle.reply_rows.specs.declared.answer.Answer.{Answer}
+use Rattle.reply_rows.specs.declared.answer.Answer.TheVariants.{Detach}
+use Rattle.router_reply.specs.Acts.{event_answer, answer_acts, planned_acts, admitted_acts, or_admits, event_acts, finds_full, journaled, book_in, acts_of}
+use Rattle.router_reply.specs.Admitting.{event_admission, admits}
+use Rattle.router_reply.specs.Deciding.{lost, listed, ended_by, session_found, event_changes, decided as decided_in, sent_by, sent_from, closed_terminus, forgotten as forgotten_at, terminus_of_event}
+use Rattle.theorems.proofs.Applying.{settled_apply, admission_applies, ordered_behind}
+use Rattle.theorems.proofs.Changing.{Leaves, leaves_by}
+use Rattle.theorems.proofs.Decisions.{decided_of, settled_is_done, among_rows}
+use Rattle.theorems.proofs.Facts.{kept_form, IsHeld, Agrees, RowFact, Facts}
+use Rattle.theorems.proofs.Looking.{found_number}
+use Rattle.theorems.proofs.Settling.{settled, settled_row, found_at_number, found_key, Stays, stays_it, terminus_stays, admission_stays}
+use Rattle.theorems.proofs.Standing.{Standing, one_place}
+use Rattle.theorems.proofs.Tests.{some_same, none_not_some}
+use Rattle.theorems.proofs.Undecided.{ends_keep}
+
+clash : false ≡ true → ⊥
+clash e = cc
+
+-- a row behind what is decided and forgotten
+
+decide_step : (t : Trace) (b : BookView) (ds : List Decision) (r : ℕ) (row : ARow) (d e : Delivery) → Leaves d e → d.presettled ≡ false → row.number.0 ≡ r
+    → outcome_for r ds ≡ option_map kept_outcome (if is_undecided d then e.outcome else None) → IsHeld t b row d → Agrees t b (decided_by ds row) e
+decide_step t b ds r row d e leaves open_one number outcome held = by d.outcome refl
+  where
+    named : outcome_for row.number.0 ds ≡ option_map kept_outcome (if is_undecided d then e.outcome else None)
+    named = ap (λ (n : ℕ). outcome_for n ds) number ∙ outcome
+
+    stays : (s : Option DeliveryState) → row.outcome ≡ option_map kept_form s → e.outcome ≡ s → Agrees t b (Some row) e
+    stays s is same = record {
+      outcome = is ∙ ap (option_map kept_form) (sym same);
+      waits = λ p from. held.waits p (leaves.comes p from);
+      from = λ p from. held.from p (leaves.comes p from);
+    }
+
+    shut : (s : DeliveryState) → d.outcome ≡ Some s → is_open_row row ≡ false
+    shut s is = ap is_none (held.outcome ∙ ap (option_map kept_form) is)
+
+    open_row : d.outcome ≡ None → is_open_row row ≡ true
+    open_row is = ap is_none (held.outcome ∙ ap (option_map kept_form) is)
+
+    -- it is decided now
+    now : (s : DeliveryState) → e.outcome ≡ Some s → Agrees t b (decided (kept_form s) row) e
+    now s is = gone_or_not row.forgotten refl
+      where
+        gone_or_not : (f : Bool) → row.forgotten ≡ f → Agrees t b (if f then None else Some (record row { outcome = Some (kept_form s) })) e
+        gone_or_not true f = λ p from. clash (sym (held.waits p (leaves.comes p from)) ∙ f)
+        gone_or_not false f = record {
+          outcome = ap (option_map kept_form) (sym is);
+          waits = λ p from. f;
+          from = λ p from. held.from p (leaves.comes p from);
+        }
+
+    undecided : d.outcome ≡ None → (u : Bool) → is_undecided d ≡ u → Agrees t b (decided_to (option_map kept_outcome (if u then e.outcome else None)) row) e
+    undecided none true is = made e.outcome refl
+      where
+        made : (o : Option DeliveryState) → e.outcome ≡ o → Agrees t b (decided_to (option_map kept_outcome o) row) e
+        made None same = stays None (held.outcome ∙ ap (option_map kept_form) none) same
+        made (Some s) same = now s same
+    undecided none false is = asleep d.suspended refl
+      where
+        asleep : (q : Bool) → d.suspended ≡ q → Agrees t b (Some row) e
+        asleep true f = stays None (held.outcome ∙ ap (option_map kept_form) none) (leaves.sleeps none f).0
+        asleep false f = absurd (clash (sym is ∙ (let open_now : is_undecided d ≡ true = rw (none, open_one, f) refl in open_now)))
+
+    by : (o : Option DeliveryState) → d.outcome ≡ o → Agrees t b (decided_by ds row) e
+    by (Some s) is =
+        subst (λ (q : Bool). Agrees t b (if q then decided_to (outcome_for row.number.0 ds) row else Some row) e) (sym (shut s is))
+        (stays (Some s) (held.outcome ∙ ap (option_map kept_form) is) (leaves.stays s is))
+    by None is =
+        subst (λ (q : Bool). Agrees t b (if q then decided_to (outcome_for row.number.0 ds) row else Some row) e) (sym (open_row is))
+        (subst (λ (o : Option DeliveryState). Agrees t b (decided_to o row) e) (sym named) (undecided is (is_undecided d) refl))
+
+forget_step : (t : Trace) (b : BookView) (numbers : List RowNumber) (r : ℕ) (row : ARow) (e : Delivery) → row.number.0 ≡ r
+    → (is_among r numbers ≡ true → (p : Origin) → source e ≡ Some p → ⊥) → IsHeld t b row e → Agrees t b (forgotten_by numbers row) e
+forget_step t b numbers r row e number done held = by row.forgotten (is_among row.number.0 numbers) refl refl
+  where
+    among : is_among row.number.0 numbers ≡ true → is_among r numbers ≡ true
+    among is = subst (λ (n : ℕ). is_among n numbers ≡ true) number is
+
+    now : ((p : Origin) → source e ≡ Some p → ⊥) → (o : Bool) → Agrees t b (if o then None else Some (record row { forgotten = true })) e
+    now none true = none
+    now none false = record { outcome = held.outcome; waits = λ p from. absurd (none p from); from = λ p from. absurd (none p from) }
+
+    by : (f m : Bool) → row.forgotten ≡ f → is_among row.number.0 numbers ≡ m → Agrees t b (if not f && m then forgotten row else Some row) e
+    by true m e f = held
+    by false true e f = now (done (among f)) (is_some row.outcome)
+    by false false e f = held
+
+numbered_in : (b : BookView) (r : RowNumber) (row : ARow) → row_at r.0 b.rows ≡ Some row → row.number.0 ≡ r.0
+numbered_in b r row is = found_number r.0 b.rows row is
+
+decided_number : (ds : List Decision) (row x : ARow) → decided_by ds row ≡ Some x → x.number.0 ≡ row.number.0
+decided_number ds row x is = by (is_open_row row) (outcome_for row.number.0 ds) is
+  where
+    same : (a : ARow) → Some a ≡ Some x → a.number.0 ≡ row.number.0 → x.number.0 ≡ row.number.0
+    same a is number = ap (λ (y : ARow). y.number.0) (sym (some_same is)) ∙ number
+
+    made : (s : DeliveryState) (f : Bool) → (if f then None else Some (record row { outcome = Some (journal_outcome s) })) ≡ Some x → x.number.0 ≡ row.number.0
+    made s true is = absurd (none_not_some is)
+    made s false is = same (record row { outcome = Some (journal_outcome s) }) is refl
+
+    by : (u : Bool) (o : Option DeliveryState) → (if u then decided_to o row else Some row) ≡ Some x → x.number.0 ≡ row.number.0
+    by true None is = same row is refl
+    by true (Some s) is = made s row.forgotten is
+    by false o is = same row is refl
+
+settle_step : (t : Trace) (b : BookView) (ds : List Decision) (numbers : List RowNumber) (r : ℕ) (v : Option ARow) (d e : Delivery) → Leaves d e → d.presettled ≡ false
+    → ((row : ARow) → v ≡ Some row → row.number.0 ≡ r) → outcome_for r ds ≡ option_map kept_outcome (if is_undecided d then e.outcome else None)
+    → (is_among r numbers ≡ true → (p : Origin) → source e ≡ Some p → ⊥) → Agrees t b v d → Agrees t b (settled ds numbers v) e
+settle_step t b ds numbers r None d e leaves open_one number outcome done was = λ p from. was p (leaves.comes p from)
+settle_step t b ds numbers r (Some row) d e leaves open_one number outcome done was =
+    by (decided_by ds row) refl (decide_step t b ds r row d e leaves open_one (number row refl) outcome was)
+  where
+    by : (o : Option ARow) → decided_by ds row ≡ o → Agrees t b o e → Agrees t b (option_and_then (forgotten_by numbers) o) e
+    by None is agrees = agrees
+    by (Some x) is agrees = forget_step t b numbers r x e (decided_number ds row x is ∙ number row refl) done agrees
+
+-- over the book behind all acts of the event, and the trace behind them
+
+book_step : (t : Trace) (acts : List Act) (full : List ℕ) (b c : BookView) (r : ℕ) (v : Option ARow) (e : Delivery) → row_at r b.rows ≡ v → Stays b c → Agrees t b v e → Agrees (Booked acts full ∷ t) c v e
+book_step t acts full b c r None e found stays was = was
+book_step t acts full b c r (Some row) e found stays was = record {
+  outcome = was.outcome;
+  waits = was.waits;
+  from = λ p from. let at = was.from p from in
+      record {
+        key = at.key;
+        durable = at.durable;
+        at = at.at;
+        found = stays.termini at.key at.at r row at.found at.role found (was.waits p from) (sym at.number);
+        number = at.number;
+        role = at.role;
+      };
+}
+
+-- the same termini
+termini_step : (t : Trace) (b c : BookView) (v : Option ARow) (e : Delivery) → c.termini ≡ b.termini → Agrees t b v e → Agrees t c v e
+termini_step t b c None e same was = was
+termini_step t b c (Some row) e same was = record {
+  outcome = was.outcome;
+  waits = was.waits;
+  from = λ p from. let at = was.from p from in
+      record { key = at.key; durable = at.durable; at = at.at; found = ap (terminus_of at.key) same ∙ at.found; number = at.number; role = at.role };
+}
+
+-- the book behind what is decided and forgotten, and that behind all acts
+
+nothing_done : (b : BookView) → effects b [] ≡ b
+unfolding effects
+nothing_done b = refl
+
+nil_first : (xs ys : List Act) → xs ++ ys ≡ [] → xs ≡ []
+nil_first [] ys is = refl
+nil_first (x ∷ xs) ys is = absurd cc
+
+admits_stay : (b : BookView) (o : Option Admission) → Stays b (effects b (admits b o))
+admits_stay b None = subst (λ (c : BookView). Stays b c) (sym (nothing_done b)) (stays_it b)
+admits_stay b (Some x) = admission_stays b x
+
+admitted_stay : (full : Bool) (b : BookView) (t : Trace) (e : Event) → Stays b (effects b (admitted_acts full b t e))
+admitted_stay true b t e = subst (λ (c : BookView). Stays b c) (sym (nothing_done b)) (stays_it b)
+admitted_stay false b t e = admits_stay b (event_admission b t e (event_answer false b t e))
+
+all_stay : (b : BookView) (ds : List Decision) (numbers : List RowNumber) (x : Option TerminusAct) (admitted : List Act) → IsOrdered b → Stays b (effects b admitted)
+    → Stays (effects b (settles b ds numbers)) (effects b (or_admits (settled_acts b ds numbers x) admitted))
+all_stay b ds numbers x admitted ordered stay = by (settled_acts b ds numbers x) refl
+  where
+    between : BookView
+    between = effects b (settles b ds numbers)
+
+    by : (planned : List Act) → settled_acts b ds numbers x ≡ planned → Stays between (effects b (or_admits planned admitted))
+    by [] is =
+        let same : between ≡ b = ap (effects b) (nil_first (settles b ds numbers) (terminus_acts between x) is) ∙ nothing_done b in
+        subst (λ (c : BookView). Stays c (effects b admitted)) (sym same) stay
+    by (act ∷ acts) is =
+        subst (λ (c : BookView). Stays between c) (sym (effects_more b (settles b ds numbers) (terminus_acts between x)) ∙ ap (effects b) is)
+        (terminus_stays between x (ordered_behind b (settles b ds numbers) ordered (settles_leave b ds numbers ordered.rows_rise).applies))
+
+-- what its producer isn't done with isn't forgotten
+
+changed_more : (xs ys : List Change) (d : Delivery) → changed_by (xs ++ ys) d ≡ changed_by ys (changed_by xs d)
+changed_more [] ys d = refl
+changed_more (x ∷ xs) ys d = changed_more xs ys (changed x d)
+
+closed_is_done : (t : Trace) (b : BookView) (n : ℕ) (d : Delivery) (r : RowNumber) (c : ℕ) (answer : Answer) (first : List Change) (i : Item) → Standing t → IsOrdered b → Agrees t b (row_at r.0 b.rows) d
+    → is_among r.0 (sent_from b (closed_terminus b t c answer)) ≡ true → (p : Origin) → source (changed_by (first ++ ended_by t c i answer) d) ≡ Some p → ⊥
+closed_is_done t b n d r c (Detach own handle true None) first i standing ordered agrees among p from =
+    by_key (durable_key (link t c own handle)) refl among
+  where
+    last : source (changed (change.Ends (gone.Link c own handle) true) (changed_by first d)) ≡ Some p
+    last = sym (ap source (changed_more first (ended_by t c i (Detach own handle true None)) d)) ∙ from
+
+    spared : is_gone (gone.Link c own handle) p.link ≡ false
+    spared = ends_keep true (is_gone (gone.Link c own handle)) (changed_by first d) p last
+
+    before : source d ≡ Some p
+    before = (leaves_by (first ++ ended_by t c i (Detach own handle true None)) d).comes p from
+
+    ended : (o h : ℕ) → p.link.conn.0 ≡ c → p.link.channel ≡ o → p.link.handle ≡ h → is_gone (gone.Link c o h) p.link ≡ true
+    ended o h e f g = rw (eq-eqb p.link.conn.0 c e, eq-eqb o p.link.channel (sym f), eq-eqb h p.link.handle (sym g)) refl
+
+    of_terminus : (key : LinkKey) (x : Terminus) → durable_key (link t c own handle) ≡ Some key → terminus_of key b.termini ≡ Some x → (role : LinkRole)
+        → is_among r.0 (sent_by b role x.number.0) ≡ true → ⊥
+    of_terminus key x durable found Consumer among = clash among
+    of_terminus key x durable found Producer among =
+        let rows = among_rows r.0 (is_from x.number.0) b.rows ordered.rows_rise among in
+        let held : IsHeld t b rows.0 d = subst (λ (v : Option ARow). Agrees t b v d) rows.1 agrees in
+        let at = held.from p before in
+        let same_number : at.at.number.0 ≡ x.number.0 = at.number ∙ eqb-true rows.0.producer.0 x.number.0 rows.2 in
+        let one : at.at ≡ x = some_same (sym (found_at_number at.key b.termini at.at ordered.termini_rise at.found)
+        ∙ ap (λ (m : ℕ). terminus_at m b.termini) same_number ∙ found_at_number key b.termini x ordered.termini_rise found) in
+        let keys : at.key ≡ key = sym (found_key at.key b.termini at.at at.found) ∙ ap (λ (y : Terminus). y.key) one ∙ found_key key b.termini x found in
+        let place = one_place t standing p.link (record { number = 0; conn = record { 0 = c }; channel = own; handle = handle }) key (at.durable ∙ ap (λ (k : LinkKey). Some k) keys) durable in
+        clash (sym spared ∙ ended own handle place.0 place.1 place.2)
+
+    by_terminus : (key : LinkKey) (v : Option Terminus) → durable_key (link t c own handle) ≡ Some key → terminus_of key b.termini ≡ v → is_among r.0 (sent_from b v) ≡ true → ⊥
+    by_terminus key None durable found among = clash among
+    by_terminus key (Some x) durable found among = of_terminus key x durable found x.key.role among
+
+    by_key : (v : Option LinkKey) → durable_key (link t c own handle) ≡ v → is_among r.0 (sent_from b (option_and_then (λ key. terminus_of key b.termini) v)) ≡ true → ⊥
+    by_key None durable among = clash among
+    by_key (Some key) durable among = by_terminus key (terminus_of key b.termini) durable refl among
+closed_is_done t b n d r c (Detach own handle true (Some x)) first i standing ordered agrees among p from = clash among
+closed_is_done t b n d r c (Detach own handle false x) first i standing ordered agrees among p from = clash among
+closed_is_done t b n d r c _ first i standing ordered agrees among p from = clash among
+
+forgotten_is_done : (t : Trace) (b : BookView) (n : ℕ) (d : Delivery) (r : RowNumber) (e : Event) (answer : Answer) → Standing t → IsOrdered b → Agrees t b (row_at r.0 b.rows) d
+    → delivery t n ≡ Some d → d.name ≡ Row r → is_among r.0 (forgotten_at b t e answer) ≡ true → (p : Origin) → source (changed_by (event_changes t e answer) d) ≡ Some p → ⊥
+forgotten_is_done t b n d r (event.Item c (item.Frame false channel (perf.Disposition x) payload)) answer standing ordered agrees there name among p from =
+    let i : Item = item.Frame false channel (perf.Disposition x) payload in
+    let heard : List Change = listed (disposed_change x.role c.0 (session_found t c i) x) in
+    settled_is_done t n d r c.0 (session_found t c i) x.role x (map lost (due t (event.Item c i)) ++ ended_by t c.0 i answer) there name among p
+    (ap (λ (zs : List Change). source (changed_by zs d)) (sym (append_assoc heard (map lost (due t (event.Item c i))) (ended_by t c.0 i answer))) ∙ from)
+forgotten_is_done t b n d r (event.Item c (item.Frame false channel (perf.Detach x) payload)) answer standing ordered agrees there name among p from =
+    let i : Item = item.Frame false channel (perf.Detach x) payload in
+    closed_is_done t b n d r c.0 answer (map lost (due t (event.Item c i))) i standing ordered agrees among p from
+forgotten_is_done t b n d r (event.Item c (item.Frame false channel _ payload)) answer standing ordered agrees there name among p from = clash among
+forgotten_is_done t b n d r (event.Item c (item.Frame true channel body payload)) answer standing ordered agrees there name among p from = clash among
+forgotten_is_done t b n d r (event.Item c _) answer standing ordered agrees there name among p from = clash among
+forgotten_is_done t b n d r _ answer standing ordered agrees there name among p from = clash among
+
+-- the facts behind the acts of an event that isn't the start
+
+abbrev IsPlanned : Bool → Trace → Event → Type 0
+IsPlanned full t e = planned_acts full (book_in t) t e ≡ answer_acts (book_in t) t e (event_answer full (book_in t) t e)
+
+facts_behind : (full : Bool) (t : Trace) (e : Event) → IsPlanned full t e → Standing t → IsOrdered (book_in t) → Facts t []
+    → Facts (Booked (event_acts full (book_in t) t e) (due t e) ∷ t) (event_changes t e (event_answer full (book_in t) t e))
+facts_behind full t e planned standing ordered was n d r there name =
+    let fact : RowFact t b r d = was n d r there name in
+    let leaves : Leaves d after = leaves_by xs d in
+    let first : Agrees t b (settled ds numbers (row_at r.0 b.rows)) after =
+    settle_step t b ds numbers r.0 (row_at r.0 b.rows) d after leaves fact.settled (numbered_in b r) (decided_of t n d r xs there name)
+    (forgotten_is_done t b n d r e answer standing ordered fact.agrees there name) fact.agrees in
+    let next : Agrees t between (settled ds numbers (row_at r.0 b.rows)) after =
+    termini_step t b between (settled ds numbers (row_at r.0 b.rows)) after (ap (λ (x : BookView). x.termini) left.is) first in
+    let found : row_at r.0 between.rows ≡ settled ds numbers (row_at r.0 b.rows) = settled_row b ds numbers r.0 ordered in
+    let low : r.0 < between.next_row = subst (λ (x : BookView). r.0 < x.next_row) (sym left.is) fact.known in
+    record {
+      settled = leaves.settled ∙ fact.settled;
+      known = under r.0 between.next_row c.next_row low stays.next;
+      agrees = subst (λ (v : Option ARow). Agrees (Booked acts (due t e) ∷ t) c v after) (sym (stays.rows r.0 low ∙ found))
+          (book_step t acts (due t e) between c r.0 (settled ds numbers (row_at r.0 b.rows)) after found stays next);
+    }
+  where
+    b : BookView
+    b = book_in t
+
+    answer : Answer
+    answer = event_answer full b t e
+
+    xs : List Change
+    xs = event_changes t e answer
+
+    after : Delivery
+    after = changed_by xs d
+
+    ds : List Decision
+    ds = decided_in t e answer
+
+    numbers : List RowNumber
+    numbers = forgotten_at b t e answer
+
+    between : BookView
+    between = effects b (settles b ds numbers)
+
+    left : Left b (settles b ds numbers) (rows_behind ds numbers b.rows)
+    left = settles_leave b ds numbers ordered.rows_rise
+
+    acts : List Act
+    acts = event_acts full b t e
+
+    c : BookView
+    c = effects b acts
+
+    stays : Stays between c
+    stays =
+        subst (λ (ys : List Act). Stays between (effects b (or_admits ys (admitted_acts full b t e)))) (sym planned)
+        (all_stay b ds numbers (terminus_of_event b t e answer) (admitted_acts full b t e) ordered (admitted_stay full b t e))
+
+    under : (r k n : ℕ) → r < k → k ≤ n → r < n
+    under r k n low most = omega (arith, low, most)
+
+-- the book's numbers go on rising
+
+admits_apply : (b : BookView) (o : Option Admission) → first_fault b (admits b o) ≡ None
+unfolding first_fault
+admits_apply b None = refl
+admits_apply b (Some x) = admission_applies b x
+
+admitted_apply : (full : Bool) (b : BookView) (t : Trace) (e : Event) → first_fault b (admitted_acts full b t e) ≡ None
+unfolding first_fault
+admitted_apply true b t e = refl
+admitted_apply false b t e = admits_apply b (event_admission b t e (event_answer false b t e))
+
+planned_apply : (full : Bool) (b : BookView) (t : Trace) (e : Event) → IsOrdered b → first_fault b (planned_acts full b t e) ≡ None
+planned_apply full b t event.Start ordered = start_applies b ordered.rows_rise
+planned_apply full b t e ordered =
+    settled_apply b (decided_in t e (event_answer full b t e)) (forgotten_at b t e (event_answer full b t e)) (terminus_of_event b t e (event_answer full b t e)) ordered
+
+pub acts_apply : (t : Trace) (e : Event) → IsOrdered (book_in t) → first_fault (book_in t) (acts_of t e) ≡ None
+acts_apply t e ordered = by (planned_acts full (book_in t) t e) (planned_apply full (book_in t) t e ordered)
+  where
+    full : Bool
+    full = finds_full (journaled t) t e
+
+    by : (planned : List Act) → first_fault (book_in t) planned ≡ None → first_fault (book_in t) (or_admits planned (admitted_acts full (book_in t) t e)) ≡ None
+    by [] applies = admitted_apply full (book_in t) t e
+    by (act ∷ acts) applies = applies
+
+pub ordered_acts : (t : Trace) (e : Event) → IsOrdered (book_in t) → IsOrdered (book_in (Booked (acts_of t e) (due t e) ∷ t))
+ordered_acts t e ordered = ordered_behind (book_in t) (acts_of t e) ordered (acts_apply t e ordered)
+
+-- the answer that an event gets, and the changes that it brings
+abbrev pub answer_for : Trace → Event → Answer
+answer_for t e = event_answer (finds_full (journaled t) t e) (book_in t) t e
+
+abbrev pub changes_of : Trace → Event → List Change
+changes_of t e = event_changes t e (answer_for t e)
+
+pub booked_facts : (t : Trace) (e : Event) → Standing t → IsOrdered (book_in t) → (e ≡ event.Start → (n : ℕ) → delivery t n ≡ None) → Facts t [] → Facts (Booked (acts_of t e) (due t e) ∷ t) (changes_of t e)
+booked_facts t event.Start standing ordered none was = λ n d r there name. absurd (none_not_some (sym (none refl n) ∙ there))
+booked_facts t (event.Item c i) standing ordered none was = facts_behind (finds_full (journaled t) t (event.Item c i)) t (event.Item c i) refl standing ordered was
+booked_facts t (event.Up c p) standing ordered none was = facts_behind (finds_full (journaled t) t (event.Up c p)) t (event.Up c p) refl standing ordered was
+booked_facts t (event.Down c) standing ordered none was = facts_behind (finds_full (journaled t) t (event.Down c)) t (event.Down c) refl standing ordered was
+booked_facts t (event.Tick ms) standing ordered none was = facts_behind (finds_full (journaled t) t (event.Tick ms)) t (event.Tick ms) refl standing ordered was

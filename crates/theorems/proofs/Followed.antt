@@ -1,0 +1,228 @@
+-- How an entry changes a delivery, from how each change does; its name, link, payload and format stay, and its origin stays or becomes none.
+use Rattle.std.proofs.Common.{◌≡◌, ◌∙◌, refl, inl, inr, ℕ, ◌+◌, ◌≤◌, Bool, true, false, not, ◌&&◌, List, [], ◌∷◌, ◌++◌, arith}
+use Rattle.std.specs.Prelude.{◌==◌, Option, Some, None, option_and_then, if◌then◌else◌, length}
+use Rattle.std.proofs.lemmas.Bool.{eqb-true}
+use Rattle.amqp_model.specs.declared.perf.Disposition.{Disposition}
+use Rattle.amqp_model.specs.declared.perf.Perf.{Perf}
+use Rattle.amqp_model.specs.declared.perf.Perf.TheVariants as perf
+use Rattle.amqp_model.specs.declared.perf.Role.{Role}
+use Rattle.amqp_model.specs.declared.perf.Role.TheVariants.{Sender, Receiver}
+use Rattle.amqp_model.specs.declared.perf.Transfer.{Transfer}
+use Rattle.amqp_model.specs.declared.state.DeliveryState.{DeliveryState}
+use Rattle.amqp_model.specs.declared.item.Item.{Item}
+use Rattle.amqp_model.specs.declared.item.Item.TheVariants as item
+use Rattle.router_trace.specs.declared.binding.DeliveryName.{DeliveryName}
+use Rattle.router_trace.specs.declared.binding.Origin.{Origin}
+use Rattle.router_trace.specs.declared.channel.PeerChannel.{PeerChannel}
+use Rattle.router_trace.specs.declared.event.Event.{Event}
+use Rattle.router_trace.specs.declared.event.Event.TheVariants as event
+use Rattle.router_trace.specs.declared.handle.Attachment.{Attachment}
+use Rattle.router_trace.specs.Trace.{Entry, Did, Out, Took, Booked, Bound, Began}
+use Rattle.router_trace.specs.Deliveries.{Delivery, bindings, name_in, same_name, number_named, unless_called, delivery, sending, named, is_over, unless_over, behind_frame, decided, source, untold, unsettled, told, ended, decided_at_end, suspended_at_end, closes, is_undecided, is_meant, is_named, decision, terminal, is_gone_with, behind_origin, behind_ends, ended_by, put_in, behind_put, carried, tag_in, is_number, is_on, is_settled_at, disposed, heard_in, heard, lost_with, behind_event, origin_id, channels_found, sender, forsaken}
+use Rattle.theorems.specs.OneConsumer.{IsOrNone, WhileThere}
+use Rattle.state_connections.proofs.Lists.{by_test}
+
+-- the relation holds across each change, except frames
+pub record Left (R : Delivery → Delivery → Type 0) : Type 0 where
+  pub same : (d : Delivery) → R d d
+  pub next : (d e f : Delivery) → R d e → R e f → R d f
+  pub untold : (d : Delivery) → R d (untold d)
+  pub forsaken : (d : Delivery) → R d (forsaken d)
+  pub unsettled : (d : Delivery) → R d (unsettled d)
+  pub ended : (d : Delivery) → R d (decided_at_end d)
+  pub suspended : (d : Delivery) → R d (suspended_at_end d)
+  pub decided : (d : Delivery) (s : Option DeliveryState) → R d (record d { outcome = s })
+
+-- the choice of two
+choice : (R : Delivery → Delivery → Type 0) (b : Bool) (d e f : Delivery) → R d e → R d f → R d (if b then e else f)
+choice R true d e f first second = first
+choice R false d e f first second = second
+
+origin_left : (R : Delivery → Delivery → Type 0) → Left R → (gone : Attachment → Bool) (d : Delivery) → R d (behind_origin gone d)
+origin_left R left gone d = choice R (is_gone_with gone (sender d)) d (forsaken d) d (left.forsaken d) (left.same d)
+
+ended_left : (R : Delivery → Delivery → Type 0) → Left R → (closed : Bool) (d : Delivery) → R d (ended closed d)
+ended_left R left closed d =
+    choice R d.suspended d d (if d.lasting && not closed then suspended_at_end d else decided_at_end d) (left.same d)
+    (choice R (d.lasting && not closed) d (suspended_at_end d) (decided_at_end d) (left.suspended d) (left.ended d))
+
+pub ends_left : (R : Delivery → Delivery → Type 0) → Left R → (closed : Bool) (gone : Attachment → Bool) (d : Delivery) → R d (behind_ends closed gone d)
+ends_left R left closed gone d =
+    left.next d (if gone d.link then ended closed d else d) (behind_ends closed gone d) (choice R (gone d.link) d (ended closed d) d (ended_left R left closed d) (left.same d))
+    (origin_left R left gone (if gone d.link then ended closed d else d))
+
+pub told_left : (R : Delivery → Delivery → Type 0) → Left R → (role : Role) (x : Disposition) (c o : ℕ) (d : Delivery) → R d (told role x c o d)
+told_left R left Receiver x c o d =
+    choice R (is_meant x (origin_id (source d) c o)) d (if x.settled then untold d else unsettled d) d
+    (choice R x.settled d (untold d) (unsettled d) (left.untold d) (left.unsettled d)) (left.same d)
+told_left R left Sender x c o d = left.same d
+
+-- and across frames too
+abbrev pub Frames : (Delivery → Delivery → Type 0) → Type 0
+Frames R = (x : Transfer) (count : ℕ) (d : Delivery) → R d (behind_frame x count d)
+
+perf_left : (R : Delivery → Delivery → Type 0) → Left R → Frames R → (numbers : DeliveryName → Option ℕ) (body : Perf) (c own n : ℕ) (sent : ℕ → ℕ → Option ℕ) (count : ℕ) (d : Delivery)
+    → R d (put_in numbers body c own n sent count d)
+perf_left R left frames numbers (perf.Transfer x) c own n sent count d =
+    choice R (is_number (carried numbers (tag_in x) (sent own x.handle)) n) d (behind_frame x count d) d (frames x count d) (left.same d)
+perf_left R left frames numbers (perf.Disposition x) c own n sent count d = told_left R left x.role x c own d
+perf_left R left frames numbers _ c own n sent count d = left.same d
+
+pub item_left : (R : Delivery → Delivery → Type 0) → Left R → Frames R → (numbers : DeliveryName → Option ℕ) (i : Item) (c n : ℕ) (sent : ℕ → ℕ → Option ℕ) (d : Delivery)
+    → R d (behind_put numbers i c n sent d)
+item_left R left frames numbers (item.Frame sasl own body payload) c n sent d =
+    left.next d (put_in numbers body c own n sent (length payload) d) (behind_put numbers (item.Frame sasl own body payload) c n sent d)
+    (perf_left R left frames numbers body c own n sent (length payload) d)
+    (ends_left R left (closes body) (ended_by (item.Frame sasl own body payload) c) (put_in numbers body c own n sent (length payload) d))
+item_left R left frames numbers _ c n sent d = left.same d
+
+-- it holds across what is received
+
+decided_left : (R : Delivery → Delivery → Type 0) → Left R → (x : Disposition) (names : ℕ → Option ℕ) (n : ℕ) (d : Delivery) → R d (decided x names n d)
+decided_left R left x names n d =
+    choice R (is_undecided d && is_meant x d.id && is_named d.id names n) d (record d { outcome = decision x.settled (terminal x.state) }) d
+    (left.decided d (decision x.settled (terminal x.state))) (left.same d)
+
+disposed_left : (R : Delivery → Delivery → Type 0) → Left R → (role : Role) (x : Disposition) (c : ℕ) (v : Option PeerChannel) (names : ℕ → Option ℕ) (n : ℕ) (d : Delivery)
+    → R d (disposed role x c v names n d)
+disposed_left R left Receiver x c v names n d = choice R (is_on d.link c v) d (decided x names n d) d (decided_left R left x names n d) (left.same d)
+disposed_left R left Sender x c v names n d = choice R (is_settled_at x c v (source d)) d (untold d) d (left.untold d) (left.same d)
+
+heard_perf : (R : Delivery → Delivery → Type 0) → Left R → (body : Perf) (c : ℕ) (v : Option PeerChannel) (names : ℕ → ℕ → Option ℕ) (n : ℕ) (d : Delivery)
+    → R d (heard_in body c v names n d)
+heard_perf R left (perf.Disposition x) c v names n d = disposed_left R left x.role x c v (names d.link.channel) n d
+heard_perf R left _ c v names n d = left.same d
+
+heard_left : (R : Delivery → Delivery → Type 0) → Left R → (i : Item) (c : ℕ) (known : ℕ → Option PeerChannel) (names : ℕ → ℕ → Option ℕ) (n : ℕ) (d : Delivery)
+    → R d (heard i c known names n d)
+heard_left R left (item.Frame sasl channel body payload) c known names n d =
+    choice R sasl d d (heard_in body c (known channel) names n d) (left.same d) (heard_perf R left body c (known channel) names n d)
+heard_left R left _ c known names n d = left.same d
+
+pub event_left : (R : Delivery → Delivery → Type 0) → Left R
+    → (e : Event) (known : ℕ → ℕ → Option PeerChannel) (names : ℕ → ℕ → ℕ → Option ℕ) (n : ℕ) (d : Delivery) → R d (behind_event e known names n d)
+event_left R left (event.Item c i) known names n d = heard_left R left i c.0 (known c.0) (names c.0) n d
+event_left R left (event.Down c) known names n d = ends_left R left false (lost_with c.0) d
+event_left R left _ known names n d = left.same d
+
+-- the name, the link, the payload, the format, and the origin or none
+
+pub record Follows (d e : Delivery) : Type 0 where
+  pub name : e.name ≡ d.name
+  pub link : e.link ≡ d.link
+  pub payload : e.payload ≡ d.payload
+  pub format : e.format ≡ d.format
+  pub presettled : e.presettled ≡ d.presettled
+  pub lasting : e.lasting ≡ d.lasting
+  pub origin : IsOrNone e.origin d.origin
+
+pub same : (d : Delivery) → Follows d d
+same d = record { name = refl; link = refl; payload = refl; format = refl; presettled = refl; lasting = refl; origin = inl refl }
+
+pub origin_on : {a b c : Option Origin} → IsOrNone b a → IsOrNone c b → IsOrNone c a
+origin_on first (inr none) = inr none
+origin_on (inl e) (inl f) = inl (f ∙ e)
+origin_on (inr none) (inl f) = inr (f ∙ none)
+
+then_follows : {d e f : Delivery} → Follows d e → Follows e f → Follows d f
+then_follows first next = record {
+  name = next.name ∙ first.name;
+  link = next.link ∙ first.link;
+  payload = next.payload ∙ first.payload;
+  format = next.format ∙ first.format;
+  presettled = next.presettled ∙ first.presettled;
+  lasting = next.lasting ∙ first.lasting;
+  origin = origin_on first.origin next.origin;
+}
+
+follows_left : Left Follows
+follows_left = record {
+  same = same;
+  next = λ d e f first rest. then_follows first rest;
+  untold = λ d. record { name = refl; link = refl; payload = refl; format = refl; presettled = refl; lasting = refl; origin = inr refl };
+  forsaken = λ d. record { name = refl; link = refl; payload = refl; format = refl; presettled = refl; lasting = refl; origin = inr refl };
+  unsettled = λ d. record { name = refl; link = refl; payload = refl; format = refl; presettled = refl; lasting = refl; origin = inr refl };
+  suspended = λ d. record { name = refl; link = refl; payload = refl; format = refl; presettled = refl; lasting = refl; origin = inl refl };
+  ended = λ d. record { name = refl; link = refl; payload = refl; format = refl; presettled = refl; lasting = refl; origin = inl refl };
+  decided = λ d s. record { name = refl; link = refl; payload = refl; format = refl; presettled = refl; lasting = refl; origin = inl refl };
+}
+
+frames_follow : Frames Follows
+frames_follow x count d = record { name = refl; link = refl; payload = refl; format = refl; presettled = refl; lasting = refl; origin = inl refl }
+
+pub item_follows : (numbers : DeliveryName → Option ℕ) (i : Item) (c n : ℕ) (sent : ℕ → ℕ → Option ℕ) (d : Delivery) → Follows d (behind_put numbers i c n sent d)
+item_follows numbers i c n sent d = item_left Follows follows_left frames_follow numbers i c n sent d
+
+pub event_follows : (e : Event) (known : ℕ → ℕ → Option PeerChannel) (names : ℕ → ℕ → ℕ → Option ℕ) (n : ℕ) (d : Delivery)
+    → Follows d (behind_event e known names n d)
+event_follows e known names n d = event_left Follows follows_left e known names n d
+
+-- the same for a delivery that may exist
+
+abbrev pub AllFollow : Option Delivery → Option Delivery → Type 0
+AllFollow None v = v ≡ None
+AllFollow (Some d) v = WhileThere (Follows d) v
+
+pub then_all : (u v w : Option Delivery) → AllFollow u v → AllFollow v w → AllFollow u w
+then_all None None w first next = next
+then_all None (Some e) w first next = absurd cc
+then_all (Some d) None None first next = tt
+then_all (Some d) None (Some f) first next = absurd cc
+then_all (Some d) (Some e) None first next = tt
+then_all (Some d) (Some e) (Some f) first next = then_follows first next
+
+all_same : (v : Option Delivery) → AllFollow v v
+all_same None = refl
+all_same (Some d) = same d
+
+pub unless_left : (P : Delivery → Type 0) (e : Delivery) → P e → WhileThere P (unless_over e)
+unless_left P e holds = by (is_over e)
+  where
+    by : (b : Bool) → WhileThere P (if b then None else Some e)
+    by true = tt
+    by false = holds
+
+changed : (f : Delivery → Delivery) → ((d : Delivery) → Follows d (f d)) → (v : Option Delivery) → AllFollow v (option_and_then (λ d. unless_over (f d)) v)
+changed f follows None = refl
+changed f follows (Some d) = unless_left (Follows d) (f d) (follows d)
+
+uncalled_follow : (name : DeliveryName) (v : Option Delivery) → AllFollow v (unless_called name v)
+uncalled_follow name None = refl
+uncalled_follow name (Some d) = by (same_name d.name name)
+  where
+    by : (b : Bool) → WhileThere (Follows d) (if b then None else Some d)
+    by true = tt
+    by false = same d
+
+pub entry_follows : (e : Entry) (t : List Entry) (n : ℕ) → n ≤ bindings t → AllFollow (delivery t n) (delivery (e ∷ t) n)
+entry_follows (Did s) t n given = changed (behind_event s.event (channels_found t) (named t) n) (event_follows s.event (channels_found t) (named t) n) (delivery t n)
+entry_follows (Out c i) t n given = changed (behind_put (number_named t) i c n (sending t c)) (item_follows (number_named t) i c n (sending t c)) (delivery t n)
+entry_follows (Took c k) t n given = all_same (delivery t n)
+entry_follows (Began g) t n given = all_same (delivery t n)
+entry_follows (Booked acts full) t n given = all_same (delivery t n)
+entry_follows (Bound b) t n given =
+    by_test (bindings t + 1 == n) (λ e. absurd (too_high n (bindings t) given (eqb-true (bindings t + 1) n e))) (λ e. rw e (uncalled_follow (name_in t b) (delivery t n)))
+  where
+    too_high : (n k : ℕ) → n ≤ k → k + 1 ≡ n → ⊥
+    too_high n k h e = omega (arith, h, e)
+
+pub more_bound : (e : Entry) (t : List Entry) (n : ℕ) → n ≤ bindings t → n ≤ bindings (e ∷ t)
+more_bound (Did s) t n h = h
+more_bound (Out c i) t n h = h
+more_bound (Took c k) t n h = h
+more_bound (Began g) t n h = h
+more_bound (Booked acts full) t n h = h
+more_bound (Bound b) t n h = one_more n (bindings t) h
+  where
+    one_more : (n k : ℕ) → n ≤ k → n ≤ k + 1
+    one_more n k h = omega (arith, h)
+
+pub all_bound : (later t : List Entry) (n : ℕ) → n ≤ bindings t → n ≤ bindings (later ++ t)
+all_bound [] t n h = h
+all_bound (e ∷ later) t n h = more_bound e (later ++ t) n (all_bound later t n h)
+
+pub later_follows : (later t : List Entry) (n : ℕ) → n ≤ bindings t → AllFollow (delivery t n) (delivery (later ++ t) n)
+later_follows [] t n given = all_same (delivery t n)
+later_follows (e ∷ later) t n given =
+    then_all (delivery t n) (delivery (later ++ t) n) (delivery (e ∷ later ++ t) n) (later_follows later t n given)
+    (entry_follows e (later ++ t) n (all_bound later t n given))

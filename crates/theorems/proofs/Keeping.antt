@@ -1,0 +1,435 @@
+-- In every trace of the router a durable link is taken once its terminus is in the book.
+use Rattle.std.proofs.Common.{◌≡◌, ◌∙◌, sym, ap, refl, subst, ℕ, Bool, true, false, not, List, [], ◌∷◌, ◌++◌, append-nil}
+use Rattle.std.specs.Prelude.{◌==◌, if◌then◌else◌, Option, Some, None, is_some, unwrap_or}
+use Rattle.std.proofs.lemmas.Bool.{eqb-true}
+use Rattle.amqp_model.specs.declared.perf.Attach.{Attach as AnAttach}
+use Rattle.amqp_model.specs.declared.perf.Perf.{Perf}
+use Rattle.amqp_model.specs.declared.perf.Perf.TheVariants as perf
+use Rattle.amqp_model.specs.declared.perf.Role.{Role}
+use Rattle.amqp_model.specs.declared.perf.Role.TheVariants.{Sender, Receiver}
+use Rattle.amqp_model.specs.declared.terminus.SourceTerminus.{SourceTerminus}
+use Rattle.amqp_model.specs.declared.terminus.SourceTerminus.TheVariants as source
+use Rattle.amqp_model.specs.declared.terminus.TargetTerminus.{TargetTerminus}
+use Rattle.amqp_model.specs.declared.terminus.TargetTerminus.TheVariants as target
+use Rattle.amqp_model.specs.declared.item.Item.{Item}
+use Rattle.amqp_model.specs.declared.item.Item.TheVariants as item
+use Rattle.amqp_conn.specs.declared.conn.Conn.{Conn}
+use Rattle.book_model.specs.declared.act.Act.{Act}
+use Rattle.book_model.specs.declared.terminus.LinkKey.{LinkKey}
+use Rattle.book_model.specs.declared.terminus.Terminus.{Terminus}
+use Rattle.book_model.specs.Book.{BookView, same_bytes, terminus_of, effects}
+use Rattle.journal_store.specs.Acting.{event_acts as settled_acts}
+use Rattle.journal_store.specs.declared.acting.TerminusAct.TheVariants as terminus
+use Rattle.router_trace.specs.Trace.{Beginning, Entry, Did, Out, Booked, Put, Step, goes, puts, each_to}
+use Rattle.router_trace.specs.Configuration.{beginning}
+use Rattle.router_trace.specs.Connection.{conn, due, found, standing, has}
+use Rattle.router_trace.specs.Durable.{outlives, is_lasting_source, is_lasting_target, is_durable}
+use Rattle.router_trace.specs.Following.{tells, sends_due, drains_due}
+use Rattle.router_trace.specs.LinkFrames.{other, kept, source_answer, target_answer, plain_answer, lasting_source, lasting_target, lasting_by, answer_to, refused_source, refused_target, refusal_of, attach_item, detach_item, fits}
+use Rattle.router_trace.specs.Links.{source_address, target_address, address_by, key_of, key_at, holder, holds_durable, free_handle, first_free_below}
+use Rattle.router_trace.specs.Peers.{Container, user, user_at, container, container_at, largest_frame}
+use Rattle.router_trace.specs.Sessions.{free_channel}
+use Rattle.router_trace.specs.declared.binding.Binding.{Binding}
+use Rattle.router_trace.specs.declared.condition.Condition.{Condition}
+use Rattle.router_trace.specs.declared.condition.Condition.TheVariants.{NotAllowed, NotImplemented, ResourceLimitExceeded, Stolen, FrameSizeTooSmall}
+use Rattle.router_trace.specs.declared.event.ConnectionId.{ConnectionId}
+use Rattle.router_trace.specs.declared.event.Event.{Event}
+use Rattle.router_trace.specs.declared.event.Event.TheVariants as event
+use Rattle.router_trace.specs.declared.handle.Attachment.{Attachment}
+use Rattle.state_sessions.specs.Windows.{windows}
+use Rattle.state_messages.specs.Passing.{grants_due, with_bound}
+use Rattle.reply_rows.specs.declared.answer.Answer.{Answer}
+use Rattle.reply_rows.specs.declared.answer.Answer.TheVariants.{Nothing, Header, Open, Close, CloseWith, Begin, End, Flow, Attach, Refuse, Detach, LinkFlow, Taken, Settle}
+use Rattle.reply_rows.specs.Booking.{wanted_key, wanted_address, wants_durable, new_terminus, has_room, durable_refusal, volatile_refusal, refuse_on, booked_attach, book_refusal, answer_at}
+use Rattle.reply_rows.specs.Finding.{finds}
+use Rattle.reply_rows.specs.Rows.{said, item_reply}
+use Rattle.router_reply.specs.Acts.{Journaled, live_answer, event_answer, answer_acts, admitted_acts, or_admits, finds_full, journaled, book_in, acts_of, book_behind, booked, answer_of}
+use Rattle.router_reply.specs.Deciding.{decided, forgotten}
+use Rattle.router_reply.specs.Replies.{closing_of, ends, heard, stolen_by, attach_answer, taken_behind, taken, refused, bound_by, item_put, item_row, own_row, replied}
+use Rattle.state_connections.proofs.Lists.{by_test}
+use Rattle.router_core.specs.Attaches.{is_attach_in, is_attach}
+use Rattle.router_core.specs.Moves.{Goes, IsTrace}
+use Rattle.core_machine.specs.Moves.{Move, handles, takes}
+use Rattle.router_core.specs.Replies.{handled}
+use Rattle.core_machine.specs.Moves.{took_one}
+use Rattle.router_core.proofs.Attachless.{Attachless, less_closing_of, less_said, on_less, less_row, less_windows}
+use Rattle.router_core.proofs.Due.{tells_on, sends_on, drains_on, grants_on}
+use Rattle.router_core.proofs.Following.{Steps, passed_on, passed_keeps}
+use Rattle.router_core.proofs.Replied.{FoundLive, found_live}
+use Rattle.theorems.specs.Each.{EachOut}
+use Rattle.theorems.specs.Keeping.{HasAddress, kept_if, perf_is_kept, IsKeptFirst}
+use Rattle.theorems.proofs.Made.{makes_terminus}
+
+abbrev Kept : List Entry → Type 0
+Kept t = EachOut IsKeptFirst t
+
+-- items that contain no attach
+
+less_perf : (body : Perf) (t : List Entry) (c : ℕ) → is_attach_in body ≡ false → perf_is_kept body t c
+less_perf (perf.Attach a) t c none = absurd cc
+less_perf _ t c none = tt
+
+less_item : (i : Item) (t : List Entry) (c : ℕ) → is_attach i ≡ false → IsKeptFirst t c i
+less_item (item.Frame sasl own body payload) t c none = less_perf body t c none
+less_item _ t c none = tt
+
+goes_kept : (ps : List Put) (t : List Entry) → Attachless ps → Kept t → Kept (goes ps t)
+goes_kept [] t less was = was
+goes_kept (p ∷ ps) t less was = goes_kept ps (Out p.conn p.item ∷ t) less.1 (less_item p.item t p.conn less.0, was)
+
+bound_kept : (b : Option Binding) (t : List Entry) → Kept t → Kept (with_bound b t)
+bound_kept None t was = was
+bound_kept (Some b) t was = was
+
+ends_kept : (id : List ℕ) (cs : List ℕ) (t : List Entry) → Kept t → Kept (ends id cs t)
+ends_kept id [] t was = was
+ends_kept id (d ∷ ds) t was =
+    let items : List Item = closing_of id (conn t d) ResourceLimitExceeded
+    in ends_kept id ds (puts d items t) (goes_kept (each_to d items) t (less_closing_of id d (conn t d) ResourceLimitExceeded) was)
+
+-- an answer to an attach asks for the same as the attach
+
+outlives_same : (d : ℕ) → outlives (kept d) ≡ outlives d
+outlives_same d = by_test (d == 1) (λ e. rw e (sym (ap outlives (eqb-true d 1 e)))) (λ e. rw e refl)
+
+abbrev Asks : AnAttach → Option Terminus → Type 0
+Asks a x = kept_if (is_durable a.role a) (address_by a.role a) x
+
+source_plain : (s : Option SourceTerminus) (x : Option Terminus) → kept_if (is_lasting_source s) (source_address s) x
+    → kept_if (is_lasting_source (source_answer s)) (source_address (source_answer s)) x
+source_plain (Some (source.Source s)) x k = subst (λ (b : Bool). kept_if b (source_address (Some (source.Source s))) x) (sym (outlives_same s.durable)) k
+source_plain _ x k = k
+
+target_plain : (s : Option TargetTerminus) (x : Option Terminus) → kept_if (is_lasting_target s) (target_address s) x
+    → kept_if (is_lasting_target (target_answer s)) (target_address (target_answer s)) x
+target_plain (Some (target.Target s)) x k = subst (λ (b : Bool). kept_if b (target_address (Some (target.Target s))) x) (sym (outlives_same s.durable)) k
+target_plain _ x k = k
+
+plain_kept : (r : Role) (a : AnAttach) (h : ℕ) (x : Option Terminus) → kept_if (is_durable r a) (address_by r a) x
+    → kept_if (is_durable r (plain_answer a h)) (address_by r (plain_answer a h)) x
+plain_kept Sender a h x k = source_plain a.source x k
+plain_kept Receiver a h x k = target_plain a.target x k
+
+source_lasts : (s : Option SourceTerminus) (x : Option Terminus) → kept_if (is_lasting_source s) (source_address s) x
+    → kept_if (is_lasting_source (lasting_source s)) (source_address (lasting_source s)) x
+source_lasts (Some (source.Source s)) x k = k
+source_lasts _ x k = k
+
+target_lasts : (s : Option TargetTerminus) (x : Option Terminus) → kept_if (is_lasting_target s) (target_address s) x
+    → kept_if (is_lasting_target (lasting_target s)) (target_address (lasting_target s)) x
+target_lasts (Some (target.Target s)) x k = k
+target_lasts _ x k = k
+
+lasting_kept : (r : Role) (d : Bool) (p : AnAttach) (x : Option Terminus) → kept_if (is_durable r p) (address_by r p) x
+    → Asks (if d then lasting_by r (record p { role = r }) else record p { role = r }) x
+lasting_kept Sender true p x k = source_lasts p.source x k
+lasting_kept Receiver true p x k = target_lasts p.target x k
+lasting_kept Sender false p x k = k
+lasting_kept Receiver false p x k = k
+
+answer_kept : (a : AnAttach) (h : ℕ) (x : Option Terminus) → kept_if (is_durable (other a.role) a) (address_by (other a.role) a) x → Asks (answer_to a h) x
+answer_kept a h x k = lasting_kept (other a.role) (is_durable (other a.role) (plain_answer a h)) (plain_answer a h) x (plain_kept (other a.role) a h x k)
+
+-- ... and its key is that of the attach
+lasting_key : (r : Role) (d : Bool) (p : AnAttach) (who : Option (List ℕ)) (from : Option Container)
+    → key_of who from (if d then lasting_by r (record p { role = r }) else record p { role = r }) ≡ key_of who from (record p { role = r })
+lasting_key Sender true p who from = refl
+lasting_key Receiver true p who from = refl
+lasting_key r false p who from = refl
+
+answer_key : (t : List Entry) (c : ℕ) (a : AnAttach) (h : ℕ) → key_at t c (answer_to a h) ≡ wanted_key t c a
+answer_key t c a h = lasting_key (other a.role) (is_durable (other a.role) (plain_answer a h)) (plain_answer a h) (user t c) (container t c)
+
+-- a refusal asks for no link
+refusal_kept : (r : Role) (s : Option SourceTerminus) (g : Option TargetTerminus) (p : AnAttach) (x : Option Terminus)
+    → Asks (record p { role = other r; source = refused_source r s; target = refused_target r g }) x
+refusal_kept Sender s g p x = tt
+refusal_kept Receiver s g p x = tt
+
+refused_kept : (t : List Entry) (largest c own handle : ℕ) (e : Condition) (a : AnAttach) → Kept t → Kept (goes (each_to c (refused largest own handle e a)) t)
+refused_kept t largest c own handle e a was = by (fits largest (attach_item own (refusal_of a handle)))
+  where
+    by : (b : Bool) → Kept (goes (each_to c (if b then attach_item own (refusal_of a handle) ∷ detach_item own handle true (Some e) ∷ [] else detach_item own handle true (Some e) ∷ [])) t)
+    by true = (tt, (refusal_kept a.role (source_answer a.source) (target_answer a.target) (plain_answer a handle) _, was))
+    by false = (tt, was)
+
+-- a terminus with the attach's address is what it asks for
+made_kept : (b : BookView) (key : LinkKey) (a : AnAttach) (v : Option Terminus) → v ≡ Some (new_terminus b key (wanted_address a)) → kept_if true (address_by (other a.role) a) v
+made_kept b key a v found = by (address_by (other a.role) a) refl
+  where
+    by : (o : Option (List ℕ)) → address_by (other a.role) a ≡ o → kept_if true o v
+    by None is = tt
+    by (Some address) is = subst (λ (y : Option Terminus). HasAddress y address) (sym found) (ap (λ (o : Option (List ℕ)). unwrap_or o []) is)
+
+-- an answer that takes a link: the book doesn't stand in its way, and its terminus is made
+
+attach_only : (free : ℕ → Option ℕ) (refusal : Option Condition) (answer : Answer) (own : ℕ) → booked_attach free refusal answer ≡ Attach own
+    → (refusal ≡ None) × (answer ≡ Attach own)
+attach_only free None (Attach o) own is = (refl, is)
+attach_only free (Some x) (Attach o) own is = absurd (by (free o) is)
+  where
+    by : (h : Option ℕ) → refuse_on o h x ≡ Attach own → ⊥
+    by None is = absurd cc
+    by (Some handle) is = absurd cc
+attach_only free refusal Nothing own is = absurd cc
+attach_only free refusal Header own is = absurd cc
+attach_only free refusal Open own is = absurd cc
+attach_only free refusal Close own is = absurd cc
+attach_only free refusal (CloseWith x) own is = absurd cc
+attach_only free refusal (Begin o theirs) own is = absurd cc
+attach_only free refusal (End o x) own is = absurd cc
+attach_only free refusal (Flow o told) own is = absurd cc
+attach_only free refusal (Refuse o h x) own is = absurd cc
+attach_only free refusal (Detach o h closed x) own is = absurd cc
+attach_only free refusal (LinkFlow o told at) own is = absurd cc
+attach_only free refusal (Taken o h) own is = absurd cc
+attach_only free refusal (Settle o) own is = absurd cc
+
+none_with : (o : Option Terminus) (a : AnAttach) (room : Bool) → durable_refusal o a room ≡ None → o ≡ None
+none_with None a room may = refl
+none_with (Some x) a room may = absurd (some (same_bytes x.address (wanted_address a)) may)
+  where
+    some : (b : Bool) → (if b then Some NotImplemented else Some NotAllowed) ≡ None → ⊥
+    some true is = absurd cc
+    some false is = absurd cc
+
+room_with : (o : Option Terminus) (a : AnAttach) (room : Bool) → durable_refusal o a room ≡ None → room ≡ true
+room_with None a true may = refl
+room_with None a false may = absurd cc
+room_with (Some x) a room may = absurd (none_is (none_with (Some x) a room may))
+  where
+    none_is : {y : Terminus} → Some y ≡ None → ⊥
+    none_is e = cc
+
+-- the answer to an attach behind the acts of its event
+answer_behind : (acts : List Act) (full : List ℕ) (t : List Entry) (c : ℕ) (p : Conn) (sasl : Bool) (channel : ℕ) (a : AnAttach) (payload : List ℕ)
+    → answer_of (Booked acts full ∷ t) c p (item.Frame sasl channel (perf.Attach a) payload)
+    ≡ answer_at (finds_full (journaled t) t (event.Item (record { 0 = c }) (item.Frame sasl channel (perf.Attach a) payload))) (book_in t) t c p (item.Frame sasl channel (perf.Attach a) payload)
+unfolding free_handle first_free_below free_channel
+answer_behind acts full t c p sasl channel a payload = refl
+
+record Makes (t : List Entry) (e : Event) (c : ℕ) (a : AnAttach) : Type 0 where
+  made : terminus_of (wanted_key t c a) (book_behind t e).termini ≡ Some (new_terminus (book_in t) (wanted_key t c a) (wanted_address a))
+
+makes : (t : List Entry) (from : ConnectionId) (sasl : Bool) (channel : ℕ) (a : AnAttach) (payload : List ℕ) (p : Conn) (own : ℕ)
+    → standing (found t (event.Item from (item.Frame sasl channel (perf.Attach a) payload)) from.0) ≡ Some p
+    → answer_of (booked t (event.Item from (item.Frame sasl channel (perf.Attach a) payload))) from.0 p (item.Frame sasl channel (perf.Attach a) payload) ≡ Attach own
+    → wants_durable a ≡ true → Makes t (event.Item from (item.Frame sasl channel (perf.Attach a) payload)) from.0 a
+makes t from sasl channel a payload p own stands answers wants =
+    let i : Item = item.Frame sasl channel (perf.Attach a) payload in
+    let e : Event = event.Item from i in
+    let b : BookView = book_in t in
+    let key : LinkKey = wanted_key t from.0 a in
+    let x : Terminus = new_terminus b key (wanted_address a) in
+    let full : Bool = finds_full (journaled t) t e in
+    let admitted : List Act = admitted_acts full b t e in
+    let at : answer_at full b t from.0 p i ≡ Attach own = sym (answer_behind (acts_of t e) (due t e) t from.0 p sasl channel a payload) ∙ answers in
+    let answer : event_answer full b t e ≡ Attach own = ap (live_answer full b t from.0 i) stands ∙ at in
+    let only = attach_only (free_handle t from.0) (book_refusal full b t from.0 a) (item_reply p (finds t from.0) i) own at in
+    let refusal : durable_refusal (terminus_of key b.termini) a (has_room full b x) ≡ None =
+    ap (λ (d : Bool). if d then durable_refusal (terminus_of key b.termini) a (has_room full b x) else volatile_refusal (holds_durable t key)) (sym wants) ∙ only.0 in
+    record {
+      made =
+          ap (λ (y : Answer). terminus_of key (effects b (or_admits (answer_acts b t e y) admitted)).termini) answer
+          ∙ ap (λ (d : Bool). terminus_of key (effects b (or_admits (settled_acts b (decided t e (Attach own)) (forgotten b t e (Attach own)) (if d then Some (terminus.Make x) else None)) admitted)).termini) wants
+          ∙ makes_terminus full b (decided t e (Attach own)) (forgotten b t e (Attach own)) key (wanted_address a) admitted
+          (none_with (terminus_of key b.termini) a (has_room full b x) refusal) (room_with (terminus_of key b.termini) a (has_room full b x) refusal);
+    }
+
+-- the names that a connection's links have
+
+pub record SameNames (t u : List Entry) (c : ℕ) : Type 0 where
+  pub who : user u c ≡ user t c
+  pub from : container u c ≡ container t c
+
+names_self : (t : List Entry) (c : ℕ) → SameNames t t c
+names_self t c = record { who = refl; from = refl }
+
+names_on : (t u v : List Entry) (c : ℕ) → SameNames t u c → SameNames u v c → SameNames t v c
+names_on t u v c f g = record { who = g.who ∙ f.who; from = g.from ∙ f.from }
+
+names_beside : (t : List Entry) (d c : ℕ) (i : Item) → (d == c) ≡ false → SameNames t (Out d i ∷ t) c
+names_beside t d c i apart = record { who = rw apart refl; from = rw apart refl }
+
+names_puts : (is : List Item) (t : List Entry) (d c : ℕ) → (d == c) ≡ false → SameNames t (puts d is t) c
+names_puts [] t d c apart = names_self t c
+names_puts (i ∷ is) t d c apart = names_on t (Out d i ∷ t) (puts d is (Out d i ∷ t)) c (names_beside t d c i apart) (names_puts is (Out d i ∷ t) d c apart)
+
+ends_names : (id : List ℕ) (ds : List ℕ) (t : List Entry) (c : ℕ) → has c ds ≡ false → SameNames t (ends id ds t) c
+ends_names id [] t c spared = names_self t c
+ends_names id (d ∷ ds) t c spared =
+    let items : List Item = closing_of id (conn t d) ResourceLimitExceeded
+    in by_test (d == c)
+    (λ e. absurd (not_both (rw e at spared)))
+    (λ e. names_on t (puts d items t) (ends id ds (puts d items t)) c (names_puts items t d c e) (ends_names id ds (puts d items t) c (rw e at spared)))
+  where
+    not_both : true ≡ false → ⊥
+    not_both e = absurd cc
+
+attach_names : (t : List Entry) (from : ConnectionId) (sasl : Bool) (channel : ℕ) (a : AnAttach) (payload : List ℕ) (s : Step)
+    → s.event ≡ event.Item from (item.Frame sasl channel (perf.Attach a) payload) → SameNames t (Did s ∷ t) from.0
+attach_names t from sasl channel a payload s is = record {
+  who = ap (λ (e : Event). user_at e from.0 (user t from.0)) is;
+  from = ap (λ (e : Event). container_at e from.0 (container t from.0)) is ∙ by (from.0 == from.0) sasl;
+}
+  where
+    by : (b f : Bool) → (if b then (if f then container t from.0 else container t from.0) else container t from.0) ≡ container t from.0
+    by true true = refl
+    by true false = refl
+    by false f = refl
+
+bound_names : (b : Option Binding) (t : List Entry) (c : ℕ) → SameNames t (with_bound b t) c
+bound_names None t c = names_self t c
+bound_names (Some b) t c = record { who = refl; from = refl }
+
+detach_names : (t : List Entry) (d own handle c : ℕ) (closed : Bool) (e : Option Condition) → SameNames t (Out d (detach_item own handle closed e) ∷ t) c
+detach_names t d own handle c closed e = record { who = by_test (d == c) (λ q. rw q refl) (λ q. rw q refl); from = by_test (d == c) (λ q. rw q refl) (λ q. rw q refl) }
+
+-- the book depends on no item
+
+goes_book : (ps : List Put) (t : List Entry) → journaled (goes ps t) ≡ journaled t
+goes_book [] t = refl
+goes_book (p ∷ ps) t = goes_book ps (Out p.conn p.item ∷ t)
+
+ends_book : (id : List ℕ) (ds : List ℕ) (t : List Entry) → journaled (ends id ds t) ≡ journaled t
+ends_book id [] t = refl
+ends_book id (d ∷ ds) t =
+    let items : List Item = closing_of id (conn t d) ResourceLimitExceeded
+    in ends_book id ds (puts d items t) ∙ goes_book (each_to d items) t
+
+bound_book : (b : Option Binding) (t : List Entry) → journaled (with_bound b t) ≡ journaled t
+bound_book None t = refl
+bound_book (Some b) t = refl
+
+-- a trace in which the attach of an event can be answered: the connection's names are as before the event, and the book is behind its acts
+pub record Stands (t : List Entry) (e : Event) (c : ℕ) (w : List Entry) : Type 0 where
+  pub names : SameNames t w c
+  pub book : book_in w ≡ book_behind t e
+
+pub key_there : (t w : List Entry) (c : ℕ) (a : AnAttach) (h : ℕ) → SameNames t w c → key_at w c (answer_to a h) ≡ wanted_key t c a
+key_there t w c a h names =
+    answer_key w c a h
+    ∙ ap (λ (who : Option (List ℕ)). key_of who (container w c) (plain_answer a 0)) names.who
+    ∙ ap (λ (from : Option Container). key_of (user t c) from (plain_answer a 0)) names.from
+
+abbrev Answers : List Entry → Event → ℕ → AnAttach → Type 0
+Answers t e c a = wants_durable a ≡ true → Makes t e c a
+
+asked_kept : (t w : List Entry) (e : Event) (c : ℕ) (a : AnAttach) (h : ℕ) → Answers t e c a → Stands t e c w
+    → Asks (answer_to a h) (terminus_of (key_at w c (answer_to a h)) (book_in w).termini)
+asked_kept t w e c a h made stands =
+    subst (λ (k : LinkKey). Asks (answer_to a h) (terminus_of k (book_in w).termini)) (sym (key_there t w c a h stands.names))
+    (subst (λ (b : BookView). Asks (answer_to a h) (terminus_of key b.termini)) (sym stands.book)
+    (answer_kept a h (terminus_of key (book_behind t e).termini) (by_test (wants_durable a) durable other_link)))
+  where
+    key : LinkKey
+    key = wanted_key t c a
+
+    Wanted : Bool → Type 0
+    Wanted d = kept_if d (address_by (other a.role) a) (terminus_of key (book_behind t e).termini)
+
+    durable : wants_durable a ≡ true → Wanted (wants_durable a)
+    durable wants =
+        subst Wanted (sym wants) (made_kept (book_in t) key a (terminus_of key (book_behind t e).termini) (made wants).made)
+
+    other_link : wants_durable a ≡ false → Wanted (wants_durable a)
+    other_link wants = subst Wanted (sym wants) tt
+
+-- an attach that is taken
+
+answer_there : (t w : List Entry) (e : Event) (c own largest : ℕ) (free : Option ℕ) (a : AnAttach) → Answers t e c a → Stands t e c w → Kept w
+    → Kept (goes (each_to c (attach_answer largest own free a)) w)
+answer_there t w e c own largest None a made stands was = was
+answer_there t w e c own largest (Some h) a made stands was = by (fits largest (attach_item own (answer_to a h))) (not (is_durable (answer_to a h).role (answer_to a h)))
+  where
+    by : (b closed : Bool) → Kept (goes (each_to c (if b then attach_item own (answer_to a h) ∷ [] else detach_item own h closed (Some FrameSizeTooSmall) ∷ [])) w)
+    by true closed = (asked_kept t w e c a h made stands, was)
+    by false closed = (tt, was)
+
+taken_kept : (t u w : List Entry) (e : Event) (c own : ℕ) (a : AnAttach) → Answers t e c a → Stands t e c w → Kept w → Kept (goes (taken u c own a) w)
+taken_kept t u w e c own a made stands was = by (holder u (key_at u c (answer_to a 0)))
+  where
+    by : (x : Option Attachment) → Kept (goes (taken_behind u c own a (stolen_by x)) w)
+    by None = answer_there t w e c own (largest_frame u c) (free_handle u c own) a made stands was
+    by (Some x) =
+        let out : Item = detach_item x.channel x.handle false (Some Stolen) in
+        answer_there t (Out x.conn.0 out ∷ w) e c own (largest_frame u c) (free_handle (Out x.conn.0 out ∷ u) c own) a made
+        (record { names = names_on t w (Out x.conn.0 out ∷ w) c stands.names (detach_names w x.conn.0 x.channel x.handle c false (Some Stolen)); book = stands.book }) (tt, was)
+
+-- an event with all that it put out
+
+more_none : (c : ℕ) (is : List Item) → Attachless (each_to c is) → Attachless (each_to c is ++ [])
+more_none c is less = subst (λ (ps : List Put). Attachless ps) (sym (append-nil (each_to c is))) less
+
+attach_row : (id : List ℕ) (t u w : List Entry) (from : ConnectionId) (sasl : Bool) (channel : ℕ) (a : AnAttach) (payload : List ℕ)
+    → ((p : Conn) → standing (found t (event.Item from (item.Frame sasl channel (perf.Attach a) payload)) from.0) ≡ Some p
+    → Stands t (event.Item from (item.Frame sasl channel (perf.Attach a) payload)) from.0 w) → Kept w
+    → (v : Option Conn) → standing (found t (event.Item from (item.Frame sasl channel (perf.Attach a) payload)) from.0) ≡ v
+    → Kept (goes (item_row id (booked t (event.Item from (item.Frame sasl channel (perf.Attach a) payload))) u from.0 (item.Frame sasl channel (perf.Attach a) payload) v) w)
+attach_row id t u w from sasl channel a payload stands was None none = was
+attach_row id t u w from sasl channel a payload stands was (Some p) here = by (answer_of (booked t e) from.0 p i) refl
+  where
+    i : Item
+    i = item.Frame sasl channel (perf.Attach a) payload
+
+    e : Event
+    e = event.Item from i
+
+    by : (x : Answer) → answer_of (booked t e) from.0 p i ≡ x → Kept (goes (item_put id (booked t e) u from.0 p i x) w)
+    by (Attach own) answers = taken_kept t u w e from.0 own a (λ wants. makes t from sasl channel a payload p own here answers wants) (stands p here) was
+    by (Refuse own handle x) answers = refused_kept w (largest_frame u from.0) from.0 own handle x a was
+    by x answers = goes_kept (each_to from.0 (said id p x) ++ []) w (more_none from.0 (said id p x) (less_said id from.0 p x)) was
+
+-- the trace in which the row of an attach is put
+pub attach_stands : (id : List ℕ) (t : List Entry) (from : ConnectionId) (sasl : Bool) (channel : ℕ) (a : AnAttach) (payload : List ℕ) (s : Step) (b : Option Binding)
+    → s.event ≡ event.Item from (item.Frame sasl channel (perf.Attach a) payload) → (p : Conn)
+    → standing (found t (event.Item from (item.Frame sasl channel (perf.Attach a) payload)) from.0) ≡ Some p
+    → Stands t (event.Item from (item.Frame sasl channel (perf.Attach a) payload)) from.0
+    (with_bound b (ends id (due t (event.Item from (item.Frame sasl channel (perf.Attach a) payload))) (Did s ∷ booked t (event.Item from (item.Frame sasl channel (perf.Attach a) payload)))))
+attach_stands id t from sasl channel a payload s b is p here =
+    let e : Event = event.Item from (item.Frame sasl channel (perf.Attach a) payload) in
+    let at : List Entry = Did s ∷ booked t e in
+    let u : List Entry = ends id (due t e) at in
+    let live : FoundLive t e from.0 = found_live t e from.0 (ap (λ (v : Option Conn). is_some v) here) in
+    let before : SameNames t (booked t e) from.0 = record { who = refl; from = refl } in
+    let came : SameNames t at from.0 = names_on t (booked t e) at from.0 before (attach_names (booked t e) from sasl channel a payload s is) in
+    record {
+      names = names_on t u (with_bound b u) from.0 (names_on t at u from.0 came (ends_names id (due t e) at from.0 live.spared)) (bound_names b u from.0);
+      book = ap (λ (j : Journaled). j.book) (bound_book b u ∙ ends_book id (due t e) at);
+    }
+
+row_kept : (id : List ℕ) (t : List Entry) (s : Step) (e : Event) → s.event ≡ e → (b : Option Binding)
+    → Kept (with_bound b (ends id (due t e) (Did s ∷ booked t e)))
+    → Kept (goes (own_row id (booked t e) (ends id (due t e) (Did s ∷ booked t e)) e) (with_bound b (ends id (due t e) (Did s ∷ booked t e))))
+row_kept id t s (event.Item from (item.Frame sasl channel (perf.Attach a) payload)) is b was =
+    let e : Event = event.Item from (item.Frame sasl channel (perf.Attach a) payload) in
+    let u : List Entry = ends id (due t e) (Did s ∷ booked t e) in
+    attach_row id t u (with_bound b u) from sasl channel a payload (λ p here. attach_stands id t from sasl channel a payload s b is p here) was (standing (found t e from.0)) refl
+row_kept id t s e is b was =
+    let u : List Entry = ends id (due t e) (Did s ∷ booked t e) in
+    goes_kept (own_row id (booked t e) u e) (with_bound b u) (less_row id (booked t e) u e refl) was
+
+passed_kept : Steps Kept
+passed_kept = record {
+  telling = λ t was. goes_kept (tells t) t (on_less t (tells t) (tells_on t)) was;
+  sending = λ t was. goes_kept (sends_due t) t (on_less t (sends_due t) (sends_on t)) was;
+  draining = λ t was. goes_kept (drains_due t) t (on_less t (drains_due t) (drains_on t)) was;
+  granting = λ t was. goes_kept (grants_due t) t (on_less t (grants_due t) (grants_on t)) was;
+}
+
+handled_kept : (id : List ℕ) (t : List Entry) (s : Step) → Kept t → Kept (handled id t s)
+handled_kept id t s was =
+    let at : List Entry = booked t s.event in
+    let u : List Entry = heard id at s in
+    let b : Option Binding = bound_by at u s.event in
+    let rows : Kept (replied id at s) = row_kept id t s s.event refl b (bound_kept b u (ends_kept id (due t s.event) (Did s ∷ at) was)) in
+    let behind : List Entry = passed_on (replied id at s) in
+    goes_kept (windows behind) behind (less_windows behind) (passed_keeps Kept passed_kept (replied id at s) rows)
+
+moves_kept : (id : List ℕ) (ms : List Move) (t u : List Entry) → Kept t → Goes id ms t u → Kept u
+moves_kept id [] t u was went = subst Kept (sym went) was
+moves_kept id (handles s ∷ ms) t u was went = moves_kept id ms (handled id t s) u (handled_kept id t s was) went.1
+moves_kept id (takes x ∷ ms) t u was went = moves_kept id ms (took_one x t) u was went
+
+pub trace_kept : (id : List ℕ) (g : Beginning) (u : List Entry) → IsTrace id g u → Kept u
+trace_kept id g u trace = moves_kept id trace.0 (beginning g) u tt trace.1

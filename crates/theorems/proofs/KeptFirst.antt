@@ -1,0 +1,431 @@
+-- In every trace of the router in which no event is declined, the outcome of a delivery with a row stands in the book before it is told, and each row is decided
+-- at most once.
+use Rattle.std.proofs.Common.{◌≡◌, ◌∙◌, sym, ap, refl, subst, ◌⊎◌, inl, inr, ℕ, ◌+◌, ◌≤◌, ◌<◌, ◌^◌, ◌||◌, Bool, true, false, List, [], ◌∷◌, ◌++◌, arith}
+use Rattle.std.specs.Prelude.{Option, Some, None, if◌then◌else◌}
+use Rattle.amqp_model.specs.declared.perf.Attach.{Attach as AnAttach}
+use Rattle.amqp_model.specs.declared.perf.Perf.{Perf}
+use Rattle.amqp_model.specs.declared.perf.Perf.TheVariants as perf
+use Rattle.amqp_model.specs.declared.perf.Transfer.{Transfer as ATransfer}
+use Rattle.amqp_model.specs.declared.item.Item.{Item}
+use Rattle.amqp_model.specs.declared.item.Item.TheVariants as item
+use Rattle.amqp_conn.specs.declared.conn.Conn.{Conn}
+use Rattle.amqp_link.specs.declared.part.Part.{Part}
+use Rattle.book_model.specs.declared.act.Act.{Act}
+use Rattle.book_model.specs.Book.{BookView, effects}
+use Rattle.gate_journal.specs.Ordered.{IsOrdered}
+use Rattle.gate_journal.proofs.Nexts.{made_ordered}
+use Rattle.book_model.specs.Made.{IsMade}
+use Rattle.router_trace.specs.Configuration.{beginning}
+use Rattle.router_trace.specs.declared.binding.Binding.{Binding}
+use Rattle.router_trace.specs.declared.condition.Condition.TheVariants.{ResourceLimitExceeded}
+use Rattle.router_trace.specs.declared.event.ConnectionId.{ConnectionId}
+use Rattle.router_trace.specs.declared.event.Event.{Event}
+use Rattle.router_trace.specs.declared.event.Event.TheVariants as event
+use Rattle.router_trace.specs.Trace.{Beginning, Trace, Did, Out, Took, Booked, Put, Step, goes, puts, each_to, step_of, ups}
+use Rattle.router_trace.specs.Connection.{conn, due, found, standing, live_of}
+use Rattle.router_trace.specs.Clocks.{terms, written, needs_beat}
+use Rattle.router_trace.specs.Deliveries.{Delivery, bindings, delivery}
+use Rattle.router_trace.specs.Links.{link_place, free_handle}
+use Rattle.router_trace.specs.Peers.{largest_frame}
+use Rattle.router_trace.specs.Sessions.{theirs}
+use Rattle.router_trace.specs.Settling.{part_of}
+use Rattle.state_messages.specs.Passing.{with_bound}
+use Rattle.reply_rows.specs.declared.answer.Answer.{Answer}
+use Rattle.reply_rows.specs.declared.answer.Answer.TheVariants.{Attach, Refuse, Taken}
+use Rattle.reply_rows.specs.Booking.{answer_at}
+use Rattle.router_state.specs.Tables.{beat_if, beats_over}
+use Rattle.router_reply.specs.Acts.{live_answer, finds_full, journaled, book_in, acts_of, booked, answer_of}
+use Rattle.router_reply.specs.Deciding.{ended_by}
+use Rattle.router_reply.specs.Replies.{closing_of, ends, heard, bound_for, item_put, item_bound, item_row, bound_by, own_row, replied_behind, replied}
+use Rattle.router_core.specs.declared.driving.Sent.{Sent}
+use Rattle.router_core.specs.Moves.{Goes, IsTrace}
+use Rattle.core_machine.specs.Moves.{Move, handles, takes}
+use Rattle.router_core.specs.Replies.{handled}
+use Rattle.router_core.specs.Runs.{took_all, MayStep, Run}
+use Rattle.core_machine.specs.Moves.{Taking, took_one}
+use Rattle.core_machine.specs.Turns.{is_started, declines}
+use Rattle.router_core.proofs.Books.{started_handled}
+use Rattle.router_core.proofs.Following.{all_keep}
+use Rattle.theorems.specs.Carried.{HasSmallNumbers}
+use Rattle.theorems.specs.Always.{GoesInTurn}
+use Rattle.theorems.specs.Kept.{may_be_decided, times_in, times_decided, IsDecidedOnce, EachOutcomeIsKept, EachRowIsDecidedOnce}
+use Rattle.theorems.proofs.Admitted.{answer_behind}
+use Rattle.theorems.proofs.AllSound.{handled_sound}
+use Rattle.theorems.proofs.Answering.{IfAttach, attach_answered, attach_finds, taken_receives, may_bind}
+use Rattle.theorems.proofs.Attaching.{AttachAt, taken_kept, refused_kept}
+use Rattle.theorems.proofs.Bindings.{of_messages, there_bound}
+use Rattle.theorems.proofs.Booked.{acts_apply, ordered_acts, changes_of, booked_facts}
+use Rattle.theorems.proofs.Ending.{takes_none, answer_rest, came_kept, ends_kept}
+use Rattle.theorems.proofs.Keeps.{Kept, PlainPut, plain_both, plain_goes, took_kept, small_before, SmallKept, followed_kept}
+use Rattle.theorems.proofs.Once.{Decides, decides_once}
+use Rattle.theorems.proofs.Rowing.{MayBind, Receives, plain_row, disposed_row, taken_row}
+use Rattle.theorems.proofs.Sound.{Sound, sound_start, took_sound, batch_sound}
+use Rattle.theorems.proofs.Standing.{began_standing, booked_standing}
+use Rattle.theorems.proofs.Tests.{none_not_some}
+use Rattle.theorems.proofs.Transfers.{IfTaken, transfer_taken}
+
+clash : true ≡ false → ⊥
+clash e = cc
+
+-- an item without a transfer binds nothing
+
+binds_none : (at u : Trace) (c : ℕ) (i : Item) → ((own : ℕ) → part_of i (link_place at c own) ≡ None) → (y : Answer) → bound_for at u c i y ≡ None
+binds_none at u c i none (Taken own handle) = rw (none own) refl
+binds_none at u c i none _ = refl
+
+abbrev nothing : Option Part
+nothing = None
+
+no_part : (sasl : Bool) → (if sasl then nothing else nothing) ≡ nothing
+no_part true = refl
+no_part false = refl
+
+-- the row of an item, by the answer to it
+
+abbrev Rowed : List ℕ → Trace → Trace → ℕ → Conn → Item → Answer → Type 0
+Rowed id at u c p i y = Kept (goes (item_put id at u c p i y) (with_bound (bound_for at u c i y) u)) []
+
+attach_row : (id : List ℕ) (t at u : Trace) (c : ℕ) (p : Conn) (sasl : Bool) (channel : ℕ) (a : AnAttach) (payload : List ℕ) (y : Answer)
+    → IfAttach sasl (free_handle t c) y → (sasl ≡ false → AttachAt t u c a) → Kept u (ended_by t c (item.Frame sasl channel (perf.Attach a) payload) y)
+    → Rowed id at u c p (item.Frame sasl channel (perf.Attach a) payload) y
+attach_row id t at u c p sasl channel a payload (Attach own) of finds was = taken_kept t u c own a (finds of) was
+attach_row id t at u c p sasl channel a payload (Refuse own handle x) of finds was = refused_kept t u c own handle (largest_frame u c) x a (finds of.0) of.1 was
+attach_row id t at u c p sasl channel a payload (Taken own handle) of finds was =
+    subst (λ (b : Option Binding). Kept (with_bound b u) []) (sym (binds_none at u c (item.Frame sasl channel (perf.Attach a) payload) (λ o. no_part sasl) (Taken own handle))) was
+attach_row id t at u c p sasl channel a payload y of finds was = plain_row id t at u c p (item.Frame sasl channel (perf.Attach a) payload) y tt refl refl was
+
+frame_row : (id : List ℕ) (t at u : Trace) (c : ℕ) (p : Conn) (sasl : Bool) (channel : ℕ) (body : Perf) (payload : List ℕ) (y : Answer)
+    → ((a : AnAttach) → body ≡ perf.Attach a → IfAttach sasl (free_handle t c) y × (sasl ≡ false → AttachAt t u c a))
+    → ((own handle : ℕ) → y ≡ Taken own handle → (x : ATransfer) → body ≡ perf.Transfer x → Receives u c own handle)
+    → MayBind u (bound_for at u c (item.Frame sasl channel body payload) y) → Kept u (ended_by t c (item.Frame sasl channel body payload) y) → Rowed id at u c p (item.Frame sasl channel body payload) y
+frame_row id t at u c p sasl channel (perf.Attach a) payload y attaching taking may was =
+    let is = attaching a refl in attach_row id t at u c p sasl channel a payload y is.0 is.1 was
+frame_row id t at u c p sasl channel (perf.Transfer x) payload y attaching taking may was =
+    taken_row id t at u c p sasl channel x payload y may (λ own handle is. taking own handle is x refl) was
+frame_row id t at u c p sasl channel (perf.Disposition x) payload y attaching taking may was =
+    disposed_row id t at u c p sasl channel x payload y (binds_none at u c (item.Frame sasl channel (perf.Disposition x) payload) (λ o. no_part sasl) y) was
+frame_row id t at u c p sasl channel body payload y attaching taking may was =
+    plain_row id t at u c p (item.Frame sasl channel body payload) y (takes_none t c (item.Frame sasl channel body payload) y refl) (binds_none at u c (item.Frame sasl channel body payload) (λ o. no_part sasl) y) refl was
+
+-- an event's row
+
+item_rows : (id : List ℕ) (t : Trace) (s : Step) (from : ConnectionId) (i : Item) → s.event ≡ event.Item from i → (p : Conn) → standing (found t (event.Item from i) from.0) ≡ Some p → (y : Answer)
+    → answer_at (finds_full (journaled t) t (event.Item from i)) (book_in t) t from.0 p i ≡ y
+    → MayBind (ends id (due t (event.Item from i)) (Did s ∷ booked t (event.Item from i))) (bound_for (booked t (event.Item from i)) (ends id (due t (event.Item from i)) (Did s ∷ booked t (event.Item from i))) from.0 i y)
+    → Kept (ends id (due t (event.Item from i)) (Did s ∷ booked t (event.Item from i))) (ended_by t from.0 i y)
+    → Rowed id (booked t (event.Item from i)) (ends id (due t (event.Item from i)) (Did s ∷ booked t (event.Item from i))) from.0 p i y
+item_rows id t s from (item.Frame sasl channel body payload) is p here y answer may was =
+    frame_row id t (booked t e) u from.0 p sasl channel body payload y attaching taking may was
+  where
+    e : Event
+    e = event.Item from (item.Frame sasl channel body payload)
+
+    u : Trace
+    u = ends id (due t e) (Did s ∷ booked t e)
+
+    full : Bool
+    full = finds_full (journaled t) t e
+
+    -- an attach
+    attaching : (a : AnAttach) → body ≡ perf.Attach a → IfAttach sasl (free_handle t from.0) y × (sasl ≡ false → AttachAt t u from.0 a)
+    attaching a same = (
+      subst (λ (z : Answer). IfAttach sasl (free_handle t from.0) z) answer
+          (subst (λ (b : Perf). IfAttach sasl (free_handle t from.0) (answer_at full (book_in t) t from.0 p (item.Frame sasl channel b payload))) (sym same)
+          (attach_answered full (book_in t) t from.0 p sasl channel a payload)),
+      λ plain. at_attach plain,
+    )
+      where
+        at_attach : sasl ≡ false → AttachAt t u from.0 a
+        at_attach plain =
+            subst (λ (x : Event). AttachAt t (ends id (due t x) (Did s ∷ booked t x)) from.0 a)
+            (ap (λ (b : Perf). event.Item from (item.Frame false channel b payload)) (sym same) ∙ ap (λ (q : Bool). event.Item from (item.Frame q channel body payload)) (sym plain))
+            (attach_finds id t s from channel a payload p
+            (is ∙ ap (λ (q : Bool). event.Item from (item.Frame q channel body payload)) plain ∙ ap (λ (b : Perf). event.Item from (item.Frame false channel b payload)) same)
+            (subst (λ (x : Event). standing (found t x from.0) ≡ Some p)
+            (ap (λ (q : Bool). event.Item from (item.Frame q channel body payload)) plain ∙ ap (λ (b : Perf). event.Item from (item.Frame false channel b payload)) same) here))
+
+    -- a transfer that is taken
+    taking : (own handle : ℕ) → y ≡ Taken own handle → (x : ATransfer) → body ≡ perf.Transfer x → Receives u from.0 own handle
+    taking own handle taken x same =
+        subst (λ (z : Event). Receives (ends id (due t z) (Did s ∷ booked t z)) from.0 own handle) (ap whole (sym same))
+        (taken_receives id t s from sasl channel x payload p own handle (is ∙ ap whole same) (subst (λ (z : Event). standing (found t z from.0) ≡ Some p) (ap whole same) here)
+        (subst (λ (z : Answer). IfTaken sasl (theirs t from.0 channel) (λ own. link_place t from.0 own x.handle) z) (turned ∙ taken) (transfer_taken full (book_in t) p t from.0 sasl channel x payload)))
+      where
+        whole : Perf → Event
+        whole b = event.Item from (item.Frame sasl channel b payload)
+
+        turned : answer_at full (book_in t) t from.0 p (item.Frame sasl channel (perf.Transfer x) payload) ≡ y
+        turned = ap (λ (b : Perf). answer_at full (book_in t) t from.0 p (item.Frame sasl channel b payload)) (sym same) ∙ answer
+item_rows id t s from i is p here y answer may was = plain_row id t (booked t (event.Item from i)) (ends id (due t (event.Item from i)) (Did s ∷ booked t (event.Item from i))) from.0 p i y (takes_none t from.0 i y refl) (binds_none (booked t (event.Item from i)) (ends id (due t (event.Item from i)) (Did s ∷ booked t (event.Item from i))) from.0 i (λ o. refl) y) refl was
+
+beat_plain : (b : Bool) (c : ℕ) → PlainPut (beat_if b c)
+beat_plain true c = (refl, tt)
+beat_plain false c = tt
+
+beats_plain : (t : Trace) (now : ℕ) (cs : List ℕ) → PlainPut (beats_over t now cs)
+beats_plain t now [] = tt
+beats_plain t now (c ∷ cs) =
+    plain_both (beat_if (needs_beat (terms t c) (written t c) now) c) (beats_over t now cs) (beat_plain (needs_beat (terms t c) (written t c) now) c) (beats_plain t now cs)
+
+event_rows : (id : List ℕ) (t : Trace) (s : Step) (e : Event) → s.event ≡ e → MayBind (ends id (due t e) (Did s ∷ booked t e)) (bound_by (booked t e) (ends id (due t e) (Did s ∷ booked t e)) e)
+    → Kept (ends id (due t e) (Did s ∷ booked t e)) (answer_rest t e) → Kept (replied_behind id (booked t e) (ends id (due t e) (Did s ∷ booked t e)) e) []
+event_rows id t s (event.Item from i) is may was = by (standing (found t e from.0)) refl may was
+  where
+    e : Event
+    e = event.Item from i
+
+    at : Trace
+    at = booked t e
+
+    u : Trace
+    u = ends id (due t e) (Did s ∷ at)
+
+    full : Bool
+    full = finds_full (journaled t) t e
+
+    by : (v : Option Conn) → standing (found t e from.0) ≡ v → MayBind u (item_bound at u from.0 i v) → Kept u (ended_by t from.0 i (live_answer full (book_in t) t from.0 i v))
+        → Kept (goes (item_row id at u from.0 i v) (with_bound (item_bound at u from.0 i v) u)) []
+    by None here may was = was
+    by (Some p) here may was =
+        let same : answer_of at from.0 p i ≡ answer_at full (book_in t) t from.0 p i = answer_behind (acts_of t e) (due t e) t full (book_in t) from.0 p i in
+        item_rows id t s from i is p here (answer_of at from.0 p i) (sym same) may (subst (λ (y : Answer). Kept u (ended_by t from.0 i y)) (sym same) was)
+event_rows id t s (event.Down c) is may was = was
+event_rows id t s (event.Tick ms) is may was =
+    plain_goes (beats_over (booked t (event.Tick ms)) ms (live_of (ups t) (found t (event.Tick ms)))) (ends id (due t (event.Tick ms)) (Did s ∷ booked t (event.Tick ms)))
+    (beats_plain (booked t (event.Tick ms)) ms (live_of (ups t) (found t (event.Tick ms)))) was
+event_rows id t s (event.Up c p) is may was = was
+event_rows id t s event.Start is may was = was
+
+booked_kept : (t : Trace) (e : Event) → (e ≡ event.Start → (n : ℕ) → delivery t n ≡ None) → Kept t [] → Kept (booked t e) (changes_of t e)
+booked_kept t e none was = record {
+  law = was.law;
+  facts = booked_facts t e was.standing was.ordered none was.facts;
+  standing = booked_standing t (acts_of t e) was.standing;
+  named = was.named;
+  ordered = ordered_acts t e was.ordered;
+}
+
+replied_kept : (id : List ℕ) (t : Trace) (s : Step) → Sound t → (s.event ≡ event.Start → (n : ℕ) → delivery t n ≡ None) → Kept t [] → Kept (replied id (booked t s.event) s) []
+replied_kept id t s sound none was =
+    let e : Event = s.event in
+    let u : Trace = heard id (booked t e) s in
+    let behind : Kept u (answer_rest t e) = ends_kept id s (booked t e) (answer_rest t e) (came_kept s t (booked_kept t e none was)) in
+    event_rows id t s e refl (may_bind id t s (batch_sound t (acts_of t e) sound) behind.ordered) behind
+
+-- numbers that are small now were small before
+
+bound_small : (b : Option Binding) (u : Trace) → HasSmallNumbers (with_bound b u) → HasSmallNumbers u
+bound_small None u small = small
+bound_small (Some b) u small = (lower (bindings u) small.0, small.1.1)
+  where
+    lower : (n : ℕ) → n + 1 < 2 ^ 64 → n < 2 ^ 64
+    lower n h = omega (arith, h)
+
+ends_small : (id : List ℕ) (cs : List ℕ) (w : Trace) → HasSmallNumbers (ends id cs w) → HasSmallNumbers w
+ends_small id [] w small = small
+ends_small id (c ∷ cs) w small =
+    let items : List Item = closing_of id (conn w c) ResourceLimitExceeded in
+    small_before (each_to c items) w (ends_small id cs (puts c items w) small)
+
+replied_small : (id : List ℕ) (t : Trace) (s : Step) → HasSmallNumbers (replied id (booked t s.event) s) → HasSmallNumbers t
+replied_small id t s small =
+    let at : Trace = booked t s.event in
+    let u : Trace = heard id at s in
+    let b : Option Binding = bound_by at u s.event in
+    ends_small id (due t s.event) (Did s ∷ at) (bound_small b u (small_before (own_row id at u s.event) (with_bound b u) small))
+
+handled_kept : (id : List ℕ) (t : Trace) (s : Step) → Sound t → (s.event ≡ event.Start → (n : ℕ) → delivery t n ≡ None) → SmallKept t → SmallKept (handled id t s)
+handled_kept id t s sound none was =
+    followed_kept (replied id (booked t s.event) s) (λ small. replied_kept id t s sound none (was (replied_small id t s small)))
+
+-- moves
+
+-- before the start no message is bound
+abbrev Unstarted : Trace → Type 0
+Unstarted t = is_started t ≡ false → bindings t ≡ 0
+
+nothing_bound : (t : Trace) → bindings t ≡ 0 → (n : ℕ) → delivery t n ≡ None
+nothing_bound t none n = by (delivery t n) refl
+  where
+    low : (n k j : ℕ) → n ≤ k → k ≡ 0 → j + 1 ≡ n → ⊥
+    low n k j h e f = omega (arith, h, e, f)
+
+    by : (v : Option Delivery) → delivery t n ≡ v → v ≡ None
+    by None is = refl
+    by (Some d) is = absurd (low n (bindings t) (bindings (of_messages t n d is).before) (there_bound t n d is) none (of_messages t n d is).number)
+
+unstarted : (t : Trace) → declines t event.Start ≡ false → is_started t ≡ false
+unstarted t taken = by (is_started t) taken
+  where
+    by : (b : Bool) → (b || false) ≡ false → b ≡ false
+    by true h = absurd (clash h)
+    by false h = refl
+
+made_is_ordered : (b : BookView) → IsMade b → IsOrdered b
+made_is_ordered b made = subst IsOrdered (sym made.2) (made_ordered made.0 made.1)
+
+record All (t : Trace) : Type 0 where
+  sound : Sound t
+  kept : SmallKept t
+  before : Unstarted t
+
+start_all : (g : Beginning) → IsMade g.book → All (beginning g)
+start_all g made = record {
+  sound = sound_start g;
+  kept = λ small. record {
+    law = tt;
+    facts = λ n d r there name. absurd (none_not_some there);
+    standing = began_standing g;
+    named = λ n id d there undecided has. absurd (none_not_some there);
+    ordered = made_is_ordered g.book made;
+  };
+  before = λ not. refl;
+}
+
+moves_all : (id : List ℕ) (ms : List Move) (t u : Trace) → All t → GoesInTurn id ms t u → SmallKept u
+moves_all id [] t u all went = subst SmallKept (sym went) all.kept
+moves_all id (handles s ∷ ms) t u all went =
+    moves_all id ms (handled id t s) u
+    (record {
+      sound = handled_sound id t s all.sound;
+      kept = handled_kept id t s all.sound (λ is n. nothing_bound t (all.before (unstarted t (subst (λ (e : Event). declines t e ≡ false) is went.0))) n) all.kept;
+      before = λ not. absurd (clash (sym (started_handled id t s.event went.0) ∙ not));
+    })
+    went.1
+moves_all id (takes x ∷ ms) t u all went =
+    moves_all id ms (took_one x t) u (record { sound = took_sound _ _ t all.sound; kept = λ small. took_kept _ _ t (all.kept small); before = all.before }) went
+
+pub outcomes_kept : (id : List ℕ) (g : Beginning) (u : Trace) (moves : List Move) → GoesInTurn id moves (beginning g) u → IsMade g.book → EachOutcomeIsKept g u
+outcomes_kept id g u moves went made small = (moves_all id moves (beginning g) u (start_all g made) went small).law
+
+-- each row is decided at most once
+
+record Once (first : BookView) (t : Trace) : Type 0 where
+  ordered : IsOrdered (book_in t)
+  once : (n : ℕ) → IsDecidedOnce first t n
+  stays : (n : ℕ) → may_be_decided first n ≡ false → may_be_decided (book_in t) n ≡ false
+
+booked_once : (first : BookView) (t : Trace) (e : Event) → Once first t → Once first (booked t e)
+booked_once first t e was = record {
+  ordered = ordered_acts t e was.ordered;
+  once = λ n. by n (may_be_decided (book_in t) n) refl (decides n);
+  stays = λ n shut. ((decides n).shut (was.stays n shut)).1;
+}
+  where
+    acts : List Act
+    acts = acts_of t e
+
+    decides : (n : ℕ) → Decides (book_in t) (effects (book_in t) acts) (times_in acts n) n
+    decides n = decides_once acts (book_in t) n was.ordered (acts_apply t e was.ordered)
+
+    none_more : (j k : ℕ) → k ≡ 0 → j ≤ 1 → j + k ≤ 1
+    none_more j k e h = omega (arith, e, h)
+
+    sums : (j k : ℕ) → j ≡ 0 → k ≡ 0 → j + k ≡ 0
+    sums j k e f = omega (arith, e, f)
+
+    zero_one : (j : ℕ) → j ≡ 0 → j ≤ 1
+    zero_one j e = omega (arith, e)
+
+    first_one : (j k : ℕ) → j ≡ 0 → k ≡ 1 → j + k ≤ 1
+    first_one j k e f = omega (arith, e, f)
+
+    either : (n : ℕ) → times_decided t n ≡ 0 → may_be_decided (book_in t) n ≡ true → (times_in acts n ≡ 0) ⊎ ((times_in acts n ≡ 1) × (may_be_decided (effects (book_in t) acts) n ≡ false))
+        → IsDecidedOnce first (Booked acts (due t e) ∷ t) n
+    either n none might (inl more) = record {
+      once = zero_one (times_decided t n + times_in acts n) (sums (times_decided t n) (times_in acts n) none more);
+      waits = λ might. sums (times_decided t n) (times_in acts n) none more;
+      before = λ shut. sums (times_decided t n) (times_in acts n) none more;
+    }
+    either n none might (inr now) = record {
+      once = first_one (times_decided t n) (times_in acts n) none now.0;
+      waits = λ still. absurd (clash (sym still ∙ now.1));
+      before = λ shut. absurd (clash (sym might ∙ was.stays n shut));
+    }
+
+    by : (n : ℕ) (b : Bool) → may_be_decided (book_in t) n ≡ b → Decides (book_in t) (effects (book_in t) acts) (times_in acts n) n → IsDecidedOnce first (Booked acts (due t e) ∷ t) n
+    by n true is more = either n ((was.once n).waits is) is (more.once is)
+    by n false is more =
+        let none = more.shut is in
+        record {
+          once = none_more (times_decided t n) (times_in acts n) none.0 (was.once n).once;
+          waits = λ still. absurd (clash (sym still ∙ none.1));
+          before = λ shut. sums (times_decided t n) (times_in acts n) ((was.once n).before shut) none.0;
+        }
+
+did_once : (first : BookView) (s : Step) (t : Trace) → Once first t → Once first (Did s ∷ t)
+did_once first s t was = record { ordered = was.ordered; once = λ n. record { once = (was.once n).once; waits = (was.once n).waits; before = (was.once n).before }; stays = was.stays }
+
+took_once : (first : BookView) (c k : ℕ) (t : Trace) → Once first t → Once first (Took c k ∷ t)
+took_once first c k t was = record { ordered = was.ordered; once = λ n. record { once = (was.once n).once; waits = (was.once n).waits; before = (was.once n).before }; stays = was.stays }
+
+goes_once : (first : BookView) (ps : List Put) (t : Trace) → Once first t → Once first (goes ps t)
+goes_once first [] t was = was
+goes_once first (p ∷ ps) t was =
+    goes_once first ps (Out p.conn p.item ∷ t)
+    (record { ordered = was.ordered; once = λ n. record { once = (was.once n).once; waits = (was.once n).waits; before = (was.once n).before }; stays = was.stays })
+
+ends_once : (first : BookView) (id : List ℕ) (cs : List ℕ) (t : Trace) → Once first t → Once first (ends id cs t)
+ends_once first id [] t was = was
+ends_once first id (c ∷ cs) t was =
+    let items : List Item = closing_of id (conn t c) ResourceLimitExceeded in
+    ends_once first id cs (puts c items t) (goes_once first (each_to c items) t was)
+
+bound_once : (first : BookView) (b : Option Binding) (t : Trace) → Once first t → Once first (with_bound b t)
+bound_once first None t was = was
+bound_once first (Some b) t was = record { ordered = was.ordered; once = λ n. record { once = (was.once n).once; waits = (was.once n).waits; before = (was.once n).before }; stays = was.stays }
+
+handled_once : (first : BookView) (id : List ℕ) (t : Trace) (s : Step) → Once first t → Once first (handled id t s)
+handled_once first id t s was =
+    let at : Trace = booked t s.event in
+    let u : Trace = heard id at s in
+    let b : Option Binding = bound_by at u s.event in
+    let came : Once first u = ends_once first id (due t s.event) (Did s ∷ at) (did_once first s at (booked_once first t s.event was)) in
+    all_keep (Once first) (goes_once first) (replied id at s) (goes_once first (own_row id at u s.event) (with_bound b u) (bound_once first b u came))
+
+moves_once : (first : BookView) (id : List ℕ) (ms : List Move) (t u : Trace) → Once first t → Goes id ms t u → Once first u
+moves_once first id [] t u was went = subst (Once first) (sym went) was
+moves_once first id (handles s ∷ ms) t u was went = moves_once first id ms (handled id t s) u (handled_once first id t s was) went.1
+moves_once first id (takes x ∷ ms) t u was went = moves_once first id ms (took_one x t) u (took_once first _ _ t was) went
+
+pub rows_once : (id : List ℕ) (g : Beginning) (u : Trace) → IsTrace id g u → IsMade g.book → EachRowIsDecidedOnce g u
+rows_once id g u trace made =
+    (moves_once g.book id trace.0 (beginning g) u (record {
+      ordered = made_is_ordered g.book made;
+      once = λ n. record { once = zero_one; waits = λ might. refl; before = λ shut. refl };
+      stays = λ n shut. shut;
+    }) trace.1).once
+  where
+    zero_one : 0 ≤ 1
+    zero_one = omega arith
+
+-- runs decline what is out of turn
+
+abbrev LeadsInTurn : List ℕ → Trace → Trace → Type 0
+LeadsInTurn id t u = (moves : List Move) × GoesInTurn id moves t u
+
+turns_on : (id : List ℕ) (ms ns : List Move) (t u v : Trace) → GoesInTurn id ms t u → GoesInTurn id ns u v → GoesInTurn id (ms ++ ns) t v
+turns_on id [] ns t u v first rest = subst (λ (w : Trace). GoesInTurn id ns w v) first rest
+turns_on id (handles s ∷ ms) ns t u v first rest = (first.0, turns_on id ms ns (handled id t s) u v first.1 rest)
+turns_on id (takes x ∷ ms) ns t u v first rest = turns_on id ms ns (took_one x t) u v first rest
+
+leads_on : (id : List ℕ) (t u v : Trace) → LeadsInTurn id t u → LeadsInTurn id u v → LeadsInTurn id t v
+leads_on id t u v first rest = (first.0 ++ rest.0, turns_on id first.0 rest.0 t u v first.1 rest.1)
+
+leads_takes : (id : List ℕ) (xs : List Taking) (t : Trace) → LeadsInTurn id t (took_all xs t)
+leads_takes id [] t = ([], refl)
+leads_takes id (x ∷ xs) t = leads_on id t (took_one x t) (took_all xs (took_one x t)) (takes x ∷ [], refl) (leads_takes id xs (took_one x t))
+
+step_leads : (id : List ℕ) (t : Trace) (e : Event) (u : Trace) → MayStep id t e u → LeadsInTurn id t u
+step_leads id t e u (inl is_refused) = ([], is_refused.1)
+step_leads id t e u (inr taken) = (handles (step_of e) ∷ [], (taken.0, taken.1.answers))
+
+run_leads : (id : List ℕ) (place : ℕ) (t : Trace) (es : List Event) (xs : List Sent) (u : Trace) → Run id place t es xs u → LeadsInTurn id t u
+run_leads id place t [] xs u run = ([], run.0)
+run_leads id place t (e ∷ es) xs u run =
+    let behind : Trace = run.3.behind in
+    let emptied : LeadsInTurn id behind run.0 = subst (λ (w : Trace). LeadsInTurn id behind w) (sym run.3.emptied.trace) (leads_takes id run.3.emptied.takes behind) in
+    leads_on id t run.0 u (leads_on id t behind run.0 (step_leads id t e behind run.3.event) emptied) (run_leads id (place + 1) run.0 es run.2 u run.4)
+
+pub run_outcomes : (id : List ℕ) (g : Beginning) (events : List Event) (xs : List Sent) (u : Trace) → Run id 0 (beginning g) events xs u → IsMade g.book → EachOutcomeIsKept g u
+run_outcomes id g events xs u run made = let led = run_leads id 0 (beginning g) events xs u run in outcomes_kept id g u led.0 led.1 made

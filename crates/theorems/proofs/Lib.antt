@@ -1,0 +1,81 @@
+-- What is used in all.
+mod Locked
+pub mod Always
+pub mod Tests
+-- A stop.
+pub mod Stops
+-- Messages: their consumer, their frames, their outcomes.
+pub mod Tags
+pub mod Followed
+pub mod Bindings
+pub mod Outcomes
+pub mod Telling
+pub mod Carrying
+pub mod Names
+pub mod Sound
+pub mod Sending
+pub mod Tells
+pub mod Quiet
+pub mod Transfers
+pub mod Arriving
+pub mod AllSound
+-- Durable links and messages in the book.
+pub mod Made
+pub mod Keeping
+pub mod Admitted
+pub mod Rows
+pub mod Numbered
+-- Durable outcomes in the book.
+pub mod Looking
+pub mod Applying
+pub mod Once
+pub mod Undecided
+pub mod Standing
+pub mod Changing
+pub mod Hearing
+pub mod Settling
+pub mod Facts
+pub mod Decisions
+pub mod Booked
+pub mod Consuming
+pub mod Naming
+pub mod Keeps
+pub mod Ending
+pub mod Rowing
+pub mod Attaching
+pub mod Answering
+pub mod KeptFirst
+-- The order on a connection.
+pub mod Headed
+pub mod OnlyHeaders
+pub mod Alike
+pub mod Doored
+pub mod AtDoor
+-- Windows and credit.
+pub mod WindowsKept
+pub mod CreditKept
+-- Takes.
+pub mod Untaken
+pub mod UntakenActs
+pub mod UntakenDeliveries
+pub mod UntakenGrants
+pub mod UntakenLinks
+pub mod UntakenPassed
+pub mod UntakenRows
+pub mod Plain
+pub mod Takes
+-- One connection, whatever happens on others.
+pub mod Mine
+pub mod MineLinks
+pub mod Idle
+pub mod Only
+pub mod WindowsWide
+pub mod Apart
+-- Pieces.
+pub mod Calming
+pub mod Courses
+pub mod Shadows
+pub mod Shadowing
+pub mod Streaming
+pub mod Joining
+pub mod Pieces

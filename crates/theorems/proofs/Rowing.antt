@@ -1,0 +1,177 @@
+-- What an event's row puts keeps what holds, but for attaches: what the answer says, the answers to a disposition, and what is put for a transfer.
+use Rattle.std.proofs.Common.{◌≡◌, ◌∙◌, sym, ap, refl, subst, ℕ, Bool, true, false, not, ◌&&◌, List, [], ◌∷◌, ◌++◌, append-nil}
+use Rattle.std.specs.Prelude.{◌==◌, nat_lt, Option, Some, None, if◌then◌else◌}
+use Rattle.std.proofs.lemmas.Bool.{eqb-true, eq-eqb}
+use Rattle.amqp_model.specs.declared.perf.Disposition.{Disposition as ADisposition}
+use Rattle.amqp_model.specs.declared.perf.Perf.TheVariants as perf
+use Rattle.amqp_model.specs.declared.perf.Transfer.{Transfer as ATransfer}
+use Rattle.amqp_model.specs.declared.state.DeliveryState.{DeliveryState}
+use Rattle.amqp_model.specs.declared.item.Item.{Item}
+use Rattle.amqp_model.specs.declared.item.Item.TheVariants as item
+use Rattle.amqp_conn.specs.declared.conn.Conn.{Conn}
+use Rattle.amqp_link.specs.declared.part.Delivery.{Delivery as Told}
+use Rattle.amqp_link.specs.declared.part.Part.{Part}
+use Rattle.amqp_link.specs.declared.part.Part.TheVariants as part
+use Rattle.book_model.specs.declared.row.RowNumber.{RowNumber}
+use Rattle.router_trace.specs.declared.binding.Binding.{Binding}
+use Rattle.router_trace.specs.declared.binding.Origin.{Origin}
+use Rattle.router_trace.specs.declared.condition.Condition.{Condition}
+use Rattle.router_trace.specs.declared.condition.Condition.TheVariants.{ResourceLimitExceeded, MessageSizeExceeded}
+use Rattle.router_trace.specs.declared.handle.Attachment.{Attachment}
+use Rattle.router_trace.specs.Trace.{Trace, Bound, Put, goes, puts, each_to}
+use Rattle.router_trace.specs.Deliveries.{Delivery, bound, name_in, delivery, is_undecided, terminal, last_of, ended_by as put_ends}
+use Rattle.router_trace.specs.Following.{is_sending}
+use Rattle.router_trace.specs.LinkFrames.{detach_item}
+use Rattle.router_trace.specs.Links.{Link, link, link_place, has_number, is_attached}
+use Rattle.router_trace.specs.Settling.{open_ids, part_of, unbound}
+use Rattle.state_messages.specs.Passing.{with_bound}
+use Rattle.reply_rows.specs.declared.answer.Answer.{Answer}
+use Rattle.reply_rows.specs.declared.answer.Answer.TheVariants.{Taken, Settle}
+use Rattle.reply_rows.specs.Rows.{said}
+use Rattle.router_reply.specs.Acts.{book_in}
+use Rattle.reply_transfers.specs.Transfers.{claimed_id, lasts_on, let_go, unless_many, ignored_put, released_by, released, unbound_put, consumer_for, whole_put, part_put, settled_answers}
+use Rattle.router_reply.specs.Deciding.{ended_by}
+use Rattle.router_reply.specs.Replies.{row_found, bound_for, links_put, item_put}
+use Rattle.theorems.specs.Came.{BindsMessage, ComesFrom}
+use Rattle.theorems.proofs.Consuming.{consumer_sends}
+use Rattle.theorems.proofs.Ending.{TakesNone, takes_none, said_kept}
+use Rattle.theorems.proofs.Facts.{RowFact, bound_facts}
+use Rattle.theorems.proofs.Keeps.{Kept, quiet_kept, plain_kept, Plain, plain_to, plain_goes}
+use Rattle.theorems.proofs.Naming.{bound_named}
+use Rattle.theorems.proofs.Standing.{Sends, bound_standing}
+use Rattle.theorems.proofs.Tests.{some_same, none_not_some}
+
+clash : true ≡ false → ⊥
+clash e = cc
+
+-- a row that puts what its answer says
+
+pub plain_row : (id : List ℕ) (t at u : Trace) (c : ℕ) (p : Conn) (i : Item) (y : Answer) → TakesNone t c i y → bound_for at u c i y ≡ None → links_put at (puts c (said id p y) u) c i y ≡ []
+    → Kept u (ended_by t c i y) → Kept (goes (item_put id at u c p i y) (with_bound (bound_for at u c i y) u)) []
+plain_row id t at u c p i y none unbound nothing was =
+    subst (λ (b : Option Binding). Kept (goes (item_put id at u c p i y) (with_bound b u)) []) (sym unbound)
+    (subst (λ (ps : List Put). Kept (goes ps u) []) (sym (ap (λ (ps : List Put). each_to c (said id p y) ++ ps) nothing ∙ append-nil (each_to c (said id p y))))
+    (said_kept id p t c i u y none was))
+
+-- the answers to a disposition
+
+answers_plain : (own : ℕ) (s : Option DeliveryState) (ids : List ℕ) → Plain (settled_answers own s ids)
+answers_plain own None ids = tt
+answers_plain own (Some s) [] = tt
+answers_plain own (Some s) (id ∷ ids) = (refl, answers_plain own (Some s) ids)
+
+pub disposed_row : (id : List ℕ) (t at u : Trace) (c : ℕ) (p : Conn) (sasl : Bool) (channel : ℕ) (x : ADisposition) (payload : List ℕ) (y : Answer)
+    → bound_for at u c (item.Frame sasl channel (perf.Disposition x) payload) y ≡ None → Kept u (ended_by t c (item.Frame sasl channel (perf.Disposition x) payload) y)
+    → Kept (goes (item_put id at u c p (item.Frame sasl channel (perf.Disposition x) payload) y) (with_bound (bound_for at u c (item.Frame sasl channel (perf.Disposition x) payload) y) u)) []
+disposed_row id t at u c p sasl channel x payload (Settle own) none was =
+    plain_goes (each_to c (settled_answers own (terminal x.state) (open_ids at c own x.first (last_of x)))) u
+    (plain_to c (settled_answers own (terminal x.state) (open_ids at c own x.first (last_of x))) (answers_plain own (terminal x.state) (open_ids at c own x.first (last_of x)))) was
+disposed_row id t at u c p sasl channel x payload y none was =
+    plain_row id t at u c p (item.Frame sasl channel (perf.Disposition x) payload) y (takes_none t c (item.Frame sasl channel (perf.Disposition x) payload) y refl) none refl was
+
+-- a producer's link, which the router may detach
+
+pub record Receives (w : Trace) (c own handle : ℕ) : Type 0 where
+  pub at : Link
+  pub there : link w c own handle ≡ Some at
+  pub way : is_sending at.happened ≡ false
+
+pub let_kept : (w after : Trace) (c own handle : ℕ) (x : Condition) → Receives w c own handle → Kept w [] → Kept (goes (each_to c (let_go after c own handle x)) w) []
+let_kept w after c own handle x at was = quiet_kept c (detach_item own handle (not (lasts_on (link after c own handle))) (Some x)) w tt refl spares was
+  where
+    three : (a b d : Bool) → (a && (b && d)) ≡ true → (a ≡ true) × (b ≡ true) × (d ≡ true)
+    three true true true h = (refl, refl, refl)
+    three true true false h = absurd (clash (sym h))
+    three true false d h = absurd (clash (sym h))
+    three false b d h = absurd (clash (sym h))
+
+    differ : (d : Delivery) → Sends w d.link → d.link.conn.0 ≡ c → own ≡ d.link.channel → handle ≡ d.link.handle → ⊥
+    differ d stands e f g =
+        let same : link w d.link.conn.0 d.link.channel d.link.handle ≡ link w c own handle =
+        ap (λ (k : ℕ). link w k d.link.channel d.link.handle) e ∙ ap (λ (k : ℕ). link w c k d.link.handle) (sym f) ∙ ap (λ (k : ℕ). link w c own k) (sym g) in
+        let one : stands.at ≡ at.at = some_same (sym stands.there ∙ same ∙ at.there) in
+        clash (sym stands.way ∙ ap (λ (l : Link). is_sending l.happened) one ∙ at.way)
+
+    spares : (n : ℕ) (d : Delivery) → delivery w n ≡ Some d → is_undecided d ≡ true → put_ends (detach_item own handle (not (lasts_on (link after c own handle))) (Some x)) c d.link ≡ false
+    spares n d there undecided = by ((d.link.conn.0 == c) && ((own == d.link.channel) && (handle == d.link.handle))) refl
+      where
+        by : (b : Bool) → ((d.link.conn.0 == c) && ((own == d.link.channel) && (handle == d.link.handle))) ≡ b → b ≡ false
+        by false is = refl
+        by true is =
+            let e = three (d.link.conn.0 == c) (own == d.link.channel) (handle == d.link.handle) is in
+            absurd (differ d (was.standing.consumers n d there undecided) (eqb-true d.link.conn.0 c e.0) (eqb-true own d.link.channel e.1) (eqb-true handle d.link.handle e.2))
+
+many_kept : (w after : Trace) (c own handle : ℕ) (items : List Item) → Receives w c own handle → Plain items → Kept w [] → Kept (goes (each_to c (unless_many after c own handle items)) w) []
+many_kept w after c own handle items at plain was = by (nat_lt 1024 (unbound after c own handle))
+  where
+    by : (b : Bool) → Kept (goes (each_to c (if b then let_go after c own handle ResourceLimitExceeded else items)) w) []
+    by true = let_kept w after c own handle ResourceLimitExceeded at was
+    by false = plain_goes (each_to c items) w (plain_to c items plain) was
+
+ignored_kept : (w after : Trace) (c own handle : ℕ) (v : Option ℕ) → Receives w c own handle → Kept w [] → Kept (goes (each_to c (ignored_put after c own handle v)) w) []
+ignored_kept w after c own handle None at was = was
+ignored_kept w after c own handle (Some id) at was = many_kept w after c own handle [] at tt was
+
+released_kept : (w after : Trace) (c own handle : ℕ) (v : Option ℕ) → Receives w c own handle → Kept w [] → Kept (goes (each_to c (released after c own handle v)) w) []
+released_kept w after c own handle None at was = was
+released_kept w after c own handle (Some id) at was = by (lasts_on (link after c own handle))
+  where
+    by : (durable : Bool) → Kept (goes (each_to c (released_by after c own handle durable id)) w) []
+    by false = plain_kept c _ w refl was
+    by true = many_kept w after c own handle _ at (refl, tt) was
+
+whole_kept : (w after : Trace) (c own handle : ℕ) (d : Told) (row : Option RowNumber) → Receives w c own handle → Kept w [] → Kept (goes (each_to c (whole_put after c own handle d row)) w) []
+whole_kept w after c own handle d row at was = by d.resume (consumer_for after c own handle d row)
+  where
+    by : (resumed : Bool) (consumer : Option Attachment)
+        → Kept (goes (each_to c (if resumed then ignored_put after c own handle (claimed_id after c own handle d.id) else unbound_put after c own handle (claimed_id after c own handle d.id) consumer)) w) []
+    by true consumer = ignored_kept w after c own handle (claimed_id after c own handle d.id) at was
+    by false None = released_kept w after c own handle (claimed_id after c own handle d.id) at was
+    by false (Some a) = was
+
+part_kept : (w after : Trace) (c own handle : ℕ) (row : Option RowNumber) (q : Option Part) → Receives w c own handle → Kept w [] → Kept (goes (each_to c (part_put after c own handle row q)) w) []
+part_kept w after c own handle row (Some (part.Whole d payload)) at was = whole_kept w after c own handle d row at was
+part_kept w after c own handle row (Some part.TooLarge) at was = let_kept w after c own handle MessageSizeExceeded at was
+part_kept w after c own handle row _ at was = was
+
+-- a message that is bound
+
+from_attached : (o : Option Origin) (u : Trace) (c own handle : ℕ) (l : Link) (d : Told) → ComesFrom o u c own handle l d → link u c own handle ≡ Some l → (p : Origin) → o ≡ Some p → is_attached u p.link ≡ true
+from_attached None u c own handle l d from there p is = absurd (none_not_some is)
+from_attached (Some q) u c own handle l d from there p is =
+    subst (λ (a : Attachment). is_attached u a ≡ true) (sym from.0 ∙ ap (λ (x : Origin). x.link) (some_same is))
+    (ap (has_number l.number) there ∙ eq-eqb l.number l.number refl)
+
+pub bound_kept : (b : Binding) (u : Trace) → BindsMessage u b → ((r : RowNumber) → b.row ≡ Some r → RowFact u (book_in u) r (bound (name_in u b) b)) → Kept u [] → Kept (Bound b ∷ u) []
+bound_kept b u binds fact was = record {
+  law = was.law;
+  facts = bound_facts b u fact was.facts;
+  standing = bound_standing b u (consumer_sends u binds.producer b.consumer binds.chosen) (from_attached b.origin u binds.conn binds.own binds.handle binds.producer binds.message binds.from binds.attached) was.standing;
+  named = bound_named b u was.named;
+  ordered = was.ordered;
+}
+
+-- what a binding needs
+abbrev pub MayBind : Trace → Option Binding → Type 0
+MayBind u None = Unit {0}
+MayBind u (Some b) = BindsMessage u b × ((r : RowNumber) → b.row ≡ Some r → RowFact u (book_in u) r (bound (name_in u b) b))
+
+pub with_kept : (b : Option Binding) (u : Trace) → MayBind u b → Kept u [] → Kept (with_bound b u) []
+with_kept None u may was = was
+with_kept (Some b) u may was = bound_kept b u may.0 may.1 was
+
+receives_still : (b : Option Binding) (u : Trace) (c own handle : ℕ) → Receives u c own handle → Receives (with_bound b u) c own handle
+receives_still None u c own handle at = at
+receives_still (Some b) u c own handle at = record { at = at.at; there = at.there; way = at.way }
+
+-- a transfer
+pub taken_row : (id : List ℕ) (t at u : Trace) (c : ℕ) (p : Conn) (sasl : Bool) (channel : ℕ) (x : ATransfer) (payload : List ℕ) (y : Answer)
+    → MayBind u (bound_for at u c (item.Frame sasl channel (perf.Transfer x) payload) y) → ((own handle : ℕ) → y ≡ Taken own handle → Receives u c own handle)
+    → Kept u (ended_by t c (item.Frame sasl channel (perf.Transfer x) payload) y)
+    → Kept (goes (item_put id at u c p (item.Frame sasl channel (perf.Transfer x) payload) y) (with_bound (bound_for at u c (item.Frame sasl channel (perf.Transfer x) payload) y) u)) []
+taken_row id t at u c p sasl channel x payload (Taken own handle) may stands was =
+    let b : Option Binding = bound_for at u c (item.Frame sasl channel (perf.Transfer x) payload) (Taken own handle) in
+    part_kept (with_bound b u) u c own handle (row_found at) (part_of (item.Frame sasl channel (perf.Transfer x) payload) (link_place at c own))
+    (receives_still b u c own handle (stands own handle refl)) (with_kept b u may was)
+taken_row id t at u c p sasl channel x payload y may stands was =
+    plain_row id t at u c p (item.Frame sasl channel (perf.Transfer x) payload) y (takes_none t c (item.Frame sasl channel (perf.Transfer x) payload) y refl) refl refl was

@@ -1,0 +1,169 @@
+-- Takes make no difference: without them, a trace whose outboxes were never full is what its events alone make.
+use Rattle.std.proofs.Common.{◌≡◌, ◌∙◌, sym, ap, refl, subst, ℕ, false, List, [], ◌∷◌}
+use Rattle.std.specs.Prelude.{Option, Some, None}
+use Rattle.amqp_model.specs.declared.item.Item.{Item}
+use Rattle.amqp_conn.specs.declared.conn.Conn.{Conn}
+use Rattle.router_trace.specs.Trace.{Beginning}
+use Rattle.router_trace.specs.Configuration.{beginning}
+use Rattle.router_trace.specs.declared.binding.Binding.{Binding}
+use Rattle.router_trace.specs.declared.event.Event.{Event}
+use Rattle.router_trace.specs.declared.event.Event.TheVariants as event
+use Rattle.router_trace.specs.Trace.{Entry, Did, Booked, Put, Step, goes, each_to}
+use Rattle.router_trace.specs.Connection.{conn, due, is_full, live}
+use Rattle.state_sessions.specs.Windows.{windows_over}
+use Rattle.state_messages.specs.Passing.{with_bound}
+use Rattle.router_state.specs.Tables.{beats_over}
+use Rattle.reply_rows.specs.Rows.{down_reply}
+use Rattle.router_reply.specs.Replies.{ends, row_found, item_put, item_row, own_row, bound_for, item_bound, bound_by, replied_behind}
+use Rattle.router_after.specs.After.{widened, followed}
+use Rattle.router_reply.specs.Acts.{journaled, booked, found_journal, full_at}
+use Rattle.router_core.specs.Replies.{answered, handled}
+use Rattle.core_machine.specs.Moves.{took_one}
+use Rattle.router_core.specs.Moves.{Goes, outs}
+use Rattle.core_machine.specs.Moves.{Move, handles, takes}
+use Rattle.theorems.specs.Takes.{untaken, events_of, NeverFull}
+use Rattle.router_core.proofs.Booking.{booked_keeps}
+use Rattle.theorems.proofs.Untaken.{untaken_goes, same_outs, same_beats, same_windows}
+use Rattle.theorems.proofs.UntakenPassed.{untaken_bound, same_passed}
+use Rattle.theorems.proofs.UntakenRows.{same_put, same_bound_for}
+use Rattle.theorems.proofs.UntakenActs.{plain_acts, plain_full_at, plain_answer_of, same_journaled, same_full, same_acts, same_answer}
+use Rattle.router_core.proofs.Following.{passed_on, each_keeps, all_keep}
+use Rattle.theorems.proofs.Plain.{plain, plain_live, Calm, calm_goes, none_due, same_live, stood_found, live_found}
+
+-- what an event finds behind its acts is the same in a trace without its takes: the journal, the row that its acts admit, and whether the journal is full
+pub record FindsAlike (t : List Entry) (e : Event) : Type 0 where
+  pub journal : found_journal t ≡ found_journal (untaken t)
+  pub row : row_found t ≡ row_found (untaken t)
+  pub full : full_at t e ≡ plain_full_at (untaken t) e
+
+-- an event's own row, what follows its rows, and all of it, by the plain phases
+abbrev pub plain_item_row : List ℕ → List Entry → List Entry → ℕ → Item → Option Conn → List Put
+plain_item_row id x after c i None = []
+plain_item_row id x after c i (Some p) = item_put id x after c p i (plain_answer_of x c p i)
+
+abbrev pub plain_item_bound : List Entry → List Entry → ℕ → Item → Option Conn → Option Binding
+plain_item_bound x after c i None = None
+plain_item_bound x after c i (Some p) = bound_for x after c i (plain_answer_of x c p i)
+
+abbrev pub plain_row : List ℕ → List Entry → List Entry → Event → List Put
+plain_row id x after (event.Item c i) = plain_item_row id x after c.0 i (plain x c.0)
+plain_row id x after (event.Down c) = each_to c.0 down_reply
+plain_row id x after (event.Tick ms) = beats_over x ms (plain_live x)
+plain_row id x after _ = []
+
+abbrev pub plain_bound : List Entry → List Entry → Event → Option Binding
+plain_bound x after (event.Item c i) = plain_item_bound x after c.0 i (plain x c.0)
+plain_bound x after _ = None
+
+abbrev pub plain_widened : List Entry → List Entry
+plain_widened x = goes (windows_over x (plain_live x)) x
+
+abbrev pub plain_followed : List Entry → List Entry
+plain_followed x = plain_widened (passed_on x)
+
+abbrev pub plain_replied : List ℕ → List Entry → Step → List Entry
+plain_replied id x s = goes (plain_row id x (Did s ∷ x) s.event) (with_bound (plain_bound x (Did s ∷ x) s.event) (Did s ∷ x))
+
+abbrev pub plain_answered : List ℕ → List Entry → Step → List Entry
+plain_answered id x s = plain_followed (plain_replied id x s)
+
+abbrev pub plain_booked : List Entry → Event → List Entry
+plain_booked x e = Booked (plain_acts (journaled x) x e) [] ∷ x
+
+abbrev pub plain_handled : List ℕ → List Entry → Step → List Entry
+plain_handled id x s = plain_answered id (plain_booked x s.event) s
+
+-- the trace that events alone make
+abbrev plain_all : List ℕ → List Step → List Entry → List Entry
+plain_all id [] x = x
+plain_all id (s ∷ ss) x = plain_all id ss (plain_handled id x s)
+
+same_item_row : (id : List ℕ) (t u : List Entry) (c : ℕ) (i : Item) (v : Option Conn) → FindsAlike t (event.Item (record { 0 = c }) i)
+    → item_row id t u c i v ≡ plain_item_row id (untaken t) (untaken u) c i v
+same_item_row id t u c i None same = refl
+same_item_row id t u c i (Some p) same =
+    ap (item_put id t u c p i) (same_answer t c p i same.journal same.full) ∙ same_put id t u c p i (plain_answer_of (untaken t) c p i) same.row
+
+same_item_bound : (t u : List Entry) (c : ℕ) (i : Item) (v : Option Conn) → FindsAlike t (event.Item (record { 0 = c }) i)
+    → item_bound t u c i v ≡ plain_item_bound (untaken t) (untaken u) c i v
+same_item_bound t u c i None same = refl
+same_item_bound t u c i (Some p) same =
+    ap (bound_for t u c i) (same_answer t c p i same.journal same.full) ∙ same_bound_for t u c i (plain_answer_of (untaken t) c p i) same.row
+
+same_row : (id : List ℕ) (t u : List Entry) (e : Event) → Calm t → due t e ≡ [] → FindsAlike t e → own_row id t u e ≡ plain_row id (untaken t) (untaken u) e
+same_row id t u (event.Item c i) calm none same =
+    ap (λ (p : Option Conn). item_row id t u c.0 i p) (stood_found t (event.Item c i) calm none c.0) ∙ same_item_row id t u c.0 i (plain (untaken t) c.0) same
+same_row id t u (event.Down c) calm none same = refl
+same_row id t u (event.Tick ms) calm none same =
+    ap (beats_over t ms) (live_found t (event.Tick ms) calm none) ∙ same_beats t ms (plain_live (untaken t))
+same_row id t u (event.Up c p) calm none same = refl
+same_row id t u event.Start calm none same = refl
+
+same_bound : (t u : List Entry) (e : Event) → Calm t → due t e ≡ [] → FindsAlike t e → bound_by t u e ≡ plain_bound (untaken t) (untaken u) e
+same_bound t u (event.Item c i) calm none same =
+    ap (λ (p : Option Conn). item_bound t u c.0 i p) (stood_found t (event.Item c i) calm none c.0) ∙ same_item_bound t u c.0 i (plain (untaken t) c.0) same
+same_bound t u (event.Down c) calm none same = refl
+same_bound t u (event.Tick ms) calm none same = refl
+same_bound t u (event.Up c p) calm none same = refl
+same_bound t u event.Start calm none same = refl
+
+same_widened : (t : List Entry) → Calm t → untaken (widened t) ≡ plain_widened (untaken t)
+same_widened t calm =
+    untaken_goes (windows_over t (live t)) t
+    ∙ ap (λ (ps : List Put). goes ps (untaken t)) (ap (windows_over t) (same_live t calm) ∙ same_windows t (plain_live (untaken t)))
+
+calm_passed : (t : List Entry) → Calm t → Calm (passed_on t)
+calm_passed t calm = each_keeps Calm calm_goes t calm
+
+same_followed : (t : List Entry) → Calm t → untaken (followed t) ≡ plain_followed (untaken t)
+same_followed t calm = same_widened (passed_on t) (calm_passed t calm) ∙ ap plain_widened (same_passed t (untaken t) refl)
+
+calm_bound : (b : Option Binding) (t : List Entry) → Calm t → Calm (with_bound b t)
+calm_bound None t calm = calm
+calm_bound (Some b) t calm = calm
+
+-- an event with all that it put out
+pub same_answered : (id : List ℕ) (t : List Entry) (s : Step) → Calm t → ((c : ℕ) → is_full (conn t c) ≡ false) → FindsAlike t s.event
+    → Calm (answered id t s) × (untaken (answered id t s) ≡ plain_answered id (untaken t) s)
+same_answered id t s calm roomy same =
+    let none : due t s.event ≡ [] = none_due t s.event roomy
+    in let u : List Entry = Did s ∷ t
+    in let bound : Option Binding = bound_by t u s.event
+    in let row : List Put = own_row id t u s.event
+    in let behind : List Entry = goes row (with_bound bound u)
+    in let calm_row : Calm behind = calm_goes row (with_bound bound u) (calm_bound bound u (roomy, calm))
+    in let both : Calm (followed behind) × (untaken (followed behind) ≡ plain_answered id (untaken t) s) = (
+      all_keep Calm calm_goes behind calm_row,
+      same_followed behind calm_row
+          ∙ ap plain_followed (untaken_goes row (with_bound bound u)
+          ∙ (λ j. goes (same_row id t u s.event calm none same j) ((untaken_bound bound u ∙ ap (λ (b : Option Binding). with_bound b (untaken u)) (same_bound t u s.event calm none same)) j))),
+    )
+    in subst (λ (x : List Entry). Calm (followed (replied_behind id t x s.event)) × (untaken (followed (replied_behind id t x s.event)) ≡ plain_answered id (untaken t) s))
+    (sym (ap (λ (ks : List ℕ). ends id ks (Did s ∷ t)) none)) both
+
+-- an event with its acts
+pub same_handled : (id : List ℕ) (t : List Entry) (s : Step) → Calm t → ((c : ℕ) → is_full (conn t c) ≡ false)
+    → Calm (handled id t s) × (untaken (handled id t s) ≡ plain_handled id (untaken t) s)
+same_handled id t s calm roomy =
+    let none : due t s.event ≡ [] = none_due t s.event roomy
+    in let next = same_answered id (booked t s.event) s (booked_keeps Calm t s.event (λ acts c. c) calm)
+    (booked_keeps (λ (v : List Entry). (c : ℕ) → is_full (conn v c) ≡ false) t s.event (λ acts r. r) roomy)
+    (record { journal = same_journaled t; row = refl; full = same_full t s.event calm none })
+    in (next.0, next.1 ∙ (λ j. plain_answered id (Booked (same_acts t s.event calm none j) (none j) ∷ untaken t) s))
+
+-- moves
+same_moves : (id : List ℕ) (ms : List Move) (t u : List Entry) → Calm t → NeverFull id ms t → Goes id ms t u → untaken u ≡ plain_all id (events_of ms) (untaken t)
+same_moves id [] t u calm roomy went = ap untaken went
+same_moves id (handles s ∷ ms) t u calm roomy went =
+    let next = same_handled id t s calm roomy.0
+    in same_moves id ms (handled id t s) u next.0 roomy.1 went.1 ∙ ap (plain_all id (events_of ms)) next.1
+same_moves id (takes x ∷ ms) t u calm roomy went = same_moves id ms (took_one x t) u calm roomy went
+
+pub takes_alike : (id : List ℕ) (g : Beginning) (ms ns : List Move) (t u : List Entry) → Goes id ms (beginning g) t → Goes id ns (beginning g) u
+    → NeverFull id ms (beginning g) → NeverFull id ns (beginning g)
+    → events_of ms ≡ events_of ns → (untaken t ≡ untaken u) × ((c : ℕ) → outs t c ≡ outs u c)
+takes_alike id g ms ns t u went too roomy roomy_too same =
+    let alike : untaken t ≡ untaken u
+    = same_moves id ms (beginning g) t tt roomy went ∙ ap (λ (ss : List Step). plain_all id ss (beginning g)) same
+    ∙ sym (same_moves id ns (beginning g) u tt roomy_too too)
+    in (alike, λ c. same_outs t c ∙ ap (λ (x : List Entry). outs x c) alike ∙ sym (same_outs u c))

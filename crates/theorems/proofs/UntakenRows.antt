@@ -1,0 +1,249 @@
+-- What takes don't change: in a trace without its takes an item has the same answer if the journal is full or not, and an answer puts the same and binds
+-- the same message.
+use Rattle.std.proofs.Common.{◌≡◌, ◌∙◌, ap, refl, ℕ, ◌^◌, Bool, true, false, List, [], ◌∷◌, ◌++◌}
+use Rattle.std.specs.Prelude.{Option, Some, None, ◌&&◌, ◌||◌, not, is_some, is_none, nat_lt, filter, option_map, option_and_then, unwrap_or, if◌then◌else◌}
+use Rattle.amqp_model.specs.declared.perf.Attach.{Attach as AnAttach}
+use Rattle.amqp_model.specs.declared.perf.Disposition.{Disposition as ADisposition}
+use Rattle.amqp_model.specs.declared.perf.Perf.{Perf}
+use Rattle.amqp_model.specs.declared.perf.Perf.TheVariants as perf
+use Rattle.amqp_model.specs.declared.perf.Role.TheVariants.{Receiver}
+use Rattle.amqp_model.specs.declared.perf.Transfer.{Transfer as ATransfer}
+use Rattle.amqp_model.specs.declared.state.DeliveryState.TheVariants as state
+use Rattle.amqp_model.specs.declared.item.Item.{Item}
+use Rattle.amqp_model.specs.declared.item.Item.TheVariants as item
+use Rattle.amqp_conn.specs.declared.conn.Conn.{Conn}
+use Rattle.book_model.specs.declared.row.RowNumber.{RowNumber}
+use Rattle.book_model.specs.Book.{BookView, terminus_of}
+use Rattle.book_model.specs.declared.terminus.LinkKey.{LinkKey}
+use Rattle.amqp_link.specs.declared.part.Delivery.{Delivery as Told}
+use Rattle.amqp_link.specs.declared.part.Part.{Part}
+use Rattle.amqp_link.specs.declared.part.Part.TheVariants as part
+use Rattle.router_trace.specs.declared.binding.Origin.{Origin}
+use Rattle.router_trace.specs.declared.condition.Condition.{Condition}
+use Rattle.router_trace.specs.declared.condition.Condition.TheVariants.{NotAllowed, ResourceLimitExceeded, MessageSizeExceeded}
+use Rattle.router_trace.specs.declared.handle.Attachment.{Attachment}
+use Rattle.router_trace.specs.Trace.{Entry, Put, goes, puts, each_to}
+use Rattle.router_trace.specs.Configuration.{is_multicast}
+use Rattle.router_trace.specs.LinkFrames.{plain_answer, answer_to, detach_item}
+use Rattle.router_trace.specs.Links.{Link, link, free_handle, holder, key_at, link_place, durable_key}
+use Rattle.router_trace.specs.Deliveries.{terminal, last_of, named, tag_in}
+use Rattle.router_trace.specs.DeliveryFrames.{outcome_item}
+use Rattle.router_trace.specs.Numbers.{count_below, first_below}
+use Rattle.router_trace.specs.Settling.{ids_between, is_open_as, names_open, is_open_id, is_of_link, is_unbound_on, unbound, is_tagged_on, uses_tag, middle_on, part_of}
+use Rattle.state_messages.specs.Passing.{consumer_of, lasts, binding_to, passing}
+use Rattle.reply_rows.specs.declared.answer.Answer.{Answer}
+use Rattle.reply_rows.specs.declared.answer.Answer.TheVariants.{Attach, Detach, Refuse, Taken, Settle}
+use Rattle.reply_rows.specs.Rows.{Finds, said, item_reply}
+use Rattle.reply_rows.specs.Finding.{finds}
+use Rattle.reply_rows.specs.Booking.{wants_durable, wanted_address, new_terminus, has_room, durable_refusal, volatile_refusal, book_refusal, booked_attach, stands_from, repeats, booked_transfer, booked, answer_at}
+use Rattle.reply_transfers.specs.Transfers.{claimed_id, settled_answers, from_link, origin_of, lasts_on, may_pass, consumer_for, fresh_bound, whole_bound, let_go, unless_many, ignored_put, released_by, released, unbound_put, whole_put, part_put, part_bound}
+use Rattle.router_reply.specs.Replies.{stolen_by, attach_answer, taken_behind, taken, refused, row_found, bound_for, links_put, item_put}
+use Rattle.theorems.specs.Takes.{untaken}
+use Rattle.theorems.proofs.Untaken.{untaken_goes, same_place, same_free}
+use Rattle.theorems.proofs.UntakenDeliveries.{same_named, same_delivery, same_claims, same_numbered}
+use Rattle.theorems.proofs.UntakenGrants.{same_distribution, same_choice}
+use Rattle.theorems.proofs.UntakenLinks.{same_key_at, same_holds_durable, same_largest, same_free_handle, same_link, same_link_place, same_holder}
+
+same_finds : (t : List Entry) (c : ℕ) → finds t c ≡ finds (untaken t) c
+same_finds t c = λ j. record {
+  places = λ p. same_place t c p j;
+  free_channel = same_free t c j;
+  links = λ o p. same_link_place t c o p j;
+  free_handle = λ o. same_free_handle t c o j;
+  claimed = λ o id. is_some (same_claims t c o id j);
+  multicast = λ address. is_multicast (same_distribution t address j);
+}
+
+-- the answer to an item, if the journal is full or not
+same_refusal : (full : Bool) (b : BookView) (t : List Entry) (c : ℕ) (a : AnAttach) → book_refusal full b t c a ≡ book_refusal full b (untaken t) c a
+same_refusal full b t c a = λ j.
+    if wants_durable a then
+    durable_refusal (terminus_of (same_key_at t c (plain_answer a 0) j) b.termini) a (has_room full b (new_terminus b (same_key_at t c (plain_answer a 0) j) (wanted_address a)))
+    else volatile_refusal (same_holds_durable t c (plain_answer a 0) j)
+
+same_tags : (t : List Entry) (c own handle : ℕ) (tag : List ℕ) → uses_tag t c own handle tag ≡ uses_tag (untaken t) c own handle tag
+same_tags t c own handle tag = λ j. is_some (first_below (2 ^ 32) (λ id. is_tagged_on handle tag (same_claims t c own id j)))
+
+same_repeats : (b : BookView) (t : List Entry) (c own handle : ℕ) (resume : Bool) (key : Option LinkKey) (tag : Option (List ℕ))
+    → repeats b t c own handle resume key tag ≡ repeats b (untaken t) c own handle resume key tag
+same_repeats b t c own handle resume (Some key) (Some tag) = λ j. same_tags t c own handle tag j || (not resume && stands_from (terminus_of key b.termini) tag b.rows)
+same_repeats b t c own handle resume (Some key) None = refl
+same_repeats b t c own handle resume None tag = refl
+
+same_repeated : (b : BookView) (t : List Entry) (c : ℕ) (x : ATransfer) (a : Answer) → booked_transfer b t c x a ≡ booked_transfer b (untaken t) c x a
+same_repeated b t c x (Taken own handle) =
+    (λ j. if is_none (middle_on (same_link_place t c own x.handle j)) && repeats b t c own handle x.resume (durable_key (same_link t c own handle j)) (tag_in x)
+    then Detach own handle false (Some NotAllowed) else Taken own handle)
+    ∙ ap (λ (q : Bool). if is_none (middle_on (link_place (untaken t) c own x.handle)) && q then Detach own handle false (Some NotAllowed) else Taken own handle)
+    (same_repeats b t c own handle x.resume (durable_key (link (untaken t) c own handle)) (tag_in x))
+same_repeated b t c x _ = refl
+
+same_booked : (full : Bool) (b : BookView) (t : List Entry) (c : ℕ) (i : Item) (a : Answer) → booked full b t c i a ≡ booked full b (untaken t) c i a
+same_booked full b t c (item.Frame sasl channel (perf.Attach x) payload) a = λ j. booked_attach (λ o. same_free_handle t c o j) (same_refusal full b t c x j) a
+same_booked full b t c (item.Frame sasl channel (perf.Transfer x) payload) a = same_repeated b t c x a
+same_booked full b t c (item.Frame sasl channel _ payload) a = refl
+same_booked full b t c _ a = refl
+
+pub same_answer_at : (full : Bool) (b : BookView) (t : List Entry) (c : ℕ) (p : Conn) (i : Item) → answer_at full b t c p i ≡ answer_at full b (untaken t) c p i
+same_answer_at full b t c p i =
+    ap (λ (k : Finds). booked full b t c i (item_reply p k i)) (same_finds t c) ∙ same_booked full b t c i (item_reply p (finds (untaken t) c) i)
+
+-- an attach
+
+same_taken_behind : (t : List Entry) (c own : ℕ) (a : AnAttach) (stolen : List Put) → taken_behind t c own a stolen ≡ taken_behind (untaken t) c own a stolen
+same_taken_behind t c own a stolen = λ j. stolen ++ each_to c (attach_answer (same_largest t c j) own (behind j) a)
+  where
+    behind : free_handle (goes stolen t) c own ≡ free_handle (goes stolen (untaken t)) c own
+    behind = same_free_handle (goes stolen t) c own ∙ ap (λ (u : List Entry). free_handle u c own) (untaken_goes stolen t)
+
+same_taken : (t : List Entry) (c own : ℕ) (a : AnAttach) → taken t c own a ≡ taken (untaken t) c own a
+same_taken t c own a =
+    same_taken_behind t c own a (stolen_by (holder t (key_at t c (answer_to a 0))))
+    ∙ ap (λ (x : Option Attachment). taken_behind (untaken t) c own a (stolen_by x)) (same_holder t c (answer_to a 0))
+
+-- a whole delivery
+
+same_consumer : (t : List Entry) (l : Option Link) → consumer_of t l ≡ consumer_of (untaken t) l
+same_consumer t None = refl
+same_consumer t (Some l) = λ j. option_and_then (λ n. same_numbered t n j) (same_choice t l.address j)
+
+pub same_consumer_at : (t : List Entry) (c own handle : ℕ) → consumer_of t (link t c own handle) ≡ consumer_of (untaken t) (link (untaken t) c own handle)
+same_consumer_at t c own handle = same_consumer t (link t c own handle) ∙ ap (consumer_of (untaken t)) (same_link t c own handle)
+
+pub same_claimed_id : (t : List Entry) (c own handle : ℕ) (q : Option ℕ) → claimed_id t c own handle q ≡ claimed_id (untaken t) c own handle q
+same_claimed_id t c own handle None = refl
+same_claimed_id t c own handle (Some id) = ap (λ v. if is_of_link handle v then Some id else None) (same_claims t c own id)
+
+same_unbound : (t : List Entry) (c own handle : ℕ) → unbound t c own handle ≡ unbound (untaken t) c own handle
+same_unbound t c own handle = λ j. count_below (2 ^ 32) (λ id. is_unbound_on handle (same_claims t c own id j))
+
+same_let_go : (t : List Entry) (c own handle : ℕ) (x : Condition) → let_go t c own handle x ≡ let_go (untaken t) c own handle x
+same_let_go t c own handle x = ap (λ (l : Option Link). detach_item own handle (not (lasts_on l)) (Some x) ∷ []) (same_link t c own handle)
+
+same_many : (t : List Entry) (c own handle : ℕ) (items : List Item) → unless_many t c own handle items ≡ unless_many (untaken t) c own handle items
+same_many t c own handle items = λ j. if nat_lt 1024 (same_unbound t c own handle j) then same_let_go t c own handle ResourceLimitExceeded j else items
+
+same_ignored_put : (t : List Entry) (c own handle : ℕ) (q : Option ℕ) → ignored_put t c own handle q ≡ ignored_put (untaken t) c own handle q
+same_ignored_put t c own handle None = refl
+same_ignored_put t c own handle (Some id) = same_many t c own handle []
+
+same_released_by : (t : List Entry) (c own handle : ℕ) (durable : Bool) (id : ℕ) → released_by t c own handle durable id ≡ released_by (untaken t) c own handle durable id
+same_released_by t c own handle false id = refl
+same_released_by t c own handle true id = same_many t c own handle (outcome_item own Receiver id false state.Released ∷ [])
+
+same_released : (t : List Entry) (c own handle : ℕ) (q : Option ℕ) → released t c own handle q ≡ released (untaken t) c own handle q
+same_released t c own handle None = refl
+same_released t c own handle (Some id) =
+    ap (λ (l : Option Link). released_by t c own handle (lasts_on l) id) (same_link t c own handle)
+    ∙ same_released_by t c own handle (lasts_on (link (untaken t) c own handle)) id
+
+same_unbound_put : (t : List Entry) (c own handle : ℕ) (q : Option ℕ) (consumer : Option Attachment)
+    → unbound_put t c own handle q consumer ≡ unbound_put (untaken t) c own handle q consumer
+same_unbound_put t c own handle q None = same_released t c own handle q
+same_unbound_put t c own handle q (Some x) = refl
+
+same_consumer_for : (t : List Entry) (c own handle : ℕ) (d : Told) (row : Option RowNumber) → consumer_for t c own handle d row ≡ consumer_for (untaken t) c own handle d row
+same_consumer_for t c own handle d row =
+    λ j. if may_pass (lasts_on (same_link t c own handle j)) (same_claimed_id t c own handle d.id j) row then same_consumer_at t c own handle j else None
+
+same_whole_put : (t : List Entry) (c own handle : ℕ) (d : Told) (row : Option RowNumber) → whole_put t c own handle d row ≡ whole_put (untaken t) c own handle d row
+same_whole_put t c own handle d row =
+    λ j. if d.resume then (same_ignored_put t c own handle (claimed_id t c own handle d.id) ∙ ap (ignored_put (untaken t) c own handle) (same_claimed_id t c own handle d.id)) j
+    else (same_unbound_put t c own handle (claimed_id t c own handle d.id) (consumer_for t c own handle d row)
+    ∙ (λ i. unbound_put (untaken t) c own handle (same_claimed_id t c own handle d.id i) (same_consumer_for t c own handle d row i))) j
+
+same_part_put : (t : List Entry) (c own handle : ℕ) (row : Option RowNumber) (q : Option Part) → part_put t c own handle row q ≡ part_put (untaken t) c own handle row q
+same_part_put t c own handle row (Some (part.Whole d payload)) = same_whole_put t c own handle d row
+same_part_put t c own handle row (Some part.TooLarge) = same_let_go t c own handle MessageSizeExceeded
+same_part_put t c own handle row _ = refl
+
+same_lasts : (t : List Entry) (at : Attachment) → lasts t at ≡ lasts (untaken t) at
+same_lasts t at = ap (λ (l : Option Link). is_some (durable_key l)) (same_link t at.conn.0 at.channel at.handle)
+
+same_binding : (t : List Entry) (origin : Option Origin) (row : Option RowNumber) (format : ℕ) (payload : List ℕ) (at : Attachment)
+    → binding_to t origin row format payload at ≡ binding_to (untaken t) origin row format payload at
+same_binding t origin row format payload at =
+    λ j. record { consumer = at; origin = origin; row = row; lasting = same_lasts t at j; format = format; payload = payload }
+
+same_passing : (t : List Entry) (from : Attachment) (origin : Option Origin) (row : Option RowNumber) (format : ℕ) (payload : List ℕ)
+    → passing t from origin row format payload ≡ passing (untaken t) from origin row format payload
+same_passing t from origin row format payload =
+    λ j. option_map (λ at. same_binding t origin row format payload at j) (same_consumer_at t from.conn.0 from.channel from.handle j)
+
+same_fresh : (t : List Entry) (c own handle : ℕ) (d : Told) (row : Option RowNumber) (payload : List ℕ) (l : Option Link)
+    → fresh_bound t c own handle d row payload l ≡ fresh_bound (untaken t) c own handle d row payload l
+same_fresh t c own handle d row payload None = refl
+same_fresh t c own handle d row payload (Some l) =
+    λ j. if may_pass (lasts_on (same_link t c own handle j)) (same_claimed_id t c own handle d.id j) row
+    then (same_passing t from (option_map (origin_of from) (claimed_id t c own handle d.id)) row (unwrap_or d.format 0) payload
+    ∙ ap (λ (q : Option ℕ). passing (untaken t) from (option_map (origin_of from) q) row (unwrap_or d.format 0) payload) (same_claimed_id t c own handle d.id)) j
+    else None
+  where
+    from : Attachment
+    from = from_link c own handle l
+
+same_whole_bound : (t : List Entry) (c own handle : ℕ) (d : Told) (row : Option RowNumber) (payload : List ℕ)
+    → whole_bound t c own handle d row payload ≡ whole_bound (untaken t) c own handle d row payload
+same_whole_bound t c own handle d row payload =
+    λ j. if d.resume then None else (same_fresh t c own handle d row payload (link t c own handle)
+    ∙ ap (fresh_bound (untaken t) c own handle d row payload) (same_link t c own handle)) j
+
+same_part_bound : (t : List Entry) (c own handle : ℕ) (row : Option RowNumber) (q : Option Part) → part_bound t c own handle row q ≡ part_bound (untaken t) c own handle row q
+same_part_bound t c own handle row (Some (part.Whole d payload)) = same_whole_bound t c own handle d row payload
+same_part_bound t c own handle row (Some part.TooLarge) = refl
+same_part_bound t c own handle row _ = refl
+
+-- a disposition
+
+same_open : (t : List Entry) (c own id : ℕ) (n : Option ℕ) → names_open t c own id n ≡ names_open (untaken t) c own id n
+same_open t c own id None = refl
+same_open t c own id (Some n) = ap (is_open_as c own id) (same_delivery t n)
+
+same_open_id : (t : List Entry) (c own id : ℕ) → is_open_id t c own id ≡ is_open_id (untaken t) c own id
+same_open_id t c own id = same_open t c own id (named t c own id) ∙ ap (names_open (untaken t) c own id) (same_named t c own id)
+
+-- an item's row
+
+same_links : (t u : List Entry) (c : ℕ) (i : Item) (a : Answer) → row_found t ≡ row_found (untaken t) → links_put t u c i a ≡ links_put (untaken t) (untaken u) c i a
+same_links t u c (item.Frame sasl channel body payload) a rows = by_perf body a
+  where
+    by_attach : (x : AnAttach) (a : Answer)
+        → links_put t u c (item.Frame sasl channel (perf.Attach x) payload) a ≡ links_put (untaken t) (untaken u) c (item.Frame sasl channel (perf.Attach x) payload) a
+    by_attach x (Attach own) = same_taken u c own x
+    by_attach x (Refuse own handle e) = ap (λ (n : ℕ). each_to c (refused n own handle e x)) (same_largest u c)
+    by_attach x _ = refl
+
+    by_transfer : (x : ATransfer) (a : Answer)
+        → links_put t u c (item.Frame sasl channel (perf.Transfer x) payload) a ≡ links_put (untaken t) (untaken u) c (item.Frame sasl channel (perf.Transfer x) payload) a
+    by_transfer x (Taken own handle) =
+        (λ j. each_to c (part_put u c own handle (rows j) (part_of (item.Frame sasl channel (perf.Transfer x) payload) (λ p. same_link_place t c own p j))))
+        ∙ ap (each_to c) (same_part_put u c own handle (row_found (untaken t)) (part_of (item.Frame sasl channel (perf.Transfer x) payload) (link_place (untaken t) c own)))
+    by_transfer x _ = refl
+
+    by_disposition : (x : ADisposition) (a : Answer)
+        → links_put t u c (item.Frame sasl channel (perf.Disposition x) payload) a ≡ links_put (untaken t) (untaken u) c (item.Frame sasl channel (perf.Disposition x) payload) a
+    by_disposition x (Settle own) =
+        λ j. each_to c (settled_answers own (terminal x.state) (filter (λ id. same_open_id t c own id j) (ids_between x.first (last_of x))))
+    by_disposition x _ = refl
+
+    by_perf : (body : Perf) (a : Answer)
+        → links_put t u c (item.Frame sasl channel body payload) a ≡ links_put (untaken t) (untaken u) c (item.Frame sasl channel body payload) a
+    by_perf (perf.Attach x) a = by_attach x a
+    by_perf (perf.Transfer x) a = by_transfer x a
+    by_perf (perf.Disposition x) a = by_disposition x a
+    by_perf _ a = refl
+same_links t u c _ a rows = refl
+
+pub same_put : (id : List ℕ) (t u : List Entry) (c : ℕ) (p : Conn) (i : Item) (a : Answer) → row_found t ≡ row_found (untaken t)
+    → item_put id t u c p i a ≡ item_put id (untaken t) (untaken u) c p i a
+same_put id t u c p i a rows =
+    ap (λ (ps : List Put). each_to c (said id p a) ++ ps)
+    (same_links t (puts c (said id p a) u) c i a rows ∙ ap (λ (v : List Entry). links_put (untaken t) v c i a) (untaken_goes (each_to c (said id p a)) u))
+
+-- the message that it binds
+
+pub same_bound_for : (t u : List Entry) (c : ℕ) (i : Item) (a : Answer) → row_found t ≡ row_found (untaken t) → bound_for t u c i a ≡ bound_for (untaken t) (untaken u) c i a
+same_bound_for t u c i (Taken own handle) rows =
+    (λ j. part_bound u c own handle (rows j) (part_of i (λ p. same_link_place t c own p j)))
+    ∙ same_part_bound u c own handle (row_found (untaken t)) (part_of i (link_place (untaken t) c own))
+same_bound_for t u c i _ rows = refl

@@ -1,0 +1,109 @@
+-- Messages received (AMQP 1.0 part 2, sections 2.6.14 and 2.7.5): a producer's delivery is complete with the frame that says that no more
+-- are to come.
+use Rattle.std.specs.Prelude.{◌≡◌, ℕ, ◌+◌, Bool, true, false, is_some, List, [], ◌∷◌, ◌++◌, Option, Some, None, unwrap_or}
+use Rattle.amqp_model.specs.declared.perf.Perf.TheVariants as perf
+use Rattle.amqp_model.specs.declared.perf.Transfer.{Transfer}
+use Rattle.amqp_model.specs.declared.item.Item.TheVariants as item
+use Rattle.amqp_link.specs.declared.part.Delivery.{Delivery as Told}
+use Rattle.amqp_link.specs.Deliveries.{frame, bytes, delivery}
+use Rattle.amqp_link.specs.Receiving.{Received, middle}
+use Rattle.book_model.specs.declared.row.RowNumber.{RowNumber}
+use Rattle.router_trace.specs.declared.binding.Binding.{Binding}
+use Rattle.router_trace.specs.declared.binding.Origin.{Origin}
+use Rattle.router_trace.specs.declared.channel.PeerChannel.TheVariants.{Mapped}
+use Rattle.router_trace.specs.declared.event.ConnectionId.{ConnectionId}
+use Rattle.router_trace.specs.declared.event.Event.TheVariants as event
+use Rattle.router_trace.specs.Trace.{Trace, Did, Out, Took, Bound, Booked, Began, Step}
+use Rattle.router_trace.specs.Deliveries.{Delivery, delivery as delivery_in}
+use Rattle.router_trace.specs.Sessions.{theirs}
+use Rattle.router_trace.specs.Links.{Link, receives, link, link_place, on}
+use Rattle.router_trace.specs.Settling.{is_claimed_on}
+use Rattle.state_messages.specs.Passing.{consumer_of, lasts}
+use Rattle.reply_transfers.specs.Transfers.{claimed_id, from_link, lasts_on}
+use Rattle.router_reply.specs.Replies.{row_found}
+use Rattle.theorems.specs.OneConsumer.{IsOfMessage}
+
+-- an event, and the trace that it found
+pub record Handled : Type 0 where
+  pub step : Step
+  pub found : Trace
+
+-- the last event handled, as long as only items were put out after it
+abbrev pub just_handled : Trace → Option Handled
+just_handled [] = None
+just_handled (Did s ∷ t) = Some (record { step = s; found = t })
+just_handled (Out c i ∷ t) = just_handled t
+just_handled (Took c n ∷ t) = None
+just_handled (Bound b ∷ t) = None
+just_handled (Booked acts full ∷ t) = None
+just_handled (Began g ∷ t) = None
+
+-- how many messages were bound after the last event handled
+abbrev pub bound_since : Trace → ℕ
+bound_since [] = 0
+bound_since (Did s ∷ t) = 0
+bound_since (Out c i ∷ t) = bound_since t
+bound_since (Took c n ∷ t) = bound_since t
+bound_since (Bound b ∷ t) = bound_since t + 1
+bound_since (Booked acts full ∷ t) = bound_since t
+bound_since (Began g ∷ t) = bound_since t
+
+-- A message is complete, on a link of a connection on which the peer is the sender, by the router's channel and handle: the frame just received,
+-- on the session and the handle of the link, is the last of its delivery; the message is what its frames carry, in order.
+pub record CameWhole (t : Trace) (c own handle : ℕ) (message : Told) (payload : List ℕ) : Type 0 where
+  pub handled : Handled
+  pub conn : ConnectionId
+  pub channel : ℕ
+  pub transfer : Transfer
+  pub carried : List ℕ
+  pub place : Link
+  pub happened : Received
+  pub just : just_handled t ≡ Some handled
+  pub came : handled.step.event ≡ event.Item conn (item.Frame false channel (perf.Transfer transfer) carried)
+  pub on_connection : conn.0 ≡ c
+  pub on_session : theirs handled.found c channel ≡ Some (Mapped own)
+  pub on_handle : link_place handled.found c own transfer.handle ≡ on handle place
+  pub receiving : place.happened ≡ receives happened
+  pub last : transfer.more ≡ false
+  pub not_aborted : transfer.aborted ≡ false
+  pub message_is : message ≡ delivery (frame transfer carried) (middle happened)
+  pub payload_is : payload ≡ bytes (middle happened) ++ carried
+
+-- where its outcome will be reported: to its producer, with the producer's delivery-id, unless the producer has settled it
+abbrev pub ComesFrom : Option Origin → Trace → ℕ → ℕ → ℕ → Link → Told → Type 0
+ComesFrom None t c own handle l message = claimed_id t c own handle message.id ≡ None
+ComesFrom (Some p) t c own handle l message =
+    (p.link ≡ from_link c own handle l) × (message.id ≡ Some p.id) × (is_claimed_on t c own handle p.id ≡ true)
+
+-- A message of a durable link has a row in the book, unless its producer has settled it.
+abbrev pub HasRowOn : Bool → Option Origin → Option RowNumber → Type 0
+HasRowOn true (Some p) row = is_some row ≡ true
+HasRowOn _ _ row = Unit {0}
+
+-- A message is bound when it is just complete, as it was received, to the consumer chosen for the address of its producer's link.
+-- No message was bound after that event before, so none is bound twice. Its row is the one that the acts of the event admit, and the binding says
+-- whether the consumer's link is durable.
+pub record BindsMessage (t : Trace) (b : Binding) : Type 0 where
+  pub conn : ℕ
+  pub own : ℕ
+  pub handle : ℕ
+  pub message : Told
+  pub came : CameWhole t conn own handle message b.payload
+  pub once : bound_since t ≡ 0
+  pub not_resumed : message.resume ≡ false
+  pub row : b.row ≡ row_found came.handled.found
+  pub format : b.format ≡ unwrap_or message.format 0
+  pub producer : Link
+  pub attached : link t conn own handle ≡ Some producer
+  pub chosen : consumer_of t (Some producer) ≡ Some b.consumer
+  pub from : ComesFrom b.origin t conn own handle producer message
+  pub has_row : HasRowOn (lasts_on (Some producer)) b.origin b.row
+  pub lasting : b.lasting ≡ lasts t b.consumer
+
+-- So each delivery is of a message that was received completely and was bound.
+pub record CameAndWasBound (u : Trace) (n : ℕ) (d : Delivery) : Type 0 where
+  pub message : IsOfMessage u n d
+  pub binds : BindsMessage message.before message.binding
+
+abbrev pub EachDeliveryCame : Trace → Type 0
+EachDeliveryCame u = (n : ℕ) (d : Delivery) → delivery_in u n ≡ Some d → CameAndWasBound u n d

@@ -1,0 +1,21 @@
+-- The theorem: a line for each law.
+pub mod Theorem
+-- What its lines are made of.
+pub mod Always
+pub mod Each
+pub mod Stops
+pub mod Locked
+pub mod Credit
+pub mod OneConsumer
+pub mod Carried
+pub mod Came
+pub mod Decided
+pub mod Told
+pub mod Kept
+pub mod Keeping
+pub mod Admitted
+pub mod Order
+pub mod Windows
+pub mod Takes
+pub mod Alone
+pub mod Pieces

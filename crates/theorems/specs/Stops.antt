@@ -1,0 +1,48 @@
+-- What a stop leaves of the journal, at any moment of a call that handles events: a crash, or the end of the program.
+use Rattle.std.specs.Prelude.{◌≡◌, ℕ, List, None}
+use Rattle.disk_core.specs.Disk.{LeavesOnly}
+use Rattle.journal_store.specs.Store.{OpensTo, Stands, disk_of}
+use Rattle.router_trace.specs.declared.event.Event.{Event}
+use Rattle.router_trace.specs.Trace.{Trace}
+use Rattle.router_reply.specs.Acts.{book_in}
+use Rattle.router_core.specs.declared.driving.Driven.{Driven}
+use Rattle.router_core.specs.declared.router.Core.{Core}
+use Rattle.router_core.specs.Handling.{Fits, id_of, store_of}
+use Rattle.router_core.specs.Leaving.{LeftBy}
+use Rattle.router_core.specs.Runs.{Run}
+
+-- A kind of disk, by what the trait `Disk` says of it: what a read gives, what a stop may leave, which moment it is,
+-- and what a stop since some moment might have left.
+pub record Stopping (D : Type 0) : Type 1 where
+  pub seen : D → List ℕ
+  pub may_leave : D → List ℕ → Type 0
+  pub moment : D → ℕ
+  pub left_since : D → ℕ → List ℕ → Type 0
+
+abbrev pub stopping : {D : Type 0} → (D → List ℕ) → (D → List ℕ → Type 0) → (D → ℕ) → (D → ℕ → List ℕ → Type 0)
+    → Stopping D
+stopping seen may_leave moment left_since =
+    record { seen = seen; may_leave = may_leave; moment = moment; left_since = left_since }
+
+-- the router's journal is on its disk, and a stop leaves just that
+abbrev pub JournalStands : {D : Type 0} → Stopping D → Core D → Type 0
+JournalStands d core = Stands d.seen d.may_leave (store_of core)
+
+-- A stop at any moment, before, within or after any call of the disk, leaves a file that opens to the book behind
+-- some first events, or to that book after the acts of the next one.
+abbrev pub AnyMomentLeavesAPrefix : {D : Type 0} → Stopping D → Core D → List Event → Core D → Type 0
+AnyMomentLeavesAPrefix d old events new =
+    (t : Trace) → Fits old t → JournalStands d old
+    → LeavesOnly d.moment d.left_since (disk_of (store_of old)) (disk_of (store_of new)) (LeftBy (id_of old) t events)
+
+-- every file that a stop may leave now opens to this book
+abbrev pub AllOpenTo : {D : Type 0} → Stopping D → Core D → Trace → Type 0
+AllOpenTo d core u = (file : List ℕ) → d.may_leave (disk_of (store_of core)) file → OpensTo file (book_in u)
+
+-- Where no fault was answered the journal stands at the end, and each file that a stop leaves opens to the book
+-- behind all events.
+abbrev pub TheEndLeavesAll : {D : Type 0} → Stopping D → Core D → List Event → Core D → Driven → Type 0
+TheEndLeavesAll d old events new driven =
+    driven.fault ≡ None → JournalStands d old
+    → JournalStands d new
+    × ((t : Trace) → Fits old t → (u : Trace) × Run (id_of old) 0 t events driven.taken.items u × AllOpenTo d new u)

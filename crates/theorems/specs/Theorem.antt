@@ -1,0 +1,99 @@
+-- The theorem: what the router promises, whatever peers send, and whenever it is stopped. Each law is one line; the
+-- function of its name in src/theorems.rt proves it. A trace is what happened since the opening (docs/trace.md).
+-- `Always`: in every trace of the router, so of every list of events. `Each`: over the trace so far.
+use Rattle.std.specs.Prelude.{List}
+use Rattle.router_trace.specs.declared.event.Event.{Event}
+use Rattle.router_core.specs.declared.driving.Driven.{Driven}
+use Rattle.router_core.specs.declared.router.Core.{Core}
+use Rattle.theorems.specs.Admitted.{RowIsAdmitted, EachRowIsBoundOnce, EachNewRowIsBound}
+use Rattle.theorems.specs.Alone.{AnsweredAlone}
+use Rattle.theorems.specs.Always.{Always, AlwaysFrom, AlwaysInTurn, InScripts, OnMade}
+use Rattle.theorems.specs.Came.{BindsMessage, EachDeliveryCame}
+use Rattle.theorems.specs.Carried.{CarriesWhatWasBound, FramesJoin}
+use Rattle.theorems.specs.Credit.{WithinCredit}
+use Rattle.theorems.specs.Decided.{OutcomesAreGiven, OutcomesAreOfConsumers}
+use Rattle.theorems.specs.Each.{EachOut, EachBound}
+use Rattle.theorems.specs.Keeping.{IsKeptFirst}
+use Rattle.theorems.specs.Kept.{EachOutcomeIsKept, EachRowIsDecidedOnce}
+use Rattle.theorems.specs.Locked.{Kind, UnderTheLock}
+use Rattle.theorems.specs.OneConsumer.{StaysWithConsumer, NeverComesBack, OfMessages}
+use Rattle.theorems.specs.Order.{KeepsOrder, BeginsWithHeaders}
+use Rattle.theorems.specs.Pieces.{SameHoweverCut}
+use Rattle.theorems.specs.Stops.{Stopping, AnyMomentLeavesAPrefix, TheEndLeavesAll}
+use Rattle.theorems.specs.Takes.{SameWheneverTaken}
+use Rattle.theorems.specs.Told.{ToldAtMostOnce, ToldAnew, TellsAsGiven}
+use Rattle.theorems.specs.Windows.{WindowKept}
+
+-- Stopped at any moment, the journal opens to the book behind some first events, or behind the next one too; at the
+-- end, if no fault was answered, to the book behind all of them.
+abbrev pub AStopLeavesAPrefix : {D : Type 0} → Stopping D → Core D → List Event → Core D → Driven → Type 0
+AStopLeavesAPrefix d old es new driven = AnyMomentLeavesAPrefix d old es new × TheEndLeavesAll d old es new driven
+
+-- A transfer goes to an attached link, and starts a delivery only where the link has credit left.
+abbrev pub NoDeliveryStartsBeyondCredit : Type 0
+NoDeliveryStartsBeyondCredit = Always WithinCredit
+
+-- A message stays with the consumer to which it was bound, and its delivery never comes back once it is over.
+abbrev pub ADeliveryHasOneConsumer : Type 0
+ADeliveryHasOneConsumer = StaysWithConsumer × NeverComesBack × OfMessages
+
+-- Each transfer carries the next bytes of a message to its consumer; the last one completes it.
+abbrev pub FramesCarryWhatWasBound : Type 0
+FramesCarryWhatWasBound = Always (EachOut CarriesWhatWasBound) × Always FramesJoin
+
+-- A message is bound when it has come whole, as it came, and only once; each delivery is of such a message.
+abbrev pub MessagesAreBoundOnce : Type 0
+MessagesAreBoundOnce = Always (EachBound BindsMessage) × Always EachDeliveryCame
+
+-- An outcome is what the consumer gave, or what the end of its link gives; or its message came settled, and was sent.
+abbrev pub OutcomesAreAsGiven : Type 0
+OutcomesAreAsGiven = OutcomesAreGiven × OutcomesAreOfConsumers
+
+-- A producer is told of a delivery at most once: the outcome that was given, or that the message went to nobody.
+abbrev pub OutcomesAreToldOnce : Type 0
+OutcomesAreToldOnce = ToldAtMostOnce × ToldAnew × Always (EachOut TellsAsGiven)
+
+-- The outcome of a delivery with a row is in the journal's book before it is told, and no row is decided twice.
+abbrev pub DurableOutcomesAreKeptFirst : Type 0
+DurableOutcomesAreKeptFirst = AlwaysInTurn (OnMade EachOutcomeIsKept) × AlwaysFrom (OnMade EachRowIsDecidedOnce)
+
+-- Under the lock, whatever threads do: within credit, outcomes kept first, no row decided twice.
+abbrev pub TheLockKeepsThem : {D : Type 0} → Kind D → Type 0
+TheLockKeepsThem d = UnderTheLock d (λ g u. WithinCredit u) × UnderTheLock d EachOutcomeIsKept × UnderTheLock d EachRowIsDecidedOnce
+
+-- A durable link is taken only once its terminus is in the book.
+abbrev pub DurableLinksAreKeptFirst : Type 0
+DurableLinksAreKeptFirst = Always (EachOut IsKeptFirst)
+
+-- A durable message is in the book, whole, before it is bound; each row is bound at most once, and each new one is.
+abbrev pub DurableMessagesAreKeptFirst : Type 0
+DurableMessagesAreKeptFirst =
+    Always (EachBound RowIsAdmitted) × Always EachRowIsBoundOnce × AlwaysFrom EachNewRowIsBound
+
+-- On each connection header, open and close come at most once, in order, and all other frames in their turn.
+abbrev pub ConnectionsKeepOrder : Type 0
+ConnectionsKeepOrder = Always KeepsOrder
+
+-- Before each transfer the session's window has room.
+abbrev pub WindowsAreKept : Type 0
+WindowsAreKept = Always WindowKept
+
+-- In every script of bytes the same order is kept, and nothing is put out before the router's header.
+abbrev pub ScriptsKeepOrder : Type 0
+ScriptsKeepOrder = InScripts KeepsOrder × InScripts BeginsWithHeaders
+
+-- In every script of bytes windows have room, and deliveries start within credit.
+abbrev pub ScriptsKeepWindowsAndCredit : Type 0
+ScriptsKeepWindowsAndCredit = InScripts WindowKept × InScripts WithinCredit
+
+-- When items are taken from outboxes, and how many at a time, makes no difference as long as none is full.
+abbrev pub TakesMakeNoDifference : Type 0
+TakesMakeNoDifference = SameWheneverTaken
+
+-- A connection on which no attach is received is answered the same, whatever happens on others.
+abbrev pub ConnectionsAreAnsweredAlone : Type 0
+ConnectionsAreAnsweredAlone = AnsweredAlone
+
+-- How the bytes of connections are cut into pieces makes no difference as long as no outbox is full.
+abbrev pub PiecesMakeNoDifference : Type 0
+PiecesMakeNoDifference = SameHoweverCut

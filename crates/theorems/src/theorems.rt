@@ -1,0 +1,168 @@
+//! The laws of the router, in terms of the protocol: `specs/Theorem.antt` states each in one line. The functions do
+//! nothing: their contracts are the laws. Only `a_stop_leaves_a_prefix`, which speaks of a disk, makes a call:
+//! `drive`, of which it is a law.
+ghost use Rattle.theorems.specs.Stops.{stopping};
+ghost use Rattle.theorems.specs.Locked.{kind};
+ghost use Rattle.theorems.specs.Theorem.{AStopLeavesAPrefix};
+ghost use Rattle.theorems.specs.Theorem.{NoDeliveryStartsBeyondCredit};
+ghost use Rattle.theorems.specs.Theorem.{ADeliveryHasOneConsumer, FramesCarryWhatWasBound, MessagesAreBoundOnce};
+ghost use Rattle.theorems.specs.Theorem.{OutcomesAreAsGiven, OutcomesAreToldOnce, DurableOutcomesAreKeptFirst};
+ghost use Rattle.theorems.specs.Theorem.{TheLockKeepsThem};
+ghost use Rattle.theorems.specs.Theorem.{DurableLinksAreKeptFirst, DurableMessagesAreKeptFirst};
+ghost use Rattle.theorems.specs.Theorem.{ConnectionsKeepOrder, WindowsAreKept};
+ghost use Rattle.theorems.specs.Theorem.{ScriptsKeepOrder, ScriptsKeepWindowsAndCredit};
+ghost use Rattle.theorems.specs.Theorem.{TakesMakeNoDifference, ConnectionsAreAnsweredAlone, PiecesMakeNoDifference};
+
+use disk_core::Disk;
+use router_core::{Core, Driven, drive};
+use router_trace::Event;
+use std::alloc::Global;
+
+/// Handles events as `drive` does. Stopped at any moment, before, within or after any call of the disk, whatever the
+/// call answers, the journal opens to the book of durable links and messages behind some first events, or to that
+/// book after the acts of the event that comes next. If no fault is answered it opens, at the end, to the book behind
+/// all of them, and the journal stands for the next call.
+pub fn a_stop_leaves_a_prefix<D: Disk>(
+    alloc: Global,
+    core: &mut Core<D>,
+    events: Vec<Event>,
+) -> Driven
+    ensures { AStopLeavesAPrefix (stopping D.seen D.may_leave D.moment D.left_since)
+        core.old events.items core.new result }
+{
+    drive(alloc, core, events)
+}
+
+/// In every trace of the router each transfer is put out on an attached link, and before each that starts a delivery
+/// the link's remaining credit is at least 1 (AMQP 1.0 part 2, section 2.6.7). Lists of events have such traces.
+pub fn no_delivery_starts_beyond_credit()
+    ensures { NoDeliveryStartsBeyondCredit }
+{}
+
+/// A message goes to at most one consumer: once it is bound, its delivery is on that consumer's link and has the
+/// payload received, as long as it exists, and it never comes back once it is over (AMQP 1.0 part 2, sections 2.6.12
+/// and 2.7.5).
+pub fn a_delivery_has_one_consumer()
+    ensures { ADeliveryHasOneConsumer }
+{}
+
+/// In every trace of the router each transfer carries the next bytes of a message, on the link of the consumer that
+/// it was bound to: the first has the delivery-tag, a later one none, and the last carries all remaining bytes. What
+/// a consumer gets of a delivery is a beginning of the message, and after the last frame the whole message (AMQP 1.0
+/// part 2, sections 2.6.14 and 2.7.5). Lists of events have such traces.
+pub fn frames_carry_what_was_bound()
+    ensures { FramesCarryWhatWasBound }
+{}
+
+/// In every trace of the router a message is bound when it is complete: the last frame of its delivery has just been
+/// received. What is bound is what its frames carried, and it is bound once, with the row that the acts of that event
+/// admit; on a durable link it has one, unless its producer has settled it. So each delivery is of such a message
+/// (AMQP 1.0 part 2, sections 2.6.14 and 2.7.5). Lists of events have such traces.
+pub fn messages_are_bound_once()
+    ensures { MessagesAreBoundOnce }
+{}
+
+/// Each outcome is as it was given: by a disposition of the delivery's consumer, by the end of its link (it is then
+/// modified, with delivery-failed), or, if the message was settled before, by its last frame. The end of a durable
+/// link decides a delivery with a row only if it is a detach that closes the link (AMQP 1.0 part 2, sections 2.6.12
+/// and 2.7.6).
+pub fn outcomes_are_as_given()
+    ensures { OutcomesAreAsGiven }
+{}
+
+/// The producer of each delivery is sent its outcome at most once; another outcome with the same delivery-id belongs
+/// to a message that was bound later. In every trace of the router each disposition as a receiver is for one
+/// delivery: it reports the outcome that was given, for the first time, or releases a message that is just complete
+/// and isn't bound: no consumer is chosen for it, or its link is durable and it got no row. It settles a delivery
+/// unless that is the producer's to do, on a durable link (AMQP 1.0 part 2, sections 2.6.12 and 2.7.6). Lists of
+/// events have such traces.
+pub fn outcomes_are_told_once()
+    ensures { OutcomesAreToldOnce }
+{}
+
+/// In every trace of the router in which no event is declined (Start comes first, and once), opened on a book that
+/// acts made: where a producer is told the outcome of a delivery with a row, the book has that row, decided, with
+/// that outcome. `Core::handle` has the book on the disk before it puts anything out, so no crash loses an outcome
+/// that was told. Each row is decided at most once, whatever happens (AMQP 1.0 part 2, section 2.6.12, and part 3,
+/// section 3.4). Lists of events have such traces.
+pub fn durable_outcomes_are_kept_first()
+    ensures { DurableOutcomesAreKeptFirst }
+{}
+
+/// A router under the lock, whatever its threads do, has a history since its very opening, which is a trace: on no link does it
+/// start a delivery beyond the granted credit, the outcome of a delivery with a row stands in the book before it is told, and no row is
+/// decided twice.
+pub fn the_lock_keeps_them<D: Disk>()
+    ensures { TheLockKeepsThem (kind D.seen D.may_leave D.failures) }
+{}
+
+/// In every trace of the router a durable link is taken only once the book has its terminus, with the link's key and
+/// its address. `Core::handle` has the book on the disk before it puts anything out, so whoever is told that its link
+/// is durable has a terminus there (AMQP 1.0 part 3, sections 3.5.3 to 3.5.5). Lists of events have such traces.
+pub fn durable_links_are_kept_first()
+    ensures { DurableLinksAreKeptFirst }
+{}
+
+/// In every trace of the router a message that has a row is bound once the book has admitted it: before the event
+/// that completed it stands one act, the admission of that message under a new row, from the terminus of its
+/// producer's durable link. `Core::handle` has the acts on the disk before it puts anything out, so no consumer gets
+/// a durable message that a crash could lose. Each row is bound at most once, and each that the book gave since the
+/// router was opened is bound (AMQP 1.0 part 2, section 2.6.12, and part 3, sections 3.5.3 to 3.5.5). Lists of events
+/// have such traces.
+pub fn durable_messages_are_kept_first()
+    ensures { DurableMessagesAreKeptFirst }
+{}
+
+/// In every trace of the router at most one header, one open and one close are written on each connection, a close
+/// never without an open before it, and nothing after the close. Heartbeats and frames of sessions come between open
+/// and close; on each channel begin and end take turns, and the other frames of a session come between them. If the
+/// first item received is a header, the router's header is written first; if nothing is received, nothing is written
+/// (AMQP 1.0 part 2, sections 2.2, 2.4 and 2.5). Lists of events have such traces.
+pub fn connections_keep_order()
+    ensures { ConnectionsKeepOrder }
+{}
+
+/// In every trace of the router, before each transfer put out, the session's remote-incoming-window is at least 1
+/// (AMQP 1.0 part 2, section 2.5.6). Lists of events have such traces.
+pub fn windows_are_kept()
+    ensures { WindowsAreKept }
+{}
+
+/// In every script of bytes the router puts out for each connection at most one header, one open and one close, a
+/// close never without an open before it, and nothing after the close; if the first item that it receives is a
+/// header, its own header is put out first; if it receives nothing, nothing is put out (AMQP 1.0 part 2, sections 2.2
+/// and 2.4). It puts out nothing before its header, whatever the peers send: the items of a login are sent by the
+/// door.
+pub fn scripts_keep_order()
+    ensures { ScriptsKeepOrder }
+{}
+
+/// In every script of bytes, whatever the peers send, the session's remote-incoming-window is at least 1 before each
+/// transfer that is put out; each is put out on an attached link, and before each that starts a delivery the link's
+/// remaining credit is at least 1 (AMQP 1.0 part 2, sections 2.5.6 and 2.6.7).
+pub fn scripts_keep_windows_and_credit()
+    ensures { ScriptsKeepWindowsAndCredit }
+{}
+
+/// Takes make no difference: if the same events are handled in the same order, and no outbox of a live connection is
+/// full when an event comes, the same items are put out in the same order, whenever items are taken and however many.
+pub fn takes_make_no_difference()
+    ensures { TakesMakeNoDifference }
+{}
+
+/// Each connection on which no attach is received is answered alone: if the same events are about it in the same
+/// order (it comes up, an item of it is received, it is lost, a tick), the same items are put out for it in the same
+/// order, each after the same of these events, whatever is received on other connections and whatever happens to
+/// them. Its own outbox isn't full when an event comes, and it comes up live, with fewer than 64 others. (If a link
+/// was attached, another connection can steal it.)
+pub fn connections_are_answered_alone()
+    ensures { ConnectionsAreAnsweredAlone }
+{}
+
+/// How the bytes of a connection are cut into pieces makes no difference, for any number of connections: two scripts
+/// that differ only in that have the same effect if no outbox of a live connection is full when an event comes. The
+/// router receives the same events in the same order and puts out the same items, and on each connection the same
+/// bytes are sent.
+pub fn pieces_make_no_difference()
+    ensures { PiecesMakeNoDifference }
+{}

@@ -1,0 +1,256 @@
+"""Reads a journal for tests, and keeps the book of its acts: the bytes of docs/journal.md and the conditions of docs/book.md, by code that shares nothing
+with the program's."""
+from collections import defaultdict, namedtuple
+
+from proton import Data
+
+MAGIC = b"AMQRJ001"
+KINDS = {1: "Make", 2: "Admit", 3: "Decide", 4: "Forget", 5: "Drop"}
+PRODUCER, CONSUMER = 0, 1
+ACCEPTED, RELEASED = ("accepted",), ("released",)
+# what the router itself decides of a delivery whose consumer's link is gone
+FAILED = ("modified", True, False, {})
+# the order of the acts of an event
+ORDER = {"Decide": 0, "Forget": 1, "Drop": 2, "Make": 3, "Admit": 3}
+
+
+class Fault(Exception):
+    """What the journal or the program should not have done."""
+
+
+Act = namedtuple("Act", "kind number more")
+Terminus = namedtuple("Terminus", "number role user container name address")
+
+
+class Row:
+    """A durable delivery of the journal; its consumer is 0 where that link isn't durable."""
+
+    def __init__(self, number, producer, tag, consumer, form, payload):
+        self.number, self.producer, self.tag, self.consumer = number, producer, tag, consumer
+        self.form, self.payload = form, payload
+        self.outcome, self.forgotten = None, False
+
+
+class Bytes:
+    """Reads the bytes of a batch's acts."""
+
+    def __init__(self, data):
+        self.data, self.at = data, 0
+
+    def number(self, size):
+        return int.from_bytes(self.text(size), "big")
+
+    def text(self, size):
+        if self.at + size > len(self.data):
+            raise Fault("an act isn't whole")
+        self.at += size
+        return self.data[self.at - size:self.at]
+
+    def act(self):
+        """An act: its kind, the number of its row or else terminus, and what else it says."""
+        kind = KINDS.get(self.number(1))
+        number, more = self.number(8), ()
+        if kind == "Make":
+            more = (self.number(1), *(self.text(self.number(2)).decode() for _ in range(4)))
+        elif kind == "Admit":
+            more = (self.number(8), self.text(self.number(1)), self.number(8), self.number(4), self.text(self.number(4)))
+        elif kind == "Decide":
+            more = (outcome_of(self.text(self.number(2))),)
+        elif kind is None:
+            raise Fault("an act of no kind")
+        return Act(kind, number, more)
+
+
+def outcome_of(data, known={}):
+    """An outcome's name and what it says, as Proton's codec reads its bytes."""
+    if data not in known:
+        found = Data()
+        if found.decode(data) != len(data):
+            raise Fault(f"the outcome {data.hex()} isn't one value")
+        found.rewind()
+        found.next()
+        value = found.get_object()
+        known[data] = terminal(int(value.descriptor), list(value.value))
+    return known[data]
+
+
+def terminal(code, fields):
+    """A terminal state (part 3, section 3.4) of this code and these fields: a tuple that begins with its name."""
+    fields = fields + [None] * 3
+    if code == 0x25:
+        return rejection(*error_of(fields[0]))
+    if code == 0x27:
+        return modification(fields[0], fields[1], fields[2])
+    if code in (0x24, 0x26):
+        return (ACCEPTED, RELEASED)[code == 0x26]
+    raise Fault(f"{code:x} is no terminal state")
+
+
+def error_of(value):
+    if value is None:
+        return None, None, None
+    fields = list(value.value) + [None] * 3
+    return fields[:3]
+
+
+def rejection(condition, description, info):
+    return "rejected", condition and str(condition), description or None, dict(info or {})
+
+
+def modification(failed, undeliverable, annotations):
+    return "modified", bool(failed), bool(undeliverable), dict(annotations or {})
+
+
+class Journal:
+    """A journal's file, as far as it was read: its termini and rows, and what became of them."""
+
+    def __init__(self, path):
+        self.path, self.data, self.place = path, MAGIC, len(MAGIC)
+        self.termini, self.dropped, self.numbers = {}, set(), {}
+        self.rows, self.standing = {}, set()
+        # the rows that a producer's terminus has, by tag those not forgotten, and those that a consumer's has undecided
+        self.sent, self.named, self.bound = defaultdict(set), {}, defaultdict(set)
+        self.acts = []
+
+    def grow(self, ordered=True):
+        """Reads the file, which goes on where it ended before, and gives the new batches as lists of acts, each those of an event."""
+        with open(self.path, "rb") as file:
+            data = file.read()
+        if data[:self.place] != self.data[:self.place]:
+            raise Fault("the journal doesn't begin as it did")
+        batches, self.data = [], data
+        while data[self.place:self.place + 1] == b"\1":
+            size = int.from_bytes(data[self.place + 1:self.place + 5], "big")
+            batch = Bytes(data[self.place + 5:self.place + 5 + size])
+            if len(batch.data) != size or not size:
+                raise Fault(f"the batch at {self.place} isn't whole")
+            acts = []
+            while batch.at < size:
+                acts.append(batch.act())
+                self.acts.append(f"{self.place} {acts[-1].kind} {acts[-1].number}")
+                self.do(acts[-1])
+            if ordered:
+                in_order(acts)
+            batches.append(acts)
+            self.place += 5 + size
+        if data[self.place:self.place + 1] != b"\0":
+            raise Fault(f"the gate at {self.place} isn't closed")
+        return batches
+
+    def behind(self):
+        """How many bytes follow the gate that ends the journal."""
+        return len(self.data) - self.place - 1
+
+    def do(self, act):
+        """Does an act to the book, or says why it doesn't apply."""
+        getattr(self, act.kind.lower())(act.number, *act.more)
+
+    def make(self, number, role, *texts):
+        it = Terminus(number, role, *texts)
+        key = (role, *texts[:3])
+        if number != len(self.termini) + 1 or key in self.numbers:
+            raise Fault(f"{it} is made, behind {len(self.termini)} others, and its key has {self.numbers.get(key)}")
+        self.termini[number], self.numbers[key] = it, number
+
+    def drop(self, number):
+        it = self.terminus(number)
+        kept = {row for row in self.sent[number] if not self.rows[row].forgotten} | self.bound[number]
+        if kept:
+            raise Fault(f"{it} is dropped, and has rows {kept}")
+        self.dropped.add(number)
+        del self.numbers[(it.role, it.user, it.container, it.name)]
+
+    def terminus(self, number, role=None):
+        """A terminus that stands."""
+        if number not in self.termini or number in self.dropped or role not in (None, self.termini[number].role):
+            raise Fault(f"{number} is no terminus that stands, or has another role")
+        return self.termini[number]
+
+    def admit(self, number, producer, tag, consumer, form, payload):
+        self.terminus(producer, PRODUCER)
+        if consumer:
+            self.terminus(consumer, CONSUMER)
+        if number != len(self.rows) + 1:
+            raise Fault(f"row {number} is admitted behind {len(self.rows)} others")
+        if (producer, tag) in self.named:
+            raise Fault(f"row {number} has the tag of row {self.named[producer, tag]}, and its producer")
+        had = len(self.standing), len(self.sent[producer]), len(self.bound[consumer])
+        if had[0] >= 4_096 or had[1] >= 64 or had[2] >= 64:
+            raise Fault(f"row {number} comes behind {had[0]} rows, {had[1]} of its producer, {had[2]} of its consumer")
+        self.rows[number] = Row(number, producer, tag, consumer, form, payload)
+        self.standing.add(number)
+        self.sent[producer].add(number)
+        self.named[producer, tag] = number
+        if consumer:
+            self.bound[consumer].add(number)
+
+    def decide(self, number, outcome):
+        row = self.row(number)
+        if row.outcome:
+            raise Fault(f"row {number} is decided as {outcome}, and was decided as {row.outcome}")
+        row.outcome = outcome
+        self.bound[row.consumer].discard(number)
+        self.leave(row)
+
+    def forget(self, number):
+        row = self.row(number)
+        if row.forgotten:
+            raise Fault(f"row {number} is forgotten twice")
+        row.forgotten = True
+        del self.named[row.producer, row.tag]
+        self.leave(row)
+
+    def row(self, number):
+        if number not in self.standing:
+            raise Fault(f"row {number} doesn't stand")
+        return self.rows[number]
+
+    def leave(self, row):
+        if row.outcome and row.forgotten:
+            self.standing.discard(row.number)
+            self.sent[row.producer].discard(row.number)
+
+    def undecided(self):
+        return [self.rows[it] for it in sorted(self.standing) if not self.rows[it].outcome]
+
+    def last_line(self):
+        """The last line that `amqr journal` prints of it."""
+        return f"end {self.place} rows {len(self.standing)} termini {len(self.termini) - len(self.dropped)}"
+
+
+def in_order(acts):
+    """What an event decides stands first, then what it forgets, each in the order of rows, then the terminus that it drops, last the one that it makes or the
+    row that it admits."""
+    said = [(ORDER[it.kind], it.number) for it in acts]
+    if said != sorted(said) or sum(it[0] == 3 for it in said) > 1:
+        raise Fault(f"a batch is {str(said)[:200]}")
+
+
+
+# Acts as bytes, for journals that a check begins with
+
+def text_of(data, size):
+    return len(data).to_bytes(size, "big") + data
+
+
+def made(number, role, *texts):
+    return b"\1" + number.to_bytes(8, "big") + bytes([role]) + b"".join(text_of(it.encode(), 2) for it in texts)
+
+
+def admitted(number, producer, tag, consumer, payload):
+    return (b"\2" + number.to_bytes(8, "big") + producer.to_bytes(8, "big") + text_of(tag, 1) + consumer.to_bytes(8, "big") + bytes(4)
+            + text_of(payload, 4))
+
+
+def accepted(number):
+    return b"\3" + number.to_bytes(8, "big") + text_of(b"\x00\x53\x24\x45", 2)
+
+
+def forgotten(number):
+    return b"\4" + number.to_bytes(8, "big")
+
+
+def write(path, batches):
+    """Makes a journal of these batches, each the bytes of its acts."""
+    with open(path, "wb") as file:
+        file.write(MAGIC + b"".join(b"\1" + text_of(it, 4) for it in batches) + b"\0")
