@@ -80,7 +80,7 @@ IsRead c bytes s None p None = Follows p s
 IsRead c bytes s None p (Some items) = ⊥
 IsRead c bytes s (Some k) p read = IsReadOne c bytes s k k.reader.failed p read
 
--- bytes were read behind others of the same step: where the player agreed with what those lead to, it agrees now with what both lead to
+-- bytes were read after others of the same step: where the player agreed with what those lead to, it agrees now with what both lead to
 abbrev pub Continues : ConnectionId → List ℕ → Player → Player → Type 0
 Continues c bytes old new =
     (s v : Scene) (k : Socket) (before : List ℕ) → s.sockets c.0 ≡ Some k → Reads c before s k false v → Follows old v → (u : Scene) × Reads c (before ++ bytes) s k false u × Follows new u

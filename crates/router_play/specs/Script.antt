@@ -25,7 +25,7 @@ use Rattle.router_reply.specs.Acts.{Journaled, journaled}
 use Rattle.router_core.specs.Replies.{handled}
 use Rattle.router_core.specs.Runs.{IsNext}
 use Rattle.core_machine.specs.Moves.{Taking, items_of, took_one}
-use Rattle.core_door.specs.Door.{Verdict, says, passes, ends, door, door_behind}
+use Rattle.core_door.specs.Door.{Verdict, says, passes, ends, door, door_after}
 use Rattle.router_play.specs.Listening.{door_for}
 
 -- the state of a script: the router's id, its configuration and its trace, the number of the last connection made, the
@@ -83,7 +83,7 @@ hand e s = if refuses s.trace e then say refused s else with_trace (handled s.id
 -- the effect of the door's verdict on an item
 abbrev pub judged_by : ConnectionId → Item → Socket → DoorState → Scene → Verdict → Scene
 judged_by c i k d s (says items) =
-    say_all (map (out_line c) items) (with_socket c (Some (record { door = Some (door_behind d i); reader = k.reader })) s)
+    say_all (map (out_line c) items) (with_socket c (Some (record { door = Some (door_after d i); reader = k.reader })) s)
 judged_by c i k d s (passes user) =
     hand (event.Item c i) (hand (event.Up c (record { user = user; role = d.role })) (with_socket c (Some (record { door = None; reader = k.reader })) s))
 judged_by c i k d s (ends items) = say (line.End c) (say_all (map (out_line c) items) (with_socket c None s))
@@ -183,7 +183,7 @@ abbrev pub Plays : List Step → Scene → Scene → Type 0
 Plays [] s u = u ≡ s
 Plays (x ∷ xs) s u = (mid : Scene) × (next : Scene) × Takes x s mid × Flushes mid next × Plays xs next u
 
--- the lines of runs, each against a new router, and behind them the line of the last run's book, or this one if there is no run
+-- the lines of runs, each against a new router, and after them the line of the last run's book, or this one if there is no run
 abbrev pub PlaysAll : Settings → List (List Step) → Line → List Line → Type 0
 PlaysAll config [] last lines = lines ≡ last ∷ []
 PlaysAll config (steps ∷ runs) last lines =

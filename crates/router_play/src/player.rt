@@ -16,7 +16,7 @@ ghost use Rattle.router_trace.specs.declared.event.Event.TheVariants as event;
 ghost use Rattle.router_play.specs.declared.line.Line.TheVariants as line;
 ghost use Rattle.router_play.specs.declared.line.Line.{Line as ALine};
 ghost use Rattle.router_play.specs.Playing.{Begun, Follows, Said, Tells, IsRead, Continues, part_by};
-ghost use Rattle.router_play.specs.Ending.{TellsOf, fault_behind, size_line};
+ghost use Rattle.router_play.specs.Ending.{TellsOf, fault_after, size_line};
 
 use crate::finish::{Ended, Size, graver};
 use crate::line::Line;
@@ -227,7 +227,7 @@ impl<'a> Player<'a> {
     fn fail(&mut self, fault: CoreFault) -> Result<(), AllocError>
         ensures said { OnOk result (Said self.old self.new (line.Failed fault ∷ [])) }
         ensures core { self.new.core ≡ self.old.core }
-        ensures kept { self.new.fault ≡ fault_behind self.old.fault fault }
+        ensures kept { self.new.fault ≡ fault_after self.old.fault fault }
     {
         self.fault = match fault {
             CoreFault::Disk | CoreFault::Memory => Some(fault),

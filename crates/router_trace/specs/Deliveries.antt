@@ -34,7 +34,7 @@ bindings (Out d i ∷ t) = bindings t
 bindings (Took d n ∷ t) = bindings t
 bindings (Bound b ∷ t) = bindings t + 1
 bindings (Booked acts full ∷ t) = bindings t
-bindings (Began g ∷ t) = bindings t
+bindings (Began g ∷ t) = 0
 
 -- how many of them are of no row
 abbrev pub counters : Trace → ℕ
@@ -44,7 +44,7 @@ counters (Out d i ∷ t) = counters t
 counters (Took d n ∷ t) = counters t
 counters (Bound b ∷ t) = if is_none b.row then counters t + 1 else counters t
 counters (Booked acts full ∷ t) = counters t
-counters (Began g ∷ t) = counters t
+counters (Began g ∷ t) = 0
 
 -- The name of a delivery: a durable one has its row's number, any other the count of those without a row, with it.
 abbrev pub name_of : Option RowNumber → ℕ → DeliveryName
@@ -67,7 +67,7 @@ number_named (Out d i ∷ t) name = number_named t name
 number_named (Took d n ∷ t) name = number_named t name
 number_named (Bound b ∷ t) name = if same_name (name_in t b) name then Some (bindings t + 1) else number_named t name
 number_named (Booked acts full ∷ t) name = number_named t name
-number_named (Began g ∷ t) name = number_named t name
+number_named (Began g ∷ t) name = None
 
 -- A delivery: its name, its consumer's link, the producer's delivery to which its outcome is reported, and its progress.
 pub record Delivery : Type 0 where
@@ -188,7 +188,7 @@ sending (Out d i ∷ t) c o h = if d == c then sending_by (number_named t) i o h
 sending (Took d n ∷ t) c o h = sending t c o h
 sending (Bound b ∷ t) c o h = sending t c o h
 sending (Booked acts full ∷ t) c o h = sending t c o h
-sending (Began g ∷ t) c o h = sending t c o h
+sending (Began g ∷ t) c o h = None
 
 abbrev pub is_id : Option ℕ → ℕ → Bool
 is_id None id = false
@@ -215,11 +215,11 @@ named (Out d i ∷ t) c o id = if d == c then named_by (number_named t) i o id (
 named (Took d n ∷ t) c o id = named t c o id
 named (Bound b ∷ t) c o id = named t c o id
 named (Booked acts full ∷ t) c o id = named t c o id
-named (Began g ∷ t) c o id = named t c o id
+named (Began g ∷ t) c o id = None
 
 -- A transfer that carries the delivery: the id is that of its first frame; a delivery that was settled before is decided with its last frame.
-abbrev pub behind_frame : Transfer → ℕ → Delivery → Delivery
-behind_frame x count d = record d {
+abbrev pub after_frame : Transfer → ℕ → Delivery → Delivery
+after_frame x count d = record d {
   id = (if is_none d.id then x.delivery_id else d.id);
   sent = d.sent + count;
   going_on = x.more;
@@ -298,11 +298,11 @@ is_gone_with gone (Some p) = gone p.link
 abbrev pub forsaken : Delivery → Delivery
 forsaken d = record d { origin = None; told = None; early = None }
 
-abbrev pub behind_origin : (Attachment → Bool) → Delivery → Delivery
-behind_origin gone d = if is_gone_with gone (sender d) then forsaken d else d
+abbrev pub after_origin : (Attachment → Bool) → Delivery → Delivery
+after_origin gone d = if is_gone_with gone (sender d) then forsaken d else d
 
-abbrev pub behind_ends : Bool → (Attachment → Bool) → Delivery → Delivery
-behind_ends closed gone d = behind_origin gone (if gone d.link then ended closed d else d)
+abbrev pub after_ends : Bool → (Attachment → Bool) → Delivery → Delivery
+after_ends closed gone d = after_origin gone (if gone d.link then ended closed d else d)
 
 -- what an item that the router puts on a connection does to a delivery
 abbrev pub ended_by : Item → ℕ → Attachment → Bool
@@ -314,14 +314,14 @@ closes (perf.Detach x) = x.closed
 closes _ = false
 
 abbrev pub put_in : (DeliveryName → Option ℕ) → Perf → ℕ → ℕ → ℕ → (ℕ → ℕ → Option ℕ) → ℕ → Delivery → Delivery
-put_in numbers (perf.Transfer x) c own n sent count d = if is_number (carried numbers (tag_in x) (sent own x.handle)) n then behind_frame x count d else d
+put_in numbers (perf.Transfer x) c own n sent count d = if is_number (carried numbers (tag_in x) (sent own x.handle)) n then after_frame x count d else d
 put_in numbers (perf.Disposition x) c own n sent count d = told x.role x c own d
 put_in numbers _ c own n sent count d = d
 
-abbrev pub behind_put : (DeliveryName → Option ℕ) → Item → ℕ → ℕ → (ℕ → ℕ → Option ℕ) → Delivery → Delivery
-behind_put numbers (item.Frame sasl own body payload) c n sent d =
-    behind_ends (closes body) (ended_by (item.Frame sasl own body payload) c) (put_in numbers body c own n sent (length payload) d)
-behind_put numbers i c n sent d = d
+abbrev pub after_put : (DeliveryName → Option ℕ) → Item → ℕ → ℕ → (ℕ → ℕ → Option ℕ) → Delivery → Delivery
+after_put numbers (item.Frame sasl own body payload) c n sent d =
+    after_ends (closes body) (ended_by (item.Frame sasl own body payload) c) (put_in numbers body c own n sent (length payload) d)
+after_put numbers i c n sent d = d
 
 -- what an item received on a connection does to a delivery, given what its channel stands for
 abbrev pub is_on : Attachment → ℕ → Option PeerChannel → Bool
@@ -346,10 +346,10 @@ heard _ c known names n d = d
 abbrev pub lost_with : ℕ → Attachment → Bool
 lost_with c a = a.conn.0 == c
 
-abbrev pub behind_event : Event → (ℕ → ℕ → Option PeerChannel) → (ℕ → ℕ → ℕ → Option ℕ) → ℕ → Delivery → Delivery
-behind_event (event.Item c i) known names n d = heard i c.0 (known c.0) (names c.0) n d
-behind_event (event.Down c) known names n d = behind_ends false (lost_with c.0) d
-behind_event _ known names n d = d
+abbrev pub after_event : Event → (ℕ → ℕ → Option PeerChannel) → (ℕ → ℕ → ℕ → Option ℕ) → ℕ → Delivery → Delivery
+after_event (event.Item c i) known names n d = heard i c.0 (known c.0) (names c.0) n d
+after_event (event.Down c) known names n d = after_ends false (lost_with c.0) d
+after_event _ known names n d = d
 
 -- The connections that the event to come ends first, because their outboxes are full. It finds that their channels stand for nothing, so its
 -- item says nothing of deliveries if it came on one of them.
@@ -375,12 +375,12 @@ unless_called name (Some d) = if same_name d.name name then None else Some d
 
 abbrev pub delivery : Trace → ℕ → Option Delivery
 delivery [] n = None
-delivery (Did s ∷ t) n = option_and_then (λ d. unless_over (behind_event s.event (channels_found t) (named t) n d)) (delivery t n)
-delivery (Out c i ∷ t) n = option_and_then (λ d. unless_over (behind_put (number_named t) i c n (sending t c) d)) (delivery t n)
+delivery (Did s ∷ t) n = option_and_then (λ d. unless_over (after_event s.event (channels_found t) (named t) n d)) (delivery t n)
+delivery (Out c i ∷ t) n = option_and_then (λ d. unless_over (after_put (number_named t) i c n (sending t c) d)) (delivery t n)
 delivery (Took c k ∷ t) n = delivery t n
 delivery (Bound b ∷ t) n = if bindings t + 1 == n then Some (bound (name_in t b) b) else unless_called (name_in t b) (delivery t n)
 delivery (Booked acts full ∷ t) n = delivery t n
-delivery (Began g ∷ t) n = delivery t n
+delivery (Began g ∷ t) n = None
 
 -- Tests of a delivery: it waits to start on a link, it is undecided there, its outcome must be reported to its producer.
 abbrev pub waits_on : ℕ → Option Delivery → Bool
@@ -426,4 +426,4 @@ next_id (Out d i ∷ t) c o = if d == c then next_id_by i o (next_id t c o) else
 next_id (Took d n ∷ t) c o = next_id t c o
 next_id (Bound b ∷ t) c o = next_id t c o
 next_id (Booked acts full ∷ t) c o = next_id t c o
-next_id (Began g ∷ t) c o = next_id t c o
+next_id (Began g ∷ t) c o = 0

@@ -4,7 +4,7 @@ use Rattle.std.specs.Prelude.{◌&&◌, not, if◌then◌else◌, is_none}
 use Rattle.amqp_model.specs.declared.state.DeliveryState.{DeliveryState}
 use Rattle.router_trace.specs.declared.binding.Origin.{Origin}
 use Rattle.router_trace.specs.declared.handle.Attachment.{Attachment}
-use Rattle.router_trace.specs.Deliveries.{Delivery, source, unless_over, behind_ends, behind_origin, is_gone_with, ended, decided_at_end, suspended_at_end, untold, unsettled, failed, sender, forsaken}
+use Rattle.router_trace.specs.Deliveries.{Delivery, source, unless_over, after_ends, after_origin, is_gone_with, ended, decided_at_end, suspended_at_end, untold, unsettled, failed, sender, forsaken}
 use Rattle.state_deliveries.specs.declared.change.Change.{Change}
 use Rattle.state_deliveries.specs.declared.change.Change.TheVariants as change
 use Rattle.state_deliveries.specs.declared.change.Gone.{Gone}
@@ -12,7 +12,7 @@ use Rattle.state_deliveries.specs.declared.change.Gone.TheVariants as gone
 use Rattle.state_deliveries.specs.declared.spots.Spot.{Spot}
 use Rattle.state_deliveries.specs.Indexing.{standing, is_by_place, concerns}
 use Rattle.state_deliveries.specs.Placing.{spot_of, on_spot, from_spot, id_spot, is_gone_at, is_gone_there, is_id_there}
-use Rattle.state_deliveries.specs.Stepping.{is_gone, comes_with_id, changed, behind, IsKept}
+use Rattle.state_deliveries.specs.Stepping.{is_gone, comes_with_id, changed, after_change, IsKept}
 
 or_first : (a b : Bool) → (a || b) ≡ false → a ≡ false
 or_first true b e = e
@@ -77,8 +77,8 @@ link_stays closed g d e = by_rest d.going_on d.outcome d.suspended refl refl ref
         (ap (λ b. if b then d else (if d.lasting && not closed then suspended_at_end d else decided_at_end d)) z ∙ decided (d.lasting && not closed) v x y z)
 
 ends_nothing : (closed : Bool) (g : Gone) (d : Delivery) → is_gone_there g (on_spot (spot_of d.link) (can_end d)) ≡ false
-    → is_gone_there g (from_spot (sender d)) ≡ false → behind_ends closed (is_gone g) d ≡ d
-ends_nothing closed g d e f = ap (behind_origin (is_gone g)) (link_stays closed g d e) ∙ ap (λ b. if b then forsaken d else d) (origin_stays g (sender d) f)
+    → is_gone_there g (from_spot (sender d)) ≡ false → after_ends closed (is_gone g) d ≡ d
+ends_nothing closed g d e f = ap (after_origin (is_gone g)) (link_stays closed g d e) ∙ ap (λ b. if b then forsaken d else d) (origin_stays g (sender d) f)
 
 pub untells_nothing : (p : Option Origin) (c o first last : ℕ) → is_id_there c o first last (id_spot p) ≡ false → comes_with_id p c o first last ≡ false
 untells_nothing None c o first last e = refl
@@ -97,12 +97,12 @@ changes_nothing (change.Decided c o first last made) d placed e = absurd (no_pla
     no_place h = cc
 
 -- a change applied to the deliveries that it concerns has been applied to all
-pub where_stands : (x : Change) → is_by_place x ≡ true → (b : Bool) (old new : Option Delivery) → new ≡ (if b then behind x old else old)
-    → (concerns x (standing old) ≡ true → b ≡ true) → IsKept old → new ≡ behind x old
+pub where_stands : (x : Change) → is_by_place x ≡ true → (b : Bool) (old new : Option Delivery) → new ≡ (if b then after_change x old else old)
+    → (concerns x (standing old) ≡ true → b ≡ true) → IsKept old → new ≡ after_change x old
 where_stands x placed true old new is there keeps = is
 where_stands x placed false None new is there keeps = is
 where_stands x placed false (Some d) new is there keeps = by_test (concerns x (standing (Some d))) refl
   where
-    by_test : (b : Bool) → concerns x (standing (Some d)) ≡ b → new ≡ behind x (Some d)
+    by_test : (b : Bool) → concerns x (standing (Some d)) ≡ b → new ≡ after_change x (Some d)
     by_test true e = let wrong : false ≡ true = there e in absurd cc
     by_test false e = is ∙ sym keeps ∙ ap unless_over (sym (changes_nothing x d placed e))

@@ -3,7 +3,7 @@ use Rattle.std.proofs.Common.{◌≡◌, ◌∙◌, ℕ, Bool, true, false, refl
 use Rattle.std.specs.Prelude.{◌==◌, if◌then◌else◌}
 use Rattle.std.proofs.lemmas.Bool.{eqb-true}
 use Rattle.router_trace.specs.Deliveries.{Delivery, is_number}
-use Rattle.state_collections.specs.Marks.{has as is_marked}
+use Rattle.state_collections.specs.NumberSet.{has as is_marked}
 use Rattle.state_deliveries.specs.declared.by_id.ById.{ById}
 use Rattle.state_deliveries.specs.declared.by_link.ByLink.{ByLink}
 use Rattle.state_deliveries.specs.declared.consumers.Consumers.{Consumers}

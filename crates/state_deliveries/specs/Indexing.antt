@@ -7,7 +7,7 @@ use Rattle.std.specs.declared.ops.Bound.TheVariants.{Excluded, Unbounded}
 use Rattle.std.specs.BTreeMap.{is_at}
 use Rattle.std.specs.BTreeMap.Range.{IsFromStart}
 use Rattle.std.specs.BTreeSet.{contains}
-use Rattle.state_collections.specs.Marks.{has as is_marked}
+use Rattle.state_collections.specs.NumberSet.{has as is_marked}
 use Rattle.router_trace.specs.declared.binding.Origin.{Origin}
 use Rattle.router_trace.specs.Deliveries.{Delivery, has_row, source, sender, holder, is_over, is_undecided, unless_over, is_number}
 use Rattle.state_deliveries.specs.declared.by_link.ByLink.{ByLink}
@@ -52,9 +52,9 @@ number_on k None = None
 number_on k (Some p) = if p.0 == k then Some p.1 else None
 
 -- where the pairs of the links above this one begin, or those of all
-abbrev pub behind_link : Option ℕ → Bound Pair
-behind_link None = Unbounded
-behind_link (Some k) = Excluded (k, 18446744073709551615)
+abbrev pub after_link : Option ℕ → Bound Pair
+after_link None = Unbounded
+after_link (Some k) = Excluded (k, 18446744073709551615)
 
 -- the entries of a delivery in the indexes
 abbrev pub on_link : ℕ → Bool → Option ℕ

@@ -2,7 +2,7 @@
 ghost use Rattle.std.specs.Prelude.{◌≡◌, ◌==◌, ◌<◌, ◌^◌, ◌||◌, ℕ, Option, None, Some, true, false, if◌then◌else◌, OnOk};
 ghost use Rattle.amqp_session.specs.Ranges.{has, in_range};
 ghost use Rattle.amqp_session.specs.Serials.{distance};
-ghost use Rattle.state_collections.specs.Slots.{in_slots};
+ghost use Rattle.state_collections.specs.NumberMap.{at_number};
 ghost use Rattle.router_trace.specs.Deliveries.{is_number};
 ghost use Rattle.state_deliveries.specs.declared.spots.Spot.{Spot as TheSpot};
 ghost use Rattle.state_deliveries.specs.Rowing.{in_rows};
@@ -12,7 +12,7 @@ use crate::change::Gone;
 use crate::rows::Rows;
 use crate::spots::{Spot, Spots};
 use amqp_session::Serial;
-use state_collections::{Slots, numbers_in};
+use state_collections::{NumberMap, numbers_in};
 use std::alloc::{AllocError, Global};
 
 /// A range of up to so many ids is looked up id by id.
@@ -171,13 +171,13 @@ impl ById {
 
 /// Appends the numbers at `count` ids, from the first one on.
 fn append_span(
-    row: &Slots<u64>,
+    row: &NumberMap<u64>,
     first: u32,
     count: u32,
     numbers: &mut Vec<u64>,
 ) -> Result<(), AllocError>
     ensures more { OnOk result ((n : ℕ) → has n numbers.old.items ≡ true → has n numbers.new.items ≡ true) }
-    ensures found { OnOk result ((id n : ℕ) → id < 2 ^ 32 → distance first id < count → in_slots row.now id ≡ Some n → has n numbers.new.items ≡ true) }
+    ensures found { OnOk result ((id n : ℕ) → id < 2 ^ 32 → distance first id < count → at_number row.now id ≡ Some n → has n numbers.new.items ≡ true) }
 {
     for step in 0..count {
         let id = Serial::new(first).plus(step);
@@ -187,8 +187,8 @@ fn append_span(
 }
 
 /// Appends the number at an id, if there is one.
-fn append_at(row: &Slots<u64>, id: u64, numbers: &mut Vec<u64>) -> Result<(), AllocError>
-    ensures { OnOk result ((n : ℕ) → has n numbers.new.items ≡ (has n numbers.old.items || is_number (in_slots row.now id) n)) }
+fn append_at(row: &NumberMap<u64>, id: u64, numbers: &mut Vec<u64>) -> Result<(), AllocError>
+    ensures { OnOk result ((n : ℕ) → has n numbers.new.items ≡ (has n numbers.old.items || is_number (at_number row.now id) n)) }
 {
     if let Some(number) = row.get(id) {
         numbers.push(*number)?;
@@ -199,13 +199,13 @@ fn append_at(row: &Slots<u64>, id: u64, numbers: &mut Vec<u64>) -> Result<(), Al
 /// Appends the numbers at the ids of a range, and maybe others of the session.
 fn append_range(
     alloc: Global,
-    row: &Slots<u64>,
+    row: &NumberMap<u64>,
     first: Serial,
     last: Serial,
     numbers: &mut Vec<u64>,
 ) -> Result<(), AllocError>
     ensures more { OnOk result ((n : ℕ) → has n numbers.old.items ≡ true → has n numbers.new.items ≡ true) }
-    ensures found { OnOk result ((id n : ℕ) → id < 2 ^ 32 → in_range first last id ≡ true → in_slots row.now id ≡ Some n → has n numbers.new.items ≡ true) }
+    ensures found { OnOk result ((id n : ℕ) → id < 2 ^ 32 → in_range first last id ≡ true → at_number row.now id ≡ Some n → has n numbers.new.items ≡ true) }
 {
     let ids = numbers_in(alloc, row, first, last)?;
     for id in &ids {

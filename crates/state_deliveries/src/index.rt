@@ -2,7 +2,7 @@
 ghost use Rattle.std.specs.Prelude.{◌≡◌, ◌==◌, ℕ, Bool, None, true, false, if◌then◌else◌, OnOk, IfOk, ◌||◌};
 ghost use Rattle.std.specs.Ordering.{nat_cmp};
 ghost use Rattle.std.specs.BTreeSet.{contains};
-ghost use Rattle.state_collections.specs.Marks.{has as is_marked};
+ghost use Rattle.state_collections.specs.NumberSet.{has as is_marked};
 ghost use Rattle.state_deliveries.specs.declared.index.Keys.{Keys as TheKeys};
 ghost use Rattle.state_deliveries.specs.Deciding.{decides, decide};
 ghost use Rattle.router_trace.specs.Deliveries.{is_over, unless_over};
@@ -20,7 +20,7 @@ use crate::sets::add;
 use crate::spots::{Spot, Spots};
 use crate::tallies::Tallies;
 use router_trace::{Attachment, DeliveryName, Origin};
-use state_collections::{Kept, Marks};
+use state_collections::{Boxed, NumberSet};
 use std::alloc::{AllocError, Global};
 use std::collections::BTreeSet;
 
@@ -70,7 +70,7 @@ pub(crate) struct Index {
     // how many are held from a producer's link
     pub(crate) held: Tallies,
     // those whose outcome must be reported to their producer
-    pub(crate) to_tell: Marks,
+    pub(crate) to_tell: NumberSet,
     // those changed by the end of a consumer's link, those by the end of a producer's link, and those by a producer's delivery-id
     on: Handles,
     from: Handles,
@@ -98,7 +98,7 @@ impl Keys {
     }
 
     /// The entries of a delivery, if there is one.
-    pub(crate) fn standing(delivery: &Option<Kept<Delivery>>) -> Keys
+    pub(crate) fn standing(delivery: &Option<Boxed<Delivery>>) -> Keys
         ensures { result ≡ standing delivery.now }
     {
         match delivery {
@@ -264,7 +264,7 @@ impl Index {
             consumers: Consumers::new(alloc),
             unsent: ByLink::new(alloc),
             held: Tallies::new(alloc),
-            to_tell: Marks::new(alloc),
+            to_tell: NumberSet::new(alloc),
             on: Handles::new(alloc),
             from: Handles::new(alloc),
             by_id: ById::new(alloc),
@@ -421,7 +421,7 @@ fn add_all(numbers: &mut BTreeSet<u64>, more: &[u64]) -> Result<(), AllocError>
 }
 
 /// Puts a number into a set or removes it, where it isn't there or is.
-fn mark(numbers: &mut Marks, number: u64, before: bool, after: bool) -> Result<(), AllocError>
+fn mark(numbers: &mut NumberSet, number: u64, before: bool, after: bool) -> Result<(), AllocError>
     ensures { OnOk result (is_marked numbers.old number ≡ before
         → (n : ℕ) → is_marked numbers.new n ≡ (if number == n then after else is_marked numbers.old n)) }
 {

@@ -3,18 +3,18 @@ ghost use Rattle.std.specs.Prelude.{◌≡◌, ◌==◌, ◌∷◌, List, ℕ, B
 ghost use Rattle.std.specs.Ordering.{nat_cmp};
 ghost use Rattle.std.specs.BTreeMap.{get};
 ghost use Rattle.amqp_model.specs.declared.item.Item.TheVariants as item;
-ghost use Rattle.router_trace.specs.Trace.{Beginning};
-ghost use Rattle.router_trace.specs.Configuration.{beginning};
+ghost use Rattle.router_trace.specs.Trace.{Beginning, Trace};
+ghost use Rattle.router_trace.specs.Configuration.{opened};
 ghost use Rattle.router_trace.specs.Trace.{Entry, Out, did};
 ghost use Rattle.router_trace.specs.declared.event.Event.TheVariants as event;
 ghost use Rattle.router_trace.specs.Deliveries.{next_id, after_id};
 ghost use Rattle.state_collections.specs.Places.{in_map};
-ghost use Rattle.state_collections.specs.Slots.{in_slots};
+ghost use Rattle.state_collections.specs.NumberMap.{at_number};
 ghost use Rattle.state_deliveries.specs.Fits.{NextIdsFit, next_in};
 
 use amqp_model::{Item, Perf, Transfer};
 use router_trace::ConnectionId;
-use state_collections::Slots;
+use state_collections::NumberMap;
 use std::alloc::{AllocError, Global};
 use std::collections::BTreeMap;
 
@@ -25,17 +25,17 @@ const PLACES: usize = 64;
 #[derive(Drop)]
 pub(crate) struct NextIds {
     alloc: Global,
-    rows: Slots<BTreeMap<u16, u32>>,
+    rows: NumberMap<BTreeMap<u16, u32>>,
 }
 
 impl NextIds {
     /// An empty table.
     pub(crate) fn new(alloc: Global) -> NextIds
-        ensures { (g : Beginning) → NextIdsFit result (beginning g) }
+        ensures { (g : Beginning) (below : Trace) → NextIdsFit result (opened g below) }
     {
         NextIds {
             alloc,
-            rows: Slots::new(alloc, PLACES),
+            rows: NumberMap::new(alloc, PLACES),
         }
     }
 

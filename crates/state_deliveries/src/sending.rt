@@ -5,8 +5,8 @@ ghost use Rattle.std.specs.Map.{values_of};
 ghost use Rattle.std.specs.BTreeMap.{IsOrdered};
 ghost use Rattle.state_deliveries.specs.Finding.{IsListed};
 ghost use Rattle.amqp_model.specs.declared.item.Item.TheVariants as item;
-ghost use Rattle.router_trace.specs.Trace.{Beginning};
-ghost use Rattle.router_trace.specs.Configuration.{beginning};
+ghost use Rattle.router_trace.specs.Trace.{Beginning, Trace};
+ghost use Rattle.router_trace.specs.Configuration.{opened};
 ghost use Rattle.router_trace.specs.Trace.{Entry, Out, did};
 ghost use Rattle.router_trace.specs.declared.event.Event.TheVariants as event;
 ghost use Rattle.router_trace.specs.Deliveries.{carried, tag_in};
@@ -29,7 +29,7 @@ pub(crate) struct Sending {
 impl Sending {
     /// An empty table.
     pub(crate) fn new(alloc: Global) -> Sending
-        ensures { (g : Beginning) → SendingFit result (beginning g) }
+        ensures { (g : Beginning) (below : Trace) → SendingFit result (opened g below) }
     {
         Sending {
             numbers: ByHandle::new(alloc),
@@ -60,7 +60,7 @@ impl Sending {
         let _ = self.numbers.forget(conn.0);
     }
 
-    /// An item is put into the outbox of a connection; `names` are those of the deliveries behind it.
+    /// An item is put into the outbox of a connection; `names` are those of the deliveries after it.
     pub(crate) fn put(&mut self, conn: u64, item: &Item, names: &ByName) -> Result<(), AllocError>
         ensures { OnOk result ((t : List Entry) → NumbersFit names.now (Out conn item.now ∷ t) → SendingFit self.old t → SendingFit self.new (Out conn item.now ∷ t)) }
     {
@@ -110,7 +110,7 @@ impl Sending {
             ≡ (if conn == c then (if own == o then (if transfer.now.handle == h then (if transfer.now.more then carried (at_name names.now) (tag_in transfer.now) (at self.old.numbers c o h) else None)
             else at self.old.numbers c o h) else at self.old.numbers c o h) else at self.old.numbers c o h)) }
     {
-        let number = self.number_behind(conn, own, transfer, names);
+        let number = self.number_after(conn, own, transfer, names);
         match number {
             None => {
                 let _ = self.numbers.remove(conn, own, transfer.handle);
@@ -144,7 +144,7 @@ impl Sending {
     }
 
     /// The delivery of which more frames remain to be sent on a transfer's handle, after that transfer.
-    fn number_behind(&self, conn: u64, own: u16, transfer: &Transfer, names: &ByName) -> Option<u64>
+    fn number_after(&self, conn: u64, own: u16, transfer: &Transfer, names: &ByName) -> Option<u64>
         ensures { result ≡ (if transfer.now.more then carried (at_name names.now) (tag_in transfer.now) (at self.now.numbers conn own transfer.now.handle) else None) }
     {
         if transfer.more {

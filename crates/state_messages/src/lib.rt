@@ -8,9 +8,9 @@ mod figures;
 mod grant;
 mod granting;
 mod hearing;
+mod messages;
 mod owing;
-mod passing;
 mod sharing;
 
 pub use grant::LinkGrant;
-pub use passing::Passing;
+pub use messages::Messages;

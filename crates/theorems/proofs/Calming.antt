@@ -10,7 +10,7 @@ use Rattle.router_trace.specs.declared.event.Event.TheVariants as event
 use Rattle.router_trace.specs.Trace.{Entry, Did, Out, Took, Bound, Booked, Began, Put, Step, goes, each_to, puts, newest, newer}
 use Rattle.router_trace.specs.Connection.{conn, due, is_full}
 use Rattle.router_trace.specs.Refusing.{refuses, rises}
-use Rattle.state_messages.specs.Passing.{with_bound}
+use Rattle.state_messages.specs.Messages.{with_bound}
 use Rattle.router_reply.specs.Replies.{closing_of, ends, heard, bound_by, own_row, replied}
 use Rattle.router_after.specs.After.{followed}
 use Rattle.router_reply.specs.Acts.{booked}
@@ -87,7 +87,7 @@ same_newest (Out c i ∷ t) = same_newest t
 same_newest (Took c n ∷ t) = same_newest t
 same_newest (Bound b ∷ t) = same_newest t
 same_newest (Booked acts full ∷ t) = same_newest t
-same_newest (Began g ∷ t) = same_newest t
+same_newest (Began g ∷ t) = refl
 
 pub same_refused : (t : List Entry) (e : Event) → Calm t → refuses t e ≡ plain_refuses (untaken t) e
 same_refused t (event.Up c p) calm = ap (λ (l : Option ℕ). not (rises c.0 l)) (same_newest t)

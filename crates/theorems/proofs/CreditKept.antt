@@ -15,7 +15,7 @@ use Rattle.router_trace.specs.Connection.{conn, due}
 use Rattle.router_trace.specs.Links.{Link, Happened, sends, receives, link}
 use Rattle.router_trace.specs.Following.{tells, has_credit, sends_due, drains_due}
 use Rattle.state_sessions.specs.Windows.{windows}
-use Rattle.state_messages.specs.Passing.{grants_due, with_bound}
+use Rattle.state_messages.specs.Messages.{grants_due, with_bound}
 use Rattle.router_reply.specs.Replies.{closing_of, ends, heard, bound_by, own_row, replied}
 use Rattle.router_reply.specs.Acts.{booked}
 use Rattle.router_core.specs.Replies.{answered, handled}
@@ -108,7 +108,7 @@ answered_within id t s within =
 
 -- moves
 
-moves_within : (id : List ℕ) (ms : List Move) (t u : List Entry) → WithinCredit t → Goes id ms t u → WithinCredit u
+pub moves_within : (id : List ℕ) (ms : List Move) (t u : List Entry) → WithinCredit t → Goes id ms t u → WithinCredit u
 moves_within id [] t u within went = subst (λ (w : List Entry). WithinCredit w) (sym went) within
 moves_within id (handles s ∷ ms) t u within went = moves_within id ms (handled id t s) u (answered_within id (booked t s.event) s (booked_keeps WithinCredit t s.event (λ acts w. w) within)) went.1
 moves_within id (takes x ∷ ms) t u within went = moves_within id ms (took_one x t) u within went

@@ -17,8 +17,8 @@ use Rattle.router_trace.specs.declared.channel.PeerChannel.{PeerChannel}
 use Rattle.router_trace.specs.declared.event.Event.{Event}
 use Rattle.router_trace.specs.declared.event.Event.TheVariants as event
 use Rattle.router_trace.specs.declared.handle.Attachment.{Attachment}
-use Rattle.router_trace.specs.Trace.{Entry, Did, Out, Took, Booked, Bound, Began}
-use Rattle.router_trace.specs.Deliveries.{Delivery, bindings, name_in, same_name, number_named, unless_called, delivery, sending, named, is_over, unless_over, behind_frame, decided, source, untold, unsettled, told, ended, decided_at_end, suspended_at_end, closes, is_undecided, is_meant, is_named, decision, terminal, is_gone_with, behind_origin, behind_ends, ended_by, put_in, behind_put, carried, tag_in, is_number, is_on, is_settled_at, disposed, heard_in, heard, lost_with, behind_event, origin_id, channels_found, sender, forsaken}
+use Rattle.router_trace.specs.Trace.{Entry, Did, Out, Took, Booked, Bound, Began, is_opening, IsOneRun}
+use Rattle.router_trace.specs.Deliveries.{Delivery, bindings, name_in, same_name, number_named, unless_called, delivery, sending, named, is_over, unless_over, after_frame, decided, source, untold, unsettled, told, ended, decided_at_end, suspended_at_end, closes, is_undecided, is_meant, is_named, decision, terminal, is_gone_with, after_origin, after_ends, ended_by, put_in, after_put, carried, tag_in, is_number, is_on, is_settled_at, disposed, heard_in, heard, lost_with, after_event, origin_id, channels_found, sender, forsaken}
 use Rattle.theorems.specs.OneConsumer.{IsOrNone, WhileThere}
 use Rattle.state_connections.proofs.Lists.{by_test}
 
@@ -38,7 +38,7 @@ choice : (R : Delivery → Delivery → Type 0) (b : Bool) (d e f : Delivery) �
 choice R true d e f first second = first
 choice R false d e f first second = second
 
-origin_left : (R : Delivery → Delivery → Type 0) → Left R → (gone : Attachment → Bool) (d : Delivery) → R d (behind_origin gone d)
+origin_left : (R : Delivery → Delivery → Type 0) → Left R → (gone : Attachment → Bool) (d : Delivery) → R d (after_origin gone d)
 origin_left R left gone d = choice R (is_gone_with gone (sender d)) d (forsaken d) d (left.forsaken d) (left.same d)
 
 ended_left : (R : Delivery → Delivery → Type 0) → Left R → (closed : Bool) (d : Delivery) → R d (ended closed d)
@@ -46,9 +46,9 @@ ended_left R left closed d =
     choice R d.suspended d d (if d.lasting && not closed then suspended_at_end d else decided_at_end d) (left.same d)
     (choice R (d.lasting && not closed) d (suspended_at_end d) (decided_at_end d) (left.suspended d) (left.ended d))
 
-pub ends_left : (R : Delivery → Delivery → Type 0) → Left R → (closed : Bool) (gone : Attachment → Bool) (d : Delivery) → R d (behind_ends closed gone d)
+pub ends_left : (R : Delivery → Delivery → Type 0) → Left R → (closed : Bool) (gone : Attachment → Bool) (d : Delivery) → R d (after_ends closed gone d)
 ends_left R left closed gone d =
-    left.next d (if gone d.link then ended closed d else d) (behind_ends closed gone d) (choice R (gone d.link) d (ended closed d) d (ended_left R left closed d) (left.same d))
+    left.next d (if gone d.link then ended closed d else d) (after_ends closed gone d) (choice R (gone d.link) d (ended closed d) d (ended_left R left closed d) (left.same d))
     (origin_left R left gone (if gone d.link then ended closed d else d))
 
 pub told_left : (R : Delivery → Delivery → Type 0) → Left R → (role : Role) (x : Disposition) (c o : ℕ) (d : Delivery) → R d (told role x c o d)
@@ -59,19 +59,19 @@ told_left R left Sender x c o d = left.same d
 
 -- and across frames too
 abbrev pub Frames : (Delivery → Delivery → Type 0) → Type 0
-Frames R = (x : Transfer) (count : ℕ) (d : Delivery) → R d (behind_frame x count d)
+Frames R = (x : Transfer) (count : ℕ) (d : Delivery) → R d (after_frame x count d)
 
 perf_left : (R : Delivery → Delivery → Type 0) → Left R → Frames R → (numbers : DeliveryName → Option ℕ) (body : Perf) (c own n : ℕ) (sent : ℕ → ℕ → Option ℕ) (count : ℕ) (d : Delivery)
     → R d (put_in numbers body c own n sent count d)
 perf_left R left frames numbers (perf.Transfer x) c own n sent count d =
-    choice R (is_number (carried numbers (tag_in x) (sent own x.handle)) n) d (behind_frame x count d) d (frames x count d) (left.same d)
+    choice R (is_number (carried numbers (tag_in x) (sent own x.handle)) n) d (after_frame x count d) d (frames x count d) (left.same d)
 perf_left R left frames numbers (perf.Disposition x) c own n sent count d = told_left R left x.role x c own d
 perf_left R left frames numbers _ c own n sent count d = left.same d
 
 pub item_left : (R : Delivery → Delivery → Type 0) → Left R → Frames R → (numbers : DeliveryName → Option ℕ) (i : Item) (c n : ℕ) (sent : ℕ → ℕ → Option ℕ) (d : Delivery)
-    → R d (behind_put numbers i c n sent d)
+    → R d (after_put numbers i c n sent d)
 item_left R left frames numbers (item.Frame sasl own body payload) c n sent d =
-    left.next d (put_in numbers body c own n sent (length payload) d) (behind_put numbers (item.Frame sasl own body payload) c n sent d)
+    left.next d (put_in numbers body c own n sent (length payload) d) (after_put numbers (item.Frame sasl own body payload) c n sent d)
     (perf_left R left frames numbers body c own n sent (length payload) d)
     (ends_left R left (closes body) (ended_by (item.Frame sasl own body payload) c) (put_in numbers body c own n sent (length payload) d))
 item_left R left frames numbers _ c n sent d = left.same d
@@ -100,7 +100,7 @@ heard_left R left (item.Frame sasl channel body payload) c known names n d =
 heard_left R left _ c known names n d = left.same d
 
 pub event_left : (R : Delivery → Delivery → Type 0) → Left R
-    → (e : Event) (known : ℕ → ℕ → Option PeerChannel) (names : ℕ → ℕ → ℕ → Option ℕ) (n : ℕ) (d : Delivery) → R d (behind_event e known names n d)
+    → (e : Event) (known : ℕ → ℕ → Option PeerChannel) (names : ℕ → ℕ → ℕ → Option ℕ) (n : ℕ) (d : Delivery) → R d (after_event e known names n d)
 event_left R left (event.Item c i) known names n d = heard_left R left i c.0 (known c.0) (names c.0) n d
 event_left R left (event.Down c) known names n d = ends_left R left false (lost_with c.0) d
 event_left R left _ known names n d = left.same d
@@ -150,11 +150,11 @@ follows_left = record {
 frames_follow : Frames Follows
 frames_follow x count d = record { name = refl; link = refl; payload = refl; format = refl; presettled = refl; lasting = refl; origin = inl refl }
 
-pub item_follows : (numbers : DeliveryName → Option ℕ) (i : Item) (c n : ℕ) (sent : ℕ → ℕ → Option ℕ) (d : Delivery) → Follows d (behind_put numbers i c n sent d)
+pub item_follows : (numbers : DeliveryName → Option ℕ) (i : Item) (c n : ℕ) (sent : ℕ → ℕ → Option ℕ) (d : Delivery) → Follows d (after_put numbers i c n sent d)
 item_follows numbers i c n sent d = item_left Follows follows_left frames_follow numbers i c n sent d
 
 pub event_follows : (e : Event) (known : ℕ → ℕ → Option PeerChannel) (names : ℕ → ℕ → ℕ → Option ℕ) (n : ℕ) (d : Delivery)
-    → Follows d (behind_event e known names n d)
+    → Follows d (after_event e known names n d)
 event_follows e known names n d = event_left Follows follows_left e known names n d
 
 -- the same for a delivery that may exist
@@ -182,6 +182,10 @@ unless_left P e holds = by (is_over e)
     by true = tt
     by false = holds
 
+all_gone : (v : Option Delivery) → AllFollow v None
+all_gone None = refl
+all_gone (Some d) = tt
+
 changed : (f : Delivery → Delivery) → ((d : Delivery) → Follows d (f d)) → (v : Option Delivery) → AllFollow v (option_and_then (λ d. unless_over (f d)) v)
 changed f follows None = refl
 changed f follows (Some d) = unless_left (Follows d) (f d) (follows d)
@@ -195,10 +199,10 @@ uncalled_follow name (Some d) = by (same_name d.name name)
     by false = same d
 
 pub entry_follows : (e : Entry) (t : List Entry) (n : ℕ) → n ≤ bindings t → AllFollow (delivery t n) (delivery (e ∷ t) n)
-entry_follows (Did s) t n given = changed (behind_event s.event (channels_found t) (named t) n) (event_follows s.event (channels_found t) (named t) n) (delivery t n)
-entry_follows (Out c i) t n given = changed (behind_put (number_named t) i c n (sending t c)) (item_follows (number_named t) i c n (sending t c)) (delivery t n)
+entry_follows (Did s) t n given = changed (after_event s.event (channels_found t) (named t) n) (event_follows s.event (channels_found t) (named t) n) (delivery t n)
+entry_follows (Out c i) t n given = changed (after_put (number_named t) i c n (sending t c)) (item_follows (number_named t) i c n (sending t c)) (delivery t n)
 entry_follows (Took c k) t n given = all_same (delivery t n)
-entry_follows (Began g) t n given = all_same (delivery t n)
+entry_follows (Began g) t n given = all_gone (delivery t n)
 entry_follows (Booked acts full) t n given = all_same (delivery t n)
 entry_follows (Bound b) t n given =
     by_test (bindings t + 1 == n) (λ e. absurd (too_high n (bindings t) given (eqb-true (bindings t + 1) n e))) (λ e. rw e (uncalled_follow (name_in t b) (delivery t n)))
@@ -206,23 +210,23 @@ entry_follows (Bound b) t n given =
     too_high : (n k : ℕ) → n ≤ k → k + 1 ≡ n → ⊥
     too_high n k h e = omega (arith, h, e)
 
-pub more_bound : (e : Entry) (t : List Entry) (n : ℕ) → n ≤ bindings t → n ≤ bindings (e ∷ t)
-more_bound (Did s) t n h = h
-more_bound (Out c i) t n h = h
-more_bound (Took c k) t n h = h
-more_bound (Began g) t n h = h
-more_bound (Booked acts full) t n h = h
-more_bound (Bound b) t n h = one_more n (bindings t) h
+pub more_bound : (e : Entry) (t : List Entry) (n : ℕ) → is_opening e ≡ false → n ≤ bindings t → n ≤ bindings (e ∷ t)
+more_bound (Did s) t n one h = h
+more_bound (Out c i) t n one h = h
+more_bound (Took c k) t n one h = h
+more_bound (Began g) t n one h = absurd cc
+more_bound (Booked acts full) t n one h = h
+more_bound (Bound b) t n one h = one_more n (bindings t) h
   where
     one_more : (n k : ℕ) → n ≤ k → n ≤ k + 1
     one_more n k h = omega (arith, h)
 
-pub all_bound : (later t : List Entry) (n : ℕ) → n ≤ bindings t → n ≤ bindings (later ++ t)
-all_bound [] t n h = h
-all_bound (e ∷ later) t n h = more_bound e (later ++ t) n (all_bound later t n h)
+pub all_bound : (later t : List Entry) (n : ℕ) → IsOneRun later → n ≤ bindings t → n ≤ bindings (later ++ t)
+all_bound [] t n one h = h
+all_bound (e ∷ later) t n one h = more_bound e (later ++ t) n one.0 (all_bound later t n one.1 h)
 
-pub later_follows : (later t : List Entry) (n : ℕ) → n ≤ bindings t → AllFollow (delivery t n) (delivery (later ++ t) n)
-later_follows [] t n given = all_same (delivery t n)
-later_follows (e ∷ later) t n given =
-    then_all (delivery t n) (delivery (later ++ t) n) (delivery (e ∷ later ++ t) n) (later_follows later t n given)
-    (entry_follows e (later ++ t) n (all_bound later t n given))
+pub later_follows : (later t : List Entry) (n : ℕ) → IsOneRun later → n ≤ bindings t → AllFollow (delivery t n) (delivery (later ++ t) n)
+later_follows [] t n one given = all_same (delivery t n)
+later_follows (e ∷ later) t n one given =
+    then_all (delivery t n) (delivery (later ++ t) n) (delivery (e ∷ later ++ t) n) (later_follows later t n one.1 given)
+    (entry_follows e (later ++ t) n (all_bound later t n one.1 given))

@@ -28,7 +28,7 @@ use Rattle.router_trace.specs.Clocks.{terms, terms_at, written, needs_beat}
 use Rattle.router_trace.specs.Following.{tells, sends_due, drains_due}
 use Rattle.state_sessions.specs.Windows.{is_narrow, flow_due, flows_below, windows_over, windows}
 use Rattle.router_state.specs.Tables.{beat_if, beats_over}
-use Rattle.state_messages.specs.Passing.{grants_due, with_bound}
+use Rattle.state_messages.specs.Messages.{grants_due, with_bound}
 use Rattle.router_after.specs.After.{followed}
 use Rattle.reply_rows.specs.Rows.{said}
 use Rattle.reply_transfers.specs.Transfers.{part_put, settled_answers}
@@ -89,7 +89,7 @@ quiet (Out d i ∷ t) c h =
     by_test (d == c) (λ e. absurd (push_some (outs t c) i (rw e at h))) (λ e. rw e (quiet t c (rw e at h)))
 quiet (Bound b ∷ t) c h = quiet t c h
 quiet (Booked acts full ∷ t) c h = quiet t c h
-quiet (Began g ∷ t) c h = quiet t c h
+quiet (Began g ∷ t) c h = refl
 quiet (Took d n ∷ t) c h =
     by_test (d == c) (λ e. rw e (waits_took n (conn t c) (quiet t c h))) (λ e. rw e (quiet t c h))
 
@@ -168,7 +168,7 @@ untold (Out d i ∷ t) c h = goes_strange (record { conn = d; item = i } ∷ [])
 untold (Took d n ∷ t) c h = untold t c h
 untold (Bound b ∷ t) c h = untold t c h
 untold (Booked acts full ∷ t) c h = untold t c h
-untold (Began g ∷ t) c h = untold t c h
+untold (Began g ∷ t) c h = refl
 
 -- an item of another connection puts nothing if no link is attached
 

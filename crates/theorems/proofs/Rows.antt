@@ -8,12 +8,13 @@ use Rattle.book_model.specs.declared.act.Act.TheVariants.{Make, Admit, Decide, F
 use Rattle.book_model.specs.declared.act.Admission.{Admission}
 use Rattle.book_model.specs.declared.row.RowNumber.{RowNumber}
 use Rattle.book_model.specs.Book.{BookView, effect, effects}
-use Rattle.router_trace.specs.Configuration.{beginning}
+use Rattle.router_trace.specs.Configuration.{beginning, opened}
 use Rattle.router_trace.specs.Connection.{conn, due}
-use Rattle.router_trace.specs.Trace.{Beginning, Entry, Did, Out, Took, Bound, Booked, Began, Put, Step, goes, puts, each_to}
+use Rattle.router_trace.specs.Trace.{Beginning, Entry, Did, Out, Took, Bound, Booked, Began, Put, Step, did, goes, puts, each_to}
 use Rattle.router_trace.specs.declared.binding.Binding.{Binding}
+use Rattle.router_trace.specs.declared.event.Event.{Event}
 use Rattle.router_trace.specs.declared.condition.Condition.TheVariants.{ResourceLimitExceeded}
-use Rattle.state_messages.specs.Passing.{with_bound}
+use Rattle.state_messages.specs.Messages.{with_bound}
 use Rattle.router_reply.specs.Acts.{book_in, booked}
 use Rattle.router_reply.specs.Replies.{closing_of, ends, heard, bound_by, own_row, replied}
 use Rattle.state_connections.proofs.Lists.{by_test}
@@ -82,9 +83,9 @@ since (Bound b ∷ w) h n just = absurd (none_not_some just)
 since (Booked x full ∷ w) h n just = absurd (none_not_some just)
 since (Began g ∷ w) h n just = absurd (none_not_some just)
 
-next_behind : (b : BookView) (x : Admission) → (effects b (Admit x ∷ [])).next_row ≡ b.next_row + 1
+next_after : (b : BookView) (x : Admission) → (effects b (Admit x ∷ [])).next_row ≡ b.next_row + 1
 unfolding effects
-next_behind b x = refl
+next_after b x = refl
 
 -- a row that is bound just after it was admitted
 new_once : (u : List Entry) (b : Binding) (row : RowNumber) → IsAdmitted u b row → Before u → (times_bound u row.0 ≡ 0) × ((book_in u).next_row ≡ row.0 + 1)
@@ -93,7 +94,7 @@ new_once u b row is before =
     let all : EachRowIsBoundOnce is.before = before_acts u is.came.handled acts is.full is.before is.came.just is.acts before in
     let sofar : Since u is.came.handled.found row.0 = since u is.came.handled row.0 is.came.just in (
       sofar.times ∙ ap (λ (v : List Entry). times_bound v row.0) is.acts ∙ (all row.0).known (at_most row.0 (book_in is.before).next_row is.is_next),
-      ap (λ (c : BookView). c.next_row) (sofar.book ∙ ap book_in is.acts) ∙ next_behind (book_in is.before) is.admission ∙ ap (λ (k : ℕ). k + 1) (sym is.is_next),
+      ap (λ (c : BookView). c.next_row) (sofar.book ∙ ap book_in is.acts) ∙ next_after (book_in is.before) is.admission ∙ ap (λ (k : ℕ). k + 1) (sym is.is_next),
     )
   where
     at_most : (n k : ℕ) → n ≡ k → k ≤ n
@@ -146,11 +147,36 @@ pub record Rows (t : List Entry) : Type 0 where
   pub once : EachRowIsBoundOnce t
   before : Before t
 
+pub no_rows : Rows []
+no_rows = record { admitted = tt; once = λ n. record { once = zero_one; known = λ h. refl }; before = tt }
+  where
+    zero_one : 0 ≤ 1
+    zero_one = omega arith
+
+-- of rows bound before it was opened a router knows what its book knows
+pub opened_rows : (g : Beginning) (below : List Entry) → g.book ≡ book_in below → Rows below → Rows (opened g below)
+opened_rows g below book was = record {
+  admitted = was.admitted;
+  once = λ n. record { once = (was.once n).once; known = λ h. (was.once n).known (subst (λ (b : BookView). b.next_row ≤ n) book h) };
+  before = tt;
+}
+
 pub start_rows : (g : Beginning) → Rows (beginning g)
 start_rows g = record { admitted = tt; once = λ n. record { once = zero_one; known = λ h. refl }; before = tt }
   where
     zero_one : 0 ≤ 1
     zero_one = omega arith
+
+-- an event that a stop cut off binds nothing
+pub cut_rows : (t : List Entry) (e : Event) → Rows t → Rows (did e ∷ booked t e)
+cut_rows t e was = record {
+  admitted = was.admitted;
+  once = λ n. record { once = (acted n).once; known = λ h. (acted n).known h };
+  before = was.once;
+}
+  where
+    acted : EachRowIsBoundOnce (booked t e)
+    acted = booked_keeps EachRowIsBoundOnce t e (λ acts w. batch_once acts t w) was.once
 
 did_rows : (s : Step) (t : List Entry) → Rows t → Rows (Did s ∷ t)
 did_rows s t was = record { admitted = was.admitted; once = λ n. record { once = (was.once n).once; known = (was.once n).known }; before = was.before }
@@ -186,7 +212,7 @@ handled_rows id t s was =
     let bound : Rows (with_bound (bound_by at u s.event) u) = bound_rows u (bound_by at u s.event) (λ x is. bound_row id t s.event x is) came in
     all_keep Rows goes_rows (replied id at s) (goes_rows (own_row id at u s.event) (with_bound (bound_by at u s.event) u) bound)
 
-moves_rows : (id : List ℕ) (ms : List Move) (t u : List Entry) → Rows t → Goes id ms t u → Rows u
+pub moves_rows : (id : List ℕ) (ms : List Move) (t u : List Entry) → Rows t → Goes id ms t u → Rows u
 moves_rows id [] t u was went = subst (λ (w : List Entry). Rows w) (sym went) was
 moves_rows id (handles s ∷ ms) t u was went = moves_rows id ms (handled id t s) u (handled_rows id t s was) went.1
 moves_rows id (takes x ∷ ms) t u was went = moves_rows id ms (took_one x t) u (took_rows _ _ t was) went

@@ -7,7 +7,7 @@ use Rattle.amqp_session.specs.declared.states.BeginState.{BeginState}
 use Rattle.router_trace.specs.declared.terms.Terms.{Terms}
 use Rattle.router_trace.specs.Trace.{Entry, Did, Out, Took, Bound, Booked, Began, Put, goes, ups, with_up}
 use Rattle.router_trace.specs.Clocks.{moment, moment_at, terms, terms_at, written, written_at, needs_beat, channel_max_of}
-use Rattle.router_trace.specs.Sessions.{unless_close, offered, offered_at, answered_channel, answered_at, answered_by, theirs, theirs_at, theirs_behind, session, session_at, behind_item, place, place_by, free_channel, is_free, channels}
+use Rattle.router_trace.specs.Sessions.{unless_close, offered, offered_at, answered_channel, answered_at, answered_by, theirs, theirs_at, theirs_after, session, session_at, after_item, place, place_by, free_channel, is_free, channels}
 use Rattle.state_sessions.specs.Windows.{flows_below, windows_over}
 use Rattle.router_state.specs.Tables.{beat_if, beats_over}
 use Rattle.reply_rows.specs.Finding.{free_for}
@@ -28,7 +28,7 @@ same_ups (Out d i ∷ t) = same_ups t
 same_ups (Took d n ∷ t) = same_ups t
 same_ups (Bound b ∷ t) = same_ups t
 same_ups (Booked acts full ∷ t) = same_ups t
-same_ups (Began g ∷ t) = same_ups t
+same_ups (Began g ∷ t) = refl
 
 pub same_outs : (t : List Entry) (c : ℕ) → outs t c ≡ outs (untaken t) c
 same_outs [] c = refl
@@ -37,7 +37,7 @@ same_outs (Out d i ∷ t) c = ap (λ (is : List Item). if d == c then is ++ i �
 same_outs (Took d n ∷ t) c = same_outs t c
 same_outs (Bound b ∷ t) c = same_outs t c
 same_outs (Booked acts full ∷ t) c = same_outs t c
-same_outs (Began g ∷ t) c = same_outs t c
+same_outs (Began g ∷ t) c = refl
 
 same_moment : (t : List Entry) → moment t ≡ moment (untaken t)
 same_moment [] = refl
@@ -46,7 +46,7 @@ same_moment (Out d i ∷ t) = same_moment t
 same_moment (Took d n ∷ t) = same_moment t
 same_moment (Bound b ∷ t) = same_moment t
 same_moment (Booked acts full ∷ t) = same_moment t
-same_moment (Began g ∷ t) = same_moment t
+same_moment (Began g ∷ t) = refl
 
 same_terms : (t : List Entry) (c : ℕ) → terms t c ≡ terms (untaken t) c
 same_terms [] c = refl
@@ -55,7 +55,7 @@ same_terms (Out d i ∷ t) c = ap (λ (v : Option Terms). if d == c then unless_
 same_terms (Took d n ∷ t) c = same_terms t c
 same_terms (Bound b ∷ t) c = same_terms t c
 same_terms (Booked acts full ∷ t) c = same_terms t c
-same_terms (Began g ∷ t) c = same_terms t c
+same_terms (Began g ∷ t) c = refl
 
 same_written : (t : List Entry) (c : ℕ) → written t c ≡ written (untaken t) c
 same_written [] c = refl
@@ -64,7 +64,7 @@ same_written (Out d i ∷ t) c = λ j. if d == c then unless_close i (Some (same
 same_written (Took d n ∷ t) c = same_written t c
 same_written (Bound b ∷ t) c = same_written t c
 same_written (Booked acts full ∷ t) c = same_written t c
-same_written (Began g ∷ t) c = same_written t c
+same_written (Began g ∷ t) c = refl
 
 same_offered : (t : List Entry) (c : ℕ) → offered t c ≡ offered (untaken t) c
 same_offered [] c = refl
@@ -73,7 +73,7 @@ same_offered (Out d i ∷ t) c = ap (λ (v : Option BeginState). if d == c then 
 same_offered (Took d n ∷ t) c = same_offered t c
 same_offered (Bound b ∷ t) c = same_offered t c
 same_offered (Booked acts full ∷ t) c = same_offered t c
-same_offered (Began g ∷ t) c = same_offered t c
+same_offered (Began g ∷ t) c = refl
 
 same_answered : (t : List Entry) (c o : ℕ) → answered_channel t c o ≡ answered_channel (untaken t) c o
 same_answered [] c o = refl
@@ -82,25 +82,25 @@ same_answered (Out d i ∷ t) c o = ap (λ (v : Option ℕ). if d == c then answ
 same_answered (Took d n ∷ t) c o = same_answered t c o
 same_answered (Bound b ∷ t) c o = same_answered t c o
 same_answered (Booked acts full ∷ t) c o = same_answered t c o
-same_answered (Began g ∷ t) c o = same_answered t c o
+same_answered (Began g ∷ t) c o = refl
 
 pub same_theirs : (t : List Entry) (c p : ℕ) → theirs t c p ≡ theirs (untaken t) c p
 same_theirs [] c p = refl
 same_theirs (Did s ∷ t) c p = ap (theirs_at s.event c p) (same_theirs t c p)
-same_theirs (Out d i ∷ t) c p = λ j. if d == c then theirs_behind i p (λ o. same_answered t c o j) (same_theirs t c p j) else same_theirs t c p j
+same_theirs (Out d i ∷ t) c p = λ j. if d == c then theirs_after i p (λ o. same_answered t c o j) (same_theirs t c p j) else same_theirs t c p j
 same_theirs (Took d n ∷ t) c p = same_theirs t c p
 same_theirs (Bound b ∷ t) c p = same_theirs t c p
 same_theirs (Booked acts full ∷ t) c p = same_theirs t c p
-same_theirs (Began g ∷ t) c p = same_theirs t c p
+same_theirs (Began g ∷ t) c p = refl
 
 pub same_session : (t : List Entry) (c o : ℕ) → session t c o ≡ session (untaken t) c o
 same_session [] c o = refl
 same_session (Did s ∷ t) c o = λ j. session_at s.event c o (λ p. same_theirs t c p j) (same_session t c o j)
-same_session (Out d i ∷ t) c o = λ j. if d == c then behind_item i o (same_offered t c j) (same_session t c o j) else same_session t c o j
+same_session (Out d i ∷ t) c o = λ j. if d == c then after_item i o (same_offered t c j) (same_session t c o j) else same_session t c o j
 same_session (Took d n ∷ t) c o = same_session t c o
 same_session (Bound b ∷ t) c o = same_session t c o
 same_session (Booked acts full ∷ t) c o = same_session t c o
-same_session (Began g ∷ t) c o = same_session t c o
+same_session (Began g ∷ t) c o = refl
 
 -- what rows need of them
 

@@ -7,9 +7,9 @@ use Rattle.router_trace.specs.declared.binding.Origin.{Origin}
 use Rattle.router_trace.specs.declared.handle.Attachment.{Attachment}
 use Rattle.router_trace.specs.Trace.{Entry, Did, Out, Took, Bound, Booked, Began}
 use Rattle.router_trace.specs.Links.{is_lost, has_number, attachments, newest_by, numbered}
-use Rattle.router_trace.specs.Deliveries.{Delivery, none_if_ended, ended_first, channels_found, bindings, counters, name_of, name_in, same_name, number_named, unless_called, delivery, bound, unless_over, behind_event, behind_put, sending_by, sending, named_by, named, next_id_by, next_id, stands_on}
+use Rattle.router_trace.specs.Deliveries.{Delivery, none_if_ended, ended_first, channels_found, bindings, counters, name_of, name_in, same_name, number_named, unless_called, delivery, bound, unless_over, after_event, after_put, sending_by, sending, named_by, named, next_id_by, next_id, stands_on}
 use Rattle.router_trace.specs.DeliveryFrames.{next_frame, largest_out, rest_of, first_transfer, later_transfer}
-use Rattle.router_trace.specs.Claims.{Claim, bind_claim, claim_at, claim_behind, claims}
+use Rattle.router_trace.specs.Claims.{Claim, bind_claim, claim_at, claim_after, claims}
 use Rattle.router_trace.specs.Numbers.{Placed, first_below, first_placed}
 use Rattle.router_trace.specs.Following.{is_still_attached, is_to_be_told, tell, tells_of, tells, goes_on_at, is_going, takes_more, is_going_on, is_busy, is_open, is_used, can_start, is_wide, is_there, can_go, place_to_go, send, send_of, sends_due, is_unsent_on, owes_one, place_drained, drain_on, drain_by, drains_due}
 use Rattle.theorems.specs.Takes.{untaken}
@@ -25,7 +25,7 @@ same_bindings (Out d i ∷ t) = same_bindings t
 same_bindings (Took d n ∷ t) = same_bindings t
 same_bindings (Bound b ∷ t) = ap (λ (n : ℕ). n + 1) (same_bindings t)
 same_bindings (Booked acts full ∷ t) = same_bindings t
-same_bindings (Began g ∷ t) = same_bindings t
+same_bindings (Began g ∷ t) = refl
 
 pub same_counters : (t : List Entry) → counters t ≡ counters (untaken t)
 same_counters [] = refl
@@ -34,7 +34,7 @@ same_counters (Out d i ∷ t) = same_counters t
 same_counters (Took d n ∷ t) = same_counters t
 same_counters (Bound b ∷ t) = ap (λ (n : ℕ). if is_none b.row then n + 1 else n) (same_counters t)
 same_counters (Booked acts full ∷ t) = same_counters t
-same_counters (Began g ∷ t) = same_counters t
+same_counters (Began g ∷ t) = refl
 
 same_name_in : (t : List Entry) (b : Binding) → name_in t b ≡ name_in (untaken t) b
 same_name_in t b = ap (λ (n : ℕ). name_of b.row (n + 1)) (same_counters t)
@@ -46,7 +46,7 @@ same_numbers (Out d i ∷ t) name = same_numbers t name
 same_numbers (Took d n ∷ t) name = same_numbers t name
 same_numbers (Bound b ∷ t) name = λ j. if same_name (same_name_in t b j) name then Some (same_bindings t j + 1) else same_numbers t name j
 same_numbers (Booked acts full ∷ t) name = same_numbers t name
-same_numbers (Began g ∷ t) name = same_numbers t name
+same_numbers (Began g ∷ t) name = refl
 
 same_sending : (t : List Entry) (c o h : ℕ) → sending t c o h ≡ sending (untaken t) c o h
 same_sending [] c o h = refl
@@ -55,7 +55,7 @@ same_sending (Out d i ∷ t) c o h = λ j. if d == c then sending_by (λ name. s
 same_sending (Took d n ∷ t) c o h = same_sending t c o h
 same_sending (Bound b ∷ t) c o h = same_sending t c o h
 same_sending (Booked acts full ∷ t) c o h = same_sending t c o h
-same_sending (Began g ∷ t) c o h = same_sending t c o h
+same_sending (Began g ∷ t) c o h = refl
 
 pub same_named : (t : List Entry) (c o id : ℕ) → named t c o id ≡ named (untaken t) c o id
 same_named [] c o id = refl
@@ -64,7 +64,7 @@ same_named (Out d i ∷ t) c o id = λ j. if d == c then named_by (λ name. same
 same_named (Took d n ∷ t) c o id = same_named t c o id
 same_named (Bound b ∷ t) c o id = same_named t c o id
 same_named (Booked acts full ∷ t) c o id = same_named t c o id
-same_named (Began g ∷ t) c o id = same_named t c o id
+same_named (Began g ∷ t) c o id = refl
 
 same_next_id : (t : List Entry) (c o : ℕ) → next_id t c o ≡ next_id (untaken t) c o
 same_next_id [] c o = refl
@@ -73,7 +73,7 @@ same_next_id (Out d i ∷ t) c o = ap (λ (n : ℕ). if d == c then next_id_by i
 same_next_id (Took d n ∷ t) c o = same_next_id t c o
 same_next_id (Bound b ∷ t) c o = same_next_id t c o
 same_next_id (Booked acts full ∷ t) c o = same_next_id t c o
-same_next_id (Began g ∷ t) c o = same_next_id t c o
+same_next_id (Began g ∷ t) c o = refl
 
 same_ended : (t : List Entry) → ended_first t ≡ ended_first (untaken t)
 same_ended [] = refl
@@ -90,22 +90,22 @@ same_channels t c p = λ j. none_if_ended (same_ended t j) c (same_theirs t c p 
 pub same_delivery : (t : List Entry) (n : ℕ) → delivery t n ≡ delivery (untaken t) n
 same_delivery [] n = refl
 same_delivery (Did s ∷ t) n =
-    λ j. option_and_then (λ d. unless_over (behind_event s.event (λ c p. same_channels t c p j) (λ c o id. same_named t c o id j) n d)) (same_delivery t n j)
-same_delivery (Out c i ∷ t) n = λ j. option_and_then (λ d. unless_over (behind_put (λ name. same_numbers t name j) i c n (λ o h. same_sending t c o h j) d)) (same_delivery t n j)
+    λ j. option_and_then (λ d. unless_over (after_event s.event (λ c p. same_channels t c p j) (λ c o id. same_named t c o id j) n d)) (same_delivery t n j)
+same_delivery (Out c i ∷ t) n = λ j. option_and_then (λ d. unless_over (after_put (λ name. same_numbers t name j) i c n (λ o h. same_sending t c o h j) d)) (same_delivery t n j)
 same_delivery (Took c k ∷ t) n = same_delivery t n
 same_delivery (Bound b ∷ t) n = λ j. if same_bindings t j + 1 == n then Some (bound (same_name_in t b j) b) else unless_called (same_name_in t b j) (same_delivery t n j)
 same_delivery (Booked acts full ∷ t) n = same_delivery t n
-same_delivery (Began g ∷ t) n = same_delivery t n
+same_delivery (Began g ∷ t) n = refl
 
 pub same_claims : (t : List Entry) (c o id : ℕ) → claims t c o id ≡ claims (untaken t) c o id
 same_claims [] c o id = refl
 same_claims (Did s ∷ t) c o id =
     λ j. claim_at s.event c o (λ p. same_theirs t c p j) (λ p. same_handle t c o p j) (λ h. same_link t c o h j) id (same_claims t c o id j)
-same_claims (Out d i ∷ t) c o id = ap (λ (v : Option Claim). if d == c then claim_behind i o id v else v) (same_claims t c o id)
+same_claims (Out d i ∷ t) c o id = ap (λ (v : Option Claim). if d == c then claim_after i o id v else v) (same_claims t c o id)
 same_claims (Took d n ∷ t) c o id = same_claims t c o id
 same_claims (Bound b ∷ t) c o id = ap (bind_claim b.origin c o id) (same_claims t c o id)
 same_claims (Booked acts full ∷ t) c o id = same_claims t c o id
-same_claims (Began g ∷ t) c o id = same_claims t c o id
+same_claims (Began g ∷ t) c o id = refl
 
 pub same_numbered : (t : List Entry) (n : ℕ) → numbered t n ≡ numbered (untaken t) n
 same_numbered [] n = refl
@@ -114,7 +114,7 @@ same_numbered (Out d i ∷ t) n = λ j. newest_by i d (same_attachments t j + 1)
 same_numbered (Took d k ∷ t) n = same_numbered t n
 same_numbered (Bound b ∷ t) n = same_numbered t n
 same_numbered (Booked acts full ∷ t) n = same_numbered t n
-same_numbered (Began g ∷ t) n = same_numbered t n
+same_numbered (Began g ∷ t) n = refl
 
 -- outcomes to producers
 

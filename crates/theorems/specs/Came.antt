@@ -18,7 +18,7 @@ use Rattle.router_trace.specs.Deliveries.{Delivery, delivery as delivery_in}
 use Rattle.router_trace.specs.Sessions.{theirs}
 use Rattle.router_trace.specs.Links.{Link, receives, link, link_place, on}
 use Rattle.router_trace.specs.Settling.{is_claimed_on}
-use Rattle.state_messages.specs.Passing.{consumer_of, lasts}
+use Rattle.state_messages.specs.Messages.{consumer_of, lasts}
 use Rattle.reply_transfers.specs.Transfers.{claimed_id, from_link, lasts_on}
 use Rattle.router_reply.specs.Replies.{row_found}
 use Rattle.theorems.specs.OneConsumer.{IsOfMessage}
@@ -46,7 +46,7 @@ bound_since (Out c i ∷ t) = bound_since t
 bound_since (Took c n ∷ t) = bound_since t
 bound_since (Bound b ∷ t) = bound_since t + 1
 bound_since (Booked acts full ∷ t) = bound_since t
-bound_since (Began g ∷ t) = bound_since t
+bound_since (Began g ∷ t) = 0
 
 -- A message is complete, on a link of a connection on which the peer is the sender, by the router's channel and handle: the frame just received,
 -- on the session and the handle of the link, is the last of its delivery; the message is what its frames carry, in order.

@@ -5,7 +5,7 @@ use Rattle.router_play.specs.Script.{opening, Plays}
 use Rattle.router_play.specs.Ending.{TellsOf}
 use Rattle.router_core.specs.Handling.{is_failed}
 use Rattle.router_play.proofs.Scenes.{back}
-use Rattle.router_play.proofs.Telling.{tells_behind, size_told}
+use Rattle.router_play.proofs.Telling.{tells_after, size_told}
 use Rattle.router_play.proofs.player.play_run.Goals as goal
 
 pub returns-clause-plays : goal.returns-clause-plays
@@ -23,7 +23,7 @@ returns-clause-plays c = λ none.
 pub returns-clause-told : goal.returns-clause-told
 returns-clause-told c =
     subst (λ (ls : List Line). TellsOf c.play-played.new.self.fault ls) (sym c.in_ok-append.ensures)
-    (tells_behind c.play-played.new.self.fault c.args.lines.now.items c.play-played.new.self.lines.items (c.in_ok-played.ensures.tells c.in_ok-player.ensures.tells).told)
+    (tells_after c.play-played.new.self.fault c.args.lines.now.items c.play-played.new.self.lines.items (c.in_ok-played.ensures.tells c.in_ok-player.ensures.tells).told)
 
 pub returns-clause-more : goal.returns-clause-more
 returns-clause-more c = (c.play-played.new.self.lines.items, c.in_ok-append.ensures)

@@ -6,7 +6,7 @@ use Rattle.router_play.specs.Script.{Scene, Reads}
 use Rattle.router_play.specs.Playing.{Follows, Tells}
 use Rattle.router_play.proofs.player.Player.more_bytes.Given as goal
 
--- the bytes so far, and those behind them
+-- the bytes so far, and those after them
 abbrev pub invariant-loop-behind : goal.invariant-loop-behind
 invariant-loop-behind l = record {
   continues : is_failed l.self.core ≡ false → (s v : Scene) (k : Socket) (before : List ℕ) → s.sockets l.conn.0 ≡ Some k → Reads l.conn before s k false v → Follows l.fn.self v
