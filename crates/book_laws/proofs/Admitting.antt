@@ -1,5 +1,5 @@
 -- An Admit: what the acts say of the rows after it.
-use Rattle.std.proofs.Common.{◌≡◌, ◌∙◌, sym, ap, refl, subst, ℕ, ◌+◌, ◌≤◌, ◌<◌, Bool, true, false, cond, not, ◌&&◌, ◌||◌, List, [], ◌∷◌, ◌++◌, map, arith, Option, Some, None}
+use Rattle.std.proofs.Common.{◌≡◌, ◌∙◌, sym, ap, refl, subst, ℕ, ◌+◌, ◌≤◌, Bool, true, false, cond, not, ◌&&◌, List, [], ◌∷◌, ◌++◌, map, arith, Option, Some, None}
 use Rattle.std.specs.Prelude.{◌==◌, find, filter, count_by, is_some, option_map}
 use Rattle.std.specs.List.{list_any}
 use Rattle.std.specs.Option.{option_or}
@@ -19,8 +19,8 @@ use Rattle.book_model.specs.declared.terminus.TerminusNumber.{TerminusNumber}
 use Rattle.book_model.specs.Book.{BookView, refusal, effect, admitted, has_tag, has_role, may_bind, same_bytes, terminus_at}
 use Rattle.book_laws.proofs.Conditions.{MayAdmit, may_admit}
 use Rattle.book_laws.proofs.Keys.{bytes_of}
-use Rattle.book_laws.proofs.Numbers.{Once, once_later, once_push, rises_push}
-use Rattle.book_laws.proofs.Searching.{by_case, none_not_some, some_same, count_kept, count_mapped, count_implied, nothing_found, none_passes, none_counted, one_more, filter_push}
+use Rattle.book_laws.proofs.Numbers.{once_later, once_push, rises_push}
+use Rattle.book_laws.proofs.Searching.{none_not_some, some_same, count_kept, count_mapped, count_implied, nothing_found, none_passes, none_counted, one_more, filter_push}
 use Rattle.book_laws.proofs.Says.{Kinds, put, Says, IsBetween, terminus_looked, number_of_admit, number_of_decide, number_of_forget, decision_by, forgotten_by, open_by, row_with, row_by, rows_by, stays_by, dropped_by, stands_by}
 
 -- termini of a book were made

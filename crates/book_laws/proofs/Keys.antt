@@ -1,5 +1,5 @@
 -- The tests of keys and of tags show whether they are the same.
-use Rattle.std.proofs.Common.{◌≡◌, refl, ℕ, Bool, true, false, ◌&&◌, List}
+use Rattle.std.proofs.Common.{◌≡◌, refl, ℕ, true, ◌&&◌, List}
 use Rattle.std.proofs.lemmas.Bool.{and_parts}
 use Rattle.std.proofs.lemmas.Slice.Eq.{bytes_eq-Decides}
 use Rattle.book_model.specs.declared.terminus.LinkKey.{LinkKey}

@@ -6,3 +6,7 @@ pub mod Says
 pub mod Making
 pub mod Admitting
 pub mod Settling
+pub mod Joining
+pub mod Telling
+pub mod Facts
+pub mod Order

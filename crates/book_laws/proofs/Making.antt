@@ -1,9 +1,9 @@
 -- A Make and a Drop: what the acts say of the termini after it.
-use Rattle.std.proofs.Common.{◌≡◌, ◌∙◌, sym, ap, refl, subst, ℕ, ◌+◌, ◌≤◌, ◌<◌, Bool, true, false, cond, not, ◌&&◌, ◌||◌, List, [], ◌∷◌, ◌++◌, arith, Option, Some, None}
-use Rattle.std.specs.Prelude.{◌==◌, find, filter, count_by}
+use Rattle.std.proofs.Common.{◌≡◌, ◌∙◌, sym, ap, refl, subst, ℕ, ◌+◌, ◌≤◌, ◌<◌, Bool, true, false, not, ◌&&◌, ◌||◌, List, [], ◌∷◌, ◌++◌, arith, Option, Some, None}
+use Rattle.std.specs.Prelude.{◌==◌, filter, count_by}
 use Rattle.std.specs.List.{list_any}
 use Rattle.std.specs.Option.{option_or}
-use Rattle.std.proofs.lemmas.Bool.{and_parts, not-true}
+use Rattle.std.proofs.lemmas.Bool.{and_parts}
 use Rattle.std.proofs.lemmas.List.Folds.{find-append}
 use Rattle.book_model.specs.declared.act.Act.TheVariants.{Make, Drop}
 use Rattle.book_model.specs.declared.act.Admission.{Admission}
@@ -15,7 +15,7 @@ use Rattle.book_model.specs.declared.terminus.TerminusNumber.{TerminusNumber}
 use Rattle.book_model.specs.Book.{BookView, refusal, effect, same_key, has_role, may_bind, terminus_at}
 use Rattle.book_laws.proofs.Conditions.{MayMake, may_make, may_drop}
 use Rattle.book_laws.proofs.Keys.{key_of}
-use Rattle.book_laws.proofs.Numbers.{Once, once_later, once_push, found_low, rises_push}
+use Rattle.book_laws.proofs.Numbers.{once_later, once_push, found_low, rises_push}
 use Rattle.book_laws.proofs.Searching.{turned, count_kept, count_implied, none_passes, none_counted, one_more, filter_push, filter_twice}
 use Rattle.book_laws.proofs.Says.{Kinds, put, Says, IsBetween, FoundTerminus, terminus_found, number_of_make, number_of_drop, stays_by, holds_key, dropped_by, dropped_push}
 

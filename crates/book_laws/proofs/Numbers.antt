@@ -1,10 +1,10 @@
 -- Numbers that come at most once, below the one that comes next.
-use Rattle.std.proofs.Common.{◌≡◌, ◌∙◌, sym, ap, refl, subst, ℕ, zero, suc, ◌+◌, ◌≤◌, ◌<◌, Bool, true, false, cond, List, [], ◌∷◌, ◌++◌, map, arith, Option, Some, None, inl, inr, ⊎_elim}
+use Rattle.std.proofs.Common.{◌≡◌, ◌∙◌, sym, refl, subst, ℕ, zero, suc, ◌+◌, ◌≤◌, ◌<◌, Bool, true, false, cond, List, [], ◌∷◌, ◌++◌, map, arith, Some, ⊎_elim}
 use Rattle.std.specs.Prelude.{◌==◌, find, filter, count_by}
 use Rattle.std.specs.List.{All, AllPairs}
 use Rattle.std.proofs.lemmas.Bool.{eqb-true, cases_lt}
 use Rattle.std.proofs.lemmas.List.Kept.{AllPairs-cons}
-use Rattle.book_laws.proofs.Searching.{by_case, none_not_some, other_numbers, same_numbers, count_more, count_push, one_more, nothing_found}
+use Rattle.book_laws.proofs.Searching.{none_not_some, other_numbers, same_numbers, count_more, count_push, one_more, nothing_found}
 
 pub record Once {V : Type 0} (number : V → ℕ) (next : ℕ) (vs : List V) : Type 0 where
   pub once : (n : ℕ) → count_by (λ v. number v == n) vs ≤ 1

@@ -1,8 +1,7 @@
 -- Searches of lists, by a test and by a number.
-use Rattle.std.proofs.Common.{◌≡◌, ◌∙◌, sym, ap, refl, subst, ℕ, ◌+◌, ◌≤◌, ◌<◌, Bool, true, false, cond, not, ◌&&◌, ◌||◌, List, [], ◌∷◌, ◌++◌, map, arith, Option, Some, None}
+use Rattle.std.proofs.Common.{◌≡◌, ◌∙◌, sym, ap, refl, subst, ℕ, zero, suc, ◌+◌, ◌≤◌, ◌<◌, Bool, true, false, cond, ◌&&◌, ◌||◌, List, [], ◌∷◌, ◌++◌, map, arith, Option, Some, None}
 use Rattle.std.specs.Prelude.{◌==◌, find, filter, filter_map, option_map, count_by}
-use Rattle.std.specs.List.{list_any, cons_option}
-use Rattle.std.specs.Option.{option_or}
+use Rattle.std.specs.List.{list_any}
 use Rattle.std.proofs.lemmas.Bool.{eqb-true}
 use Rattle.std.proofs.lemmas.Bool.Decides.{nat_tests}
 use Rattle.std.proofs.lemmas.List.Elements.{filter-append}
@@ -194,3 +193,62 @@ module _ {V W : Type 0} (change : W → Option W) (f g : V → W) (keep left : V
       by true false e rest = rw (e, rest) refl
       by false true e rest = absurd cc
       by false false e rest = rest
+
+-- a search among those that are kept is one search for both
+module _ {V : Type 0} (test keep : V → Bool) where
+  pub found_both : (vs : List V) → find test (filter keep vs) ≡ find (λ v. keep v && test v) vs
+  found_both [] = refl
+  found_both (v ∷ vs) = by (keep v) (found_both vs)
+    where
+      by : (b : Bool) → find test (filter keep vs) ≡ find (λ v. keep v && test v) vs
+          → find test (cond b (v ∷ filter keep vs) (filter keep vs)) ≡ cond (b && test v) (Some v) (find (λ v. keep v && test v) vs)
+      by true rest = ap (cond (test v) (Some v)) rest
+      by false rest = rest
+
+-- what a search finds is counted
+pub some_counted : {V : Type 0} (test : V → Bool) (vs : List V) (v : V) → find test vs ≡ Some v → 1 ≤ count_by test vs
+some_counted test vs v is = by (count_by test vs) refl
+  where
+    by : (n : ℕ) → count_by test vs ≡ n → 1 ≤ n
+    by zero none = absurd (none_not_some (sym (nothing_found test vs none) ∙ is))
+    by (suc n) some = omega arith
+
+-- one whose number comes once is found by its number, whatever found it
+module _ {V : Type 0} (number : V → ℕ) (test : V → Bool) where
+  counted_pass : (vs : List V) (v : V) → find test vs ≡ Some v → 1 ≤ count_by (λ w. number w == number v) vs
+  counted_pass [] v is = absurd (none_not_some is)
+  counted_pass (w ∷ vs) v is = by_case (test w)
+      (λ e. omega (arith, count_more (λ x. number x == number v) w vs, one (number w == number v) (same_numbers (number w) (number v) (ap number (some_same (here e))))))
+      (λ e. omega (arith, count_more (λ x. number x == number v) w vs, counted_pass vs v (rest e)))
+    where
+      one : (b : Bool) → b ≡ true → 1 ≤ cond b 1 0
+      one true e = omega arith
+      one false e = absurd cc
+
+      here : test w ≡ true → Some w ≡ Some v
+      here e = rw e at is
+
+      rest : test w ≡ false → find test vs ≡ Some v
+      rest e = rw e at is
+
+  pub found_alone : (vs : List V) (v : V) → find test vs ≡ Some v → count_by (λ w. number w == number v) vs ≤ 1 → find (λ w. number w == number v) vs ≡ Some v
+  found_alone [] v is once = absurd (none_not_some is)
+  found_alone (w ∷ vs) v is once = by_case (test w)
+      (λ e. let same : w ≡ v = some_same (here e) in rw (same_numbers (number w) (number v) (ap number same)) (ap Some same))
+      (λ e. let among : find test vs ≡ Some v = rest e in
+      let few : cond (number w == number v) 1 0 + count_by (λ x. number x == number v) vs ≤ 1 = subst (λ (n : ℕ). n ≤ 1) (count_more (λ x. number x == number v) w vs) once in
+      rw (other (number w == number v) few (counted_pass vs v among)) (found_alone vs v among (less (number w == number v) few)))
+    where
+      here : test w ≡ true → Some w ≡ Some v
+      here e = rw e at is
+
+      rest : test w ≡ false → find test vs ≡ Some v
+      rest e = rw e at is
+
+      other : (b : Bool) → cond b 1 0 + count_by (λ x. number x == number v) vs ≤ 1 → 1 ≤ count_by (λ x. number x == number v) vs → b ≡ false
+      other true few some = absurd (omega (arith, few, some))
+      other false few some = refl
+
+      less : (b : Bool) → cond b 1 0 + count_by (λ x. number x == number v) vs ≤ 1 → count_by (λ x. number x == number v) vs ≤ 1
+      less true few = omega (arith, few)
+      less false few = omega (arith, few)

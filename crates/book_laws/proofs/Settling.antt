@@ -1,7 +1,6 @@
 -- A Decide and a Forget: what the acts say of the rows after it.
-use Rattle.std.proofs.Common.{◌≡◌, ◌∙◌, sym, ap, refl, subst, ℕ, ◌+◌, ◌≤◌, ◌<◌, Bool, true, false, cond, not, ◌&&◌, ◌||◌, List, [], ◌∷◌, ◌++◌, map, arith, Option, Some, None}
-use Rattle.std.specs.Prelude.{◌==◌, find, filter, filter_map, count_by, is_some, option_map, if◌then◌else◌}
-use Rattle.std.specs.List.{list_any}
+use Rattle.std.proofs.Common.{◌≡◌, ◌∙◌, sym, ap, refl, ℕ, ◌≤◌, ◌<◌, Bool, true, false, cond, not, ◌&&◌, ◌||◌, List, [], ◌∷◌, ◌++◌, arith, Option, Some, None}
+use Rattle.std.specs.Prelude.{◌==◌, find, count_by, is_some, option_map, if◌then◌else◌}
 use Rattle.std.specs.Option.{option_or}
 use Rattle.std.proofs.lemmas.Bool.{and_parts, eqb-true}
 use Rattle.amqp_model.specs.declared.state.DeliveryState.{DeliveryState}
@@ -12,9 +11,9 @@ use Rattle.book_model.specs.declared.row.Row.{Row}
 use Rattle.book_model.specs.declared.row.RowNumber.{RowNumber}
 use Rattle.book_model.specs.Book.{BookView, refusal, effect, with_row, row_at, decided, forgotten, same_bytes}
 use Rattle.book_laws.proofs.Conditions.{may_decide, may_forget}
-use Rattle.book_laws.proofs.Numbers.{Once, once_push, found_low}
-use Rattle.book_laws.proofs.Searching.{by_case, turned, none_not_some, nothing_counted, none_counted, count_implied, changed_rows}
-use Rattle.book_laws.proofs.Says.{Kinds, put, Says, Found, row_found, number_of_admit, number_of_decide, number_of_forget, decision_by, forgotten_by, open_by, row_with, row_by, rows_by, stands_by, decision_push, forgotten_push}
+use Rattle.book_laws.proofs.Numbers.{once_push, found_low}
+use Rattle.book_laws.proofs.Searching.{by_case, turned, nothing_counted, none_counted, count_implied, changed_rows}
+use Rattle.book_laws.proofs.Says.{Kinds, put, Says, Found, row_found, number_of_admit, number_of_decide, number_of_forget, decision_by, forgotten_by, open_by, row_with, row_by, stands_by, decision_push, forgotten_push}
 
 -- what an act that changes one row makes of a row that is shown
 

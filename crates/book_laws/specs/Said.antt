@@ -1,6 +1,6 @@
 -- What a list of acts says, oldest first: which rows it admits, decides and forgets, which termini it makes and drops, and which of
 -- them still stand. Each word searches the list; none of them knows a book.
-use Rattle.std.specs.Prelude.{◌≡◌, ℕ, ◌<◌, ◌==◌, Bool, true, false, not, ◌&&◌, if◌then◌else◌, Option, Some, None, is_some, option_map, List, find, filter, filter_map, map, count_by}
+use Rattle.std.specs.Prelude.{◌≡◌, ℕ, ◌==◌, Bool, not, ◌&&◌, if◌then◌else◌, Option, Some, None, is_some, option_map, List, find, filter, filter_map, map, count_by}
 use Rattle.std.specs.List.{list_any}
 use Rattle.amqp_model.specs.declared.state.DeliveryState.{DeliveryState}
 use Rattle.book_model.specs.declared.act.Act.{Act}
