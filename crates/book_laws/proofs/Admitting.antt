@@ -25,14 +25,16 @@ use Rattle.book_laws.proofs.Says.{Kinds, put, Says, IsBetween, terminus_looked, 
 
 -- termini of a book were made
 
-made_role : (role : LinkRole) (n : ℕ) (ns : List TerminusNumber) (ts : List Terminus) → has_role role (terminus_at n (filter (stays_by ns) ts)) ≡ true → has_role role (terminus_at n ts) ≡ true
+made_role : (role : LinkRole) (n : ℕ) (ns : List TerminusNumber) (ts : List Terminus)
+    → has_role role (terminus_at n (filter (stays_by ns) ts)) ≡ true → has_role role (terminus_at n ts) ≡ true
 made_role role n ns ts is = by (not (dropped_by ns n)) (sym (ap (has_role role) (terminus_looked ns ts n)) ∙ is)
   where
     by : (b : Bool) → has_role role (cond b (terminus_at n ts) None) ≡ true → has_role role (terminus_at n ts) ≡ true
     by true e = e
     by false e = absurd cc
 
-made_binding : (o : Option TerminusNumber) (ns : List TerminusNumber) (ts : List Terminus) → may_bind o (filter (stays_by ns) ts) ≡ true → may_bind o ts ≡ true
+made_binding : (o : Option TerminusNumber) (ns : List TerminusNumber) (ts : List Terminus)
+    → may_bind o (filter (stays_by ns) ts) ≡ true → may_bind o ts ≡ true
 made_binding None ns ts is = refl
 made_binding (Some n) ns ts is = made_role Consumer n.0 ns ts is
 
@@ -47,33 +49,43 @@ middle true true r e = refl
 middle true false r e = absurd cc
 middle false q r e = absurd cc
 
-none_under : (k : Kinds) (b : BookView) (producer : ℕ) (tag : List ℕ) → Says k b → list_any (has_tag producer tag) b.rows ≡ false → count_by (stands_by k.forgets producer tag) k.admits ≡ 0
+none_under : (k : Kinds) (b : BookView) (producer : ℕ) (tag : List ℕ) → Says k b
+    → list_any (has_tag producer tag) b.rows ≡ false → count_by (stands_by k.forgets producer tag) k.admits ≡ 0
 none_under k b producer tag says none =
     let open_at : Admission → Bool = λ a. open_by k.decides k.forgets a.row.0 in
     let none_shown : count_by (has_tag producer tag) (rows_by k.decides k.forgets k.admits) ≡ 0 =
-    none_counted (has_tag producer tag) (rows_by k.decides k.forgets k.admits) (subst (λ (rs : List Row). list_any (has_tag producer tag) rs ≡ false) says.rows none) in
+    none_counted (has_tag producer tag) (rows_by k.decides k.forgets k.admits)
+    (subst (λ (rs : List Row). list_any (has_tag producer tag) rs ≡ false) says.rows none) in
     let none_kept : count_by (λ (a : Admission). open_at a && stands_by k.forgets producer tag a) k.admits ≡ 0 =
-    sym (count_kept (stands_by k.forgets producer tag) open_at k.admits) ∙ sym (count_mapped (has_tag producer tag) (row_by k.decides k.forgets) (filter open_at k.admits)) ∙ none_shown in
-    zero (count_implied (stands_by k.forgets producer tag) (λ (a : Admission). open_at a && stands_by k.forgets producer tag a) opened k.admits) none_kept
+    sym (count_kept (stands_by k.forgets producer tag) open_at k.admits)
+    ∙ sym (count_mapped (has_tag producer tag) (row_by k.decides k.forgets) (filter open_at k.admits))
+    ∙ none_shown in
+    zero (count_implied (stands_by k.forgets producer tag)
+    (λ (a : Admission). open_at a && stands_by k.forgets producer tag a) opened k.admits) none_kept
   where
     zero : {i j : ℕ} → i ≤ j → j ≡ 0 → i ≡ 0
     zero h e = omega (arith, h, e)
 
-    opened : (a : Admission) → stands_by k.forgets producer tag a ≡ true → (open_by k.decides k.forgets a.row.0 && stands_by k.forgets producer tag a) ≡ true
-    opened a e = rw (open_unforgotten (is_some (decision_by k.decides a.row.0)) (forgotten_by k.forgets a.row.0) (middle (a.producer.0 == producer) (not (forgotten_by k.forgets a.row.0)) (same_bytes a.tag.items tag) e)) e
+    opened : (a : Admission) → stands_by k.forgets producer tag a ≡ true
+        → (open_by k.decides k.forgets a.row.0 && stands_by k.forgets producer tag a) ≡ true
+    opened a e = rw (open_unforgotten (is_some (decision_by k.decides a.row.0)) (forgotten_by k.forgets a.row.0)
+        (middle (a.producer.0 == producer) (not (forgotten_by k.forgets a.row.0)) (same_bytes a.tag.items tag) e)) e
 
-pub says_admit : (k : Kinds) (b : BookView) (a : Admission) → refusal b (Admit a) ≡ None → Says k b → Says (put k (Admit a)) (effect b (Admit a))
+pub says_admit : (k : Kinds) (b : BookView) (a : Admission) → refusal b (Admit a) ≡ None → Says k b
+    → Says (put k (Admit a)) (effect b (Admit a))
 says_admit k b a applies says = record {
   rows = ap (λ (rs : List Row). rs ++ admitted a ∷ []) says.rows ∙ sym shown;
   termini = says.termini;
   makes = says.makes;
-  admits = once_push number_of_admit b.next_row (b.next_row + 1) k.admits a says.admits (says.admits.above a.row.0 (omega (arith, may.next))) (omega (arith, may.next)) (omega arith);
+  admits = once_push number_of_admit b.next_row (b.next_row + 1) k.admits a says.admits
+      (says.admits.above a.row.0 (omega (arith, may.next))) (omega (arith, may.next)) (omega arith);
   decides = once_later number_of_decide b.next_row (b.next_row + 1) k.decides (omega arith) says.decides;
   forgets = once_later number_of_forget b.next_row (b.next_row + 1) k.forgets (omega arith) says.forgets;
   drops = says.drops;
   makes_rise = says.makes_rise;
   admits_rise = rises_push number_of_admit b.next_row k.admits a says.admits_rise says.admits.above may.next;
-  tags = λ producer tag. one_more (stands_by k.forgets producer tag) k.admits a (says.tags producer tag) (new producer tag);
+  tags = λ producer tag. one_more (stands_by k.forgets producer tag) k.admits a (says.tags producer tag)
+      (new producer tag);
   keys = says.keys;
   between = between;
 }
@@ -82,10 +94,13 @@ says_admit k b a applies says = record {
     may = may_admit b a applies
 
     undecided : decision_by k.decides a.row.0 ≡ None
-    undecided = ap (option_map (λ (d : Decision). d.outcome)) (nothing_found (λ (d : Decision). d.row.0 == a.row.0) k.decides (says.decides.above a.row.0 (omega (arith, may.next))))
+    undecided = ap (option_map (λ (d : Decision). d.outcome))
+        (nothing_found (λ (d : Decision). d.row.0 == a.row.0) k.decides
+        (says.decides.above a.row.0 (omega (arith, may.next))))
 
     unforgotten : forgotten_by k.forgets a.row.0 ≡ false
-    unforgotten = none_passes (λ (m : RowNumber). m.0 == a.row.0) k.forgets (says.forgets.above a.row.0 (omega (arith, may.next)))
+    unforgotten = none_passes (λ (m : RowNumber). m.0 == a.row.0) k.forgets
+        (says.forgets.above a.row.0 (omega (arith, may.next)))
 
     opened : open_by k.decides k.forgets a.row.0 ≡ true
     opened = ap (λ (o : Option DeliveryState). not (is_some o && forgotten_by k.forgets a.row.0)) undecided
@@ -95,28 +110,41 @@ says_admit k b a applies says = record {
 
     shown : rows_by k.decides k.forgets (k.admits ++ a ∷ []) ≡ rows_by k.decides k.forgets k.admits ++ admitted a ∷ []
     shown =
-        ap (map (row_by k.decides k.forgets)) (filter_push (λ (x : Admission). open_by k.decides k.forgets x.row.0) k.admits a opened)
-        ∙ map-append (row_by k.decides k.forgets) (filter (λ (x : Admission). open_by k.decides k.forgets x.row.0) k.admits) (a ∷ [])
+        ap (map (row_by k.decides k.forgets))
+        (filter_push (λ (x : Admission). open_by k.decides k.forgets x.row.0) k.admits a opened)
+        ∙ map-append (row_by k.decides k.forgets)
+        (filter (λ (x : Admission). open_by k.decides k.forgets x.row.0) k.admits) (a ∷ [])
         ∙ ap (λ (r : Row). rows_by k.decides k.forgets k.admits ++ r ∷ []) row
 
-    new : (producer : ℕ) (tag : List ℕ) → stands_by k.forgets producer tag a ≡ true → count_by (stands_by k.forgets producer tag) k.admits ≡ 0
+    new : (producer : ℕ) (tag : List ℕ) → stands_by k.forgets producer tag a ≡ true
+        → count_by (stands_by k.forgets producer tag) k.admits ≡ 0
     new producer tag e =
-        let first = and_parts (a.producer.0 == producer) (not (forgotten_by k.forgets a.row.0)) (and_parts (a.producer.0 == producer && not (forgotten_by k.forgets a.row.0)) (same_bytes a.tag.items tag) e).0 in
+        let first = and_parts (a.producer.0 == producer) (not (forgotten_by k.forgets a.row.0))
+        (and_parts (a.producer.0 == producer && not (forgotten_by k.forgets a.row.0))
+        (same_bytes a.tag.items tag) e).0 in
         let same_producer : a.producer.0 ≡ producer = eqb-true a.producer.0 producer first.0 in
-        let same_tag : a.tag.items ≡ tag = bytes_of a.tag.items tag (and_parts (a.producer.0 == producer && not (forgotten_by k.forgets a.row.0)) (same_bytes a.tag.items tag) e).1 in
-        let none : count_by (stands_by k.forgets a.producer.0 a.tag.items) k.admits ≡ 0 = none_under k b a.producer.0 a.tag.items says may.new in
+        let same_tag : a.tag.items ≡ tag = bytes_of a.tag.items tag
+        (and_parts (a.producer.0 == producer && not (forgotten_by k.forgets a.row.0))
+        (same_bytes a.tag.items tag) e).1 in
+        let none : count_by (stands_by k.forgets a.producer.0 a.tag.items) k.admits ≡ 0 =
+        none_under k b a.producer.0 a.tag.items says may.new in
         sym (λ i. count_by (stands_by k.forgets (same_producer i) (same_tag i)) k.admits) ∙ none
 
     here : IsBetween k.makes a
     here = record {
-      producer = made_role Producer a.producer.0 k.drops k.makes (subst (λ (ts : List Terminus). has_role Producer (terminus_at a.producer.0 ts) ≡ true) says.termini may.producer);
-      consumer = made_binding a.consumer k.drops k.makes (subst (λ (ts : List Terminus). may_bind a.consumer ts ≡ true) says.termini may.consumer);
+      producer = made_role Producer a.producer.0 k.drops k.makes
+          (subst (λ (ts : List Terminus). has_role Producer (terminus_at a.producer.0 ts) ≡ true)
+          says.termini may.producer);
+      consumer = made_binding a.consumer k.drops k.makes
+          (subst (λ (ts : List Terminus). may_bind a.consumer ts ≡ true) says.termini may.consumer);
     }
 
     between : (n : ℕ) (x : Admission) → find (λ x. x.row.0 == n) (k.admits ++ a ∷ []) ≡ Some x → IsBetween k.makes x
-    between n x is = by (find (λ x. x.row.0 == n) k.admits) refl (a.row.0 == n) (sym (find-append (λ (x : Admission). x.row.0 == n) k.admits (a ∷ [])) ∙ is)
+    between n x is = by (find (λ x. x.row.0 == n) k.admits) refl (a.row.0 == n)
+        (sym (find-append (λ (x : Admission). x.row.0 == n) k.admits (a ∷ [])) ∙ is)
       where
-        by : (o : Option Admission) → find (λ x. x.row.0 == n) k.admits ≡ o → (p : Bool) → option_or o (cond p (Some a) None) ≡ Some x → IsBetween k.makes x
+        by : (o : Option Admission) → find (λ x. x.row.0 == n) k.admits ≡ o → (p : Bool)
+            → option_or o (cond p (Some a) None) ≡ Some x → IsBetween k.makes x
         by None found true e = subst (IsBetween k.makes) (some_same e) here
         by None found false e = absurd (none_not_some e)
         by (Some y) found p e = says.between n x (found ∙ e)

@@ -27,12 +27,15 @@ pub record MayMake (b : BookView) (t : Terminus) : Type 0 where
 
 pub may_make : (b : BookView) (t : Terminus) → make_refusal b t ≡ None → MayMake b t
 may_make b t h =
-    let short : Option BookFault = unless (nat_lt (length b.termini) 1024) Limit (unless (has_short_texts t) Limit None) in
-    let new : Option BookFault = unless (not (list_any (λ (u : Terminus). same_key u.key t.key) b.termini)) NoTerminus short in
+    let short : Option BookFault = unless (nat_lt (length b.termini) 1024) Limit
+    (unless (has_short_texts t) Limit None) in
+    let new : Option BookFault =
+    unless (not (list_any (λ (u : Terminus). same_key u.key t.key) b.termini)) NoTerminus short in
     record {
       next = eqb-true t.number.0 b.next_terminus (holds (t.number.0 == b.next_terminus) NoTerminus new h);
       new = not-true (list_any (λ (u : Terminus). same_key u.key t.key) b.termini)
-          (holds (not (list_any (λ (u : Terminus). same_key u.key t.key) b.termini)) NoTerminus short (then_holds (t.number.0 == b.next_terminus) NoTerminus new h));
+          (holds (not (list_any (λ (u : Terminus). same_key u.key t.key) b.termini)) NoTerminus short
+          (then_holds (t.number.0 == b.next_terminus) NoTerminus new h));
     }
 
 pub record MayAdmit (b : BookView) (a : Admission) : Type 0 where
@@ -43,7 +46,10 @@ pub record MayAdmit (b : BookView) (a : Admission) : Type 0 where
 
 pub may_admit : (b : BookView) (a : Admission) → admit_refusal b a ≡ None → MayAdmit b a
 may_admit b a h =
-    let full : Option BookFault = unless (nat_lt (length b.rows) 4096) Limit (unless (nat_lt (count_by (is_from a.producer.0) b.rows) 64) Limit (unless (nat_lt (undecided_for a.consumer b.rows) 64) Limit (unless (nat_le (length a.payload) 65536) Limit None))) in
+    let full : Option BookFault = unless (nat_lt (length b.rows) 4096) Limit
+    (unless (nat_lt (count_by (is_from a.producer.0) b.rows) 64) Limit
+    (unless (nat_lt (undecided_for a.consumer b.rows) 64) Limit
+    (unless (nat_le (length a.payload) 65536) Limit None))) in
     let taken : Option BookFault = unless (not (list_any (has_tag a.producer.0 a.tag.items) b.rows)) TagInUse full in
     let row : Option BookFault = unless (a.row.0 == b.next_row) NoRow taken in
     let bound : Option BookFault = unless (may_bind a.consumer b.termini) NoTerminus row in
@@ -54,7 +60,8 @@ may_admit b a h =
       producer = holds (has_role Producer (terminus_at a.producer.0 b.termini)) NoTerminus bound h;
       consumer = holds (may_bind a.consumer b.termini) NoTerminus row binds;
       next = eqb-true a.row.0 b.next_row (holds (a.row.0 == b.next_row) NoRow taken next);
-      new = not-true (list_any (has_tag a.producer.0 a.tag.items) b.rows) (holds (not (list_any (has_tag a.producer.0 a.tag.items) b.rows)) TagInUse full new);
+      new = not-true (list_any (has_tag a.producer.0 a.tag.items) b.rows)
+          (holds (not (list_any (has_tag a.producer.0 a.tag.items) b.rows)) TagInUse full new);
     }
 
 open_row : (o : Option DeliveryState) → is_none o ≡ true → o ≡ None
@@ -62,9 +69,15 @@ open_row None h = refl
 open_row (Some s) h = absurd cc
 
 -- the row of a Decide is there and undecided
-pub may_decide : (o : Option Row) (outcome : DeliveryState) → decide_refusal o outcome ≡ None → (r : Row) × (o ≡ Some r) × (r.outcome ≡ None)
+pub may_decide : (o : Option Row) (outcome : DeliveryState) → decide_refusal o outcome ≡ None
+    → (r : Row) × (o ≡ Some r) × (r.outcome ≡ None)
 may_decide None outcome h = absurd cc
-may_decide (Some r) outcome h = (r, refl, open_row r.outcome (holds (is_undecided r) AlreadyDecided (unless (nat_le (length (state_spelling outcome)) 400) Limit None) h))
+may_decide (Some r) outcome h = (
+  r,
+  refl,
+  open_row r.outcome
+      (holds (is_undecided r) AlreadyDecided (unless (nat_le (length (state_spelling outcome)) 400) Limit None) h),
+)
 
 -- the row of a Forget is there and not forgotten
 pub may_forget : (o : Option Row) → forget_refusal o ≡ None → (r : Row) × (o ≡ Some r) × (r.forgotten ≡ false)

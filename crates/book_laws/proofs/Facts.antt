@@ -22,7 +22,8 @@ pub rows_are : (acts : List Act) → Apply acts → (book_of acts).rows ≡ rows
 rows_are acts apply = (says_of acts apply).rows
 
 pub row_is : (acts : List Act) (n : ℕ) → Apply acts → row_at n (book_of acts).rows ≡ row_said acts n
-row_is acts n apply = ap (row_at n) (rows_are acts apply) ∙ row_looked (decides_in acts) (forgets_in acts) (admits_in acts) n
+row_is acts n apply = ap (row_at n) (rows_are acts apply)
+    ∙ row_looked (decides_in acts) (forgets_in acts) (admits_in acts) n
 
 -- a row of the book: its Admit, and what is said of it
 pub record IsSaid (acts : List Act) (n : ℕ) (r : Row) : Type 0 where
@@ -33,7 +34,8 @@ pub record IsSaid (acts : List Act) (n : ℕ) (r : Row) : Type 0 where
   pub outcome : r.outcome ≡ decision acts n
   pub forgotten : r.forgotten ≡ is_forgotten acts n
 
-pub row_in_book : (acts : List Act) (n : ℕ) (r : Row) → Apply acts → row_at n (book_of acts).rows ≡ Some r → IsSaid acts n r
+pub row_in_book : (acts : List Act) (n : ℕ) (r : Row) → Apply acts → row_at n (book_of acts).rows ≡ Some r
+    → IsSaid acts n r
 row_in_book acts n r apply is =
     let found : Found (kinds_of acts) n r = row_found (kinds_of acts) (book_of acts) n r (says_of acts apply) is in
     record {
@@ -46,13 +48,17 @@ row_in_book acts n r apply is =
     }
 
 -- an admitted row that is open is in the book
-pub open_row_is : (acts : List Act) (n : ℕ) (a : Admission) → Apply acts → admission acts n ≡ Some a → is_open acts n ≡ true → row_at n (book_of acts).rows ≡ Some (row_of acts a)
+pub open_row_is : (acts : List Act) (n : ℕ) (a : Admission) → Apply acts → admission acts n ≡ Some a
+    → is_open acts n ≡ true → row_at n (book_of acts).rows ≡ Some (row_of acts a)
 open_row_is acts n a apply is opened =
-    row_is acts n apply ∙ ap (λ (b : Bool). if b then option_map (row_of acts) (admission acts n) else None) opened ∙ ap (option_map (row_of acts)) is
+    row_is acts n apply ∙ ap (λ (b : Bool). if b then option_map (row_of acts) (admission acts n) else None) opened
+    ∙ ap (option_map (row_of acts)) is
 
 -- one that isn't admitted, or not open, isn't
-pub closed_row_is : (acts : List Act) (n : ℕ) → Apply acts → is_open acts n ≡ false → row_at n (book_of acts).rows ≡ None
-closed_row_is acts n apply closed = row_is acts n apply ∙ ap (λ (b : Bool). if b then option_map (row_of acts) (admission acts n) else None) closed
+pub closed_row_is : (acts : List Act) (n : ℕ) → Apply acts → is_open acts n ≡ false
+    → row_at n (book_of acts).rows ≡ None
+closed_row_is acts n apply closed = row_is acts n apply
+    ∙ ap (λ (b : Bool). if b then option_map (row_of acts) (admission acts n) else None) closed
 
 -- the number of what a search found
 pub admission_number : (acts : List Act) (n : ℕ) (a : Admission) → admission acts n ≡ Some a → a.row.0 ≡ n
@@ -62,7 +68,8 @@ pub made_number : (acts : List Act) (n : ℕ) (t : Terminus) → made acts n ≡
 made_number acts n t is = found_number number_of_make n (makes_in acts) t is
 
 -- the termini of an Admit were made, in their roles
-pub admitted_between : (acts : List Act) (n : ℕ) (a : Admission) → Apply acts → admission acts n ≡ Some a → IsBetween (makes_in acts) a
+pub admitted_between : (acts : List Act) (n : ℕ) (a : Admission) → Apply acts → admission acts n ≡ Some a
+    → IsBetween (makes_in acts) a
 admitted_between acts n a apply is = (says_of acts apply).between n a is
 
 -- tags
@@ -76,11 +83,13 @@ middle true true r e = refl
 middle true false r e = absurd cc
 middle false q r e = absurd cc
 
-pub row_named_is : (acts : List Act) (producer : ℕ) (tag : List ℕ) → Apply acts → row_named producer tag (book_of acts).rows ≡ standing_row acts producer tag
+pub row_named_is : (acts : List Act) (producer : ℕ) (tag : List ℕ) → Apply acts
+    → row_named producer tag (book_of acts).rows ≡ standing_row acts producer tag
 row_named_is acts producer tag apply =
     ap (row_named producer tag) (rows_are acts apply)
     ∙ found_mapped (has_tag producer tag) (row_of acts) (filter (λ a. is_open acts a.row.0) (admits_in acts))
-    ∙ ap (option_map (row_of acts)) (found_kept (stands_under acts producer tag) (λ (a : Admission). is_open acts a.row.0) opened (admits_in acts))
+    ∙ ap (option_map (row_of acts)) (found_kept (stands_under acts producer tag)
+    (λ (a : Admission). is_open acts a.row.0) opened (admits_in acts))
   where
     opened : (a : Admission) → stands_under acts producer tag a ≡ true → is_open acts a.row.0 ≡ true
     opened a e = unforgotten_open (is_some (decision acts a.row.0)) (is_forgotten acts a.row.0)
@@ -98,18 +107,24 @@ pub record Stands (acts : List Act) (producer : ℕ) (tag : List ℕ) (r : Row) 
   pub from : admit.producer.0 ≡ producer
   pub under : admit.tag.items ≡ tag
 
-pub standing_row_is : (acts : List Act) (producer : ℕ) (tag : List ℕ) (r : Row) → Apply acts → standing_row acts producer tag ≡ Some r → Stands acts producer tag r
+pub standing_row_is : (acts : List Act) (producer : ℕ) (tag : List ℕ) (r : Row) → Apply acts
+    → standing_row acts producer tag ≡ Some r → Stands acts producer tag r
 standing_row_is acts producer tag r apply is = by (find (stands_under acts producer tag) (admits_in acts)) refl is
   where
-    by : (o : Option Admission) → find (stands_under acts producer tag) (admits_in acts) ≡ o → option_map (row_of acts) o ≡ Some r → Stands acts producer tag r
+    by : (o : Option Admission) → find (stands_under acts producer tag) (admits_in acts) ≡ o
+        → option_map (row_of acts) o ≡ Some r → Stands acts producer tag r
     by None found e = absurd (none_not_some e)
     by (Some a) found e =
         let row : row_of acts a ≡ r = some_same e in
-        let stands : stands_under acts producer tag a ≡ true = found_passes (stands_under acts producer tag) (admits_in acts) a found in
-        let both = and_parts (a.producer.0 == producer && not (is_forgotten acts a.row.0)) (same_bytes a.tag.items tag) stands in
+        let stands : stands_under acts producer tag a ≡ true =
+        found_passes (stands_under acts producer tag) (admits_in acts) a found in
+        let both = and_parts (a.producer.0 == producer && not (is_forgotten acts a.row.0))
+        (same_bytes a.tag.items tag) stands in
         let first = and_parts (a.producer.0 == producer) (not (is_forgotten acts a.row.0)) both.0 in
         let number : a.row.0 ≡ r.number.0 = ap (λ (x : Row). x.number.0) row in
-        let alone : admission acts a.row.0 ≡ Some a = found_alone number_of_admit (stands_under acts producer tag) (admits_in acts) a found ((says_of acts apply).admits.once a.row.0) in
+        let alone : admission acts a.row.0 ≡ Some a =
+        found_alone number_of_admit (stands_under acts producer tag) (admits_in acts) a found
+        ((says_of acts apply).admits.once a.row.0) in
         record {
           admit = a;
           is = ap (admission acts) (sym number) ∙ alone;
@@ -120,11 +135,15 @@ standing_row_is acts producer tag r apply is = by (find (stands_under acts produ
         }
 
 -- it is what is said of the row of its number
-pub standing_row_said : (acts : List Act) (producer : ℕ) (tag : List ℕ) (r : Row) → Apply acts → standing_row acts producer tag ≡ Some r → row_said acts r.number.0 ≡ Some r
+pub standing_row_said : (acts : List Act) (producer : ℕ) (tag : List ℕ) (r : Row) → Apply acts
+    → standing_row acts producer tag ≡ Some r → row_said acts r.number.0 ≡ Some r
 standing_row_said acts producer tag r apply is =
     let stands : Stands acts producer tag r = standing_row_is acts producer tag r apply is in
-    let opened : is_open acts r.number.0 ≡ true = unforgotten_open (is_some (decision acts r.number.0)) (is_forgotten acts r.number.0) (ap not stands.unforgotten) in
-    ap (λ (b : Bool). if b then option_map (row_of acts) (admission acts r.number.0) else None) opened ∙ ap (option_map (row_of acts)) stands.is ∙ ap Some (sym stands.row)
+    let opened : is_open acts r.number.0 ≡ true =
+    unforgotten_open (is_some (decision acts r.number.0)) (is_forgotten acts r.number.0)
+    (ap not stands.unforgotten) in
+    ap (λ (b : Bool). if b then option_map (row_of acts) (admission acts r.number.0) else None) opened
+    ∙ ap (option_map (row_of acts)) stands.is ∙ ap Some (sym stands.row)
 
 -- termini
 
@@ -132,14 +151,17 @@ pub termini_are : (acts : List Act) → Apply acts → (book_of acts).termini �
 termini_are acts apply = (says_of acts apply).termini
 
 pub terminus_is : (acts : List Act) (n : ℕ) → Apply acts → terminus_at n (book_of acts).termini ≡ terminus_said acts n
-terminus_is acts n apply = ap (terminus_at n) (termini_are acts apply) ∙ terminus_looked (drops_in acts) (makes_in acts) n ∙ by (is_dropped acts n)
+terminus_is acts n apply = ap (terminus_at n) (termini_are acts apply)
+    ∙ terminus_looked (drops_in acts) (makes_in acts) n ∙ by (is_dropped acts n)
   where
     by : (b : Bool) → cond (not b) (made acts n) None ≡ (if b then None else made acts n)
     by true = refl
     by false = refl
 
-pub terminus_of_key_is : (acts : List Act) (key : LinkKey) → Apply acts → terminus_of key (book_of acts).termini ≡ standing_terminus acts key
-terminus_of_key_is acts key apply = ap (terminus_of key) (termini_are acts apply) ∙ found_both (λ (t : Terminus). same_key t.key key) (stays_by (drops_in acts)) (makes_in acts)
+pub terminus_of_key_is : (acts : List Act) (key : LinkKey) → Apply acts
+    → terminus_of key (book_of acts).termini ≡ standing_terminus acts key
+terminus_of_key_is acts key apply = ap (terminus_of key) (termini_are acts apply)
+    ∙ found_both (λ (t : Terminus). same_key t.key key) (stays_by (drops_in acts)) (makes_in acts)
 
 pub one_terminus : (acts : List Act) (key : LinkKey) → Apply acts → termini_standing acts key ≤ 1
 one_terminus acts key apply = (says_of acts apply).keys key
@@ -150,11 +172,14 @@ pub record StandsAt (acts : List Act) (key : LinkKey) (t : Terminus) : Type 0 wh
   pub undropped : is_dropped acts t.number.0 ≡ false
   pub at : t.key ≡ key
 
-pub standing_terminus_is : (acts : List Act) (key : LinkKey) (t : Terminus) → Apply acts → standing_terminus acts key ≡ Some t → StandsAt acts key t
+pub standing_terminus_is : (acts : List Act) (key : LinkKey) (t : Terminus) → Apply acts
+    → standing_terminus acts key ≡ Some t → StandsAt acts key t
 standing_terminus_is acts key t apply is =
-    let both = and_parts (not (is_dropped acts t.number.0)) (same_key t.key key) (found_passes (stands_at acts key) (makes_in acts) t is) in
+    let both = and_parts (not (is_dropped acts t.number.0)) (same_key t.key key)
+    (found_passes (stands_at acts key) (makes_in acts) t is) in
     record {
-      is = found_alone number_of_make (stands_at acts key) (makes_in acts) t is ((says_of acts apply).makes.once t.number.0);
+      is = found_alone number_of_make (stands_at acts key) (makes_in acts) t is
+          ((says_of acts apply).makes.once t.number.0);
       undropped = not-true (is_dropped acts t.number.0) both.0;
       at = key_of t.key key both.1;
     }
@@ -165,10 +190,14 @@ pub rows_rise : (acts : List Act) → Apply acts → AllPairs (λ (r s : Row). r
 rows_rise acts apply =
     subst (AllPairs (λ (r s : Row). r.number.0 < s.number.0)) (sym (rows_are acts apply))
     (rises_pairs (λ (r : Row). r.number.0) (rows_said acts)
-    (rises_mapped number_of_admit (λ (r : Row). r.number.0) (row_of acts) (λ a. refl) (filter (λ a. is_open acts a.row.0) (admits_in acts))
-    (rises_filter number_of_admit (λ (a : Admission). is_open acts a.row.0) (admits_in acts) (says_of acts apply).admits_rise)))
+    (rises_mapped number_of_admit (λ (r : Row). r.number.0) (row_of acts) (λ a. refl)
+    (filter (λ a. is_open acts a.row.0) (admits_in acts))
+    (rises_filter number_of_admit (λ (a : Admission). is_open acts a.row.0) (admits_in acts)
+    (says_of acts apply).admits_rise)))
 
-pub termini_rise : (acts : List Act) → Apply acts → AllPairs (λ (t u : Terminus). t.number.0 < u.number.0) (book_of acts).termini
+pub termini_rise : (acts : List Act) → Apply acts
+    → AllPairs (λ (t u : Terminus). t.number.0 < u.number.0) (book_of acts).termini
 termini_rise acts apply =
     subst (AllPairs (λ (t u : Terminus). t.number.0 < u.number.0)) (sym (termini_are acts apply))
-    (rises_pairs number_of_make (termini_said acts) (rises_filter number_of_make (stays_by (drops_in acts)) (makes_in acts) (says_of acts apply).makes_rise))
+    (rises_pairs number_of_make (termini_said acts)
+    (rises_filter number_of_make (stays_by (drops_in acts)) (makes_in acts) (says_of acts apply).makes_rise))

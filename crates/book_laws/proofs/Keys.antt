@@ -18,8 +18,10 @@ bytes_of a b h = (bytes_eq-Decides a b).0 h
 
 pub key_of : (a b : LinkKey) → same_key a b ≡ true → a ≡ b
 key_of a b h =
-    let names = and_parts (same_role a.role b.role && same_bytes a.user b.user && same_bytes a.container b.container) (same_bytes a.name b.name) h in
-    let containers = and_parts (same_role a.role b.role && same_bytes a.user b.user) (same_bytes a.container b.container) names.0 in
+    let names = and_parts (same_role a.role b.role && same_bytes a.user b.user && same_bytes a.container b.container)
+    (same_bytes a.name b.name) h in
+    let containers = and_parts (same_role a.role b.role && same_bytes a.user b.user)
+    (same_bytes a.container b.container) names.0 in
     let users = and_parts (same_role a.role b.role) (same_bytes a.user b.user) containers.0 in
     let role = role_of a.role b.role users.0 in
     let user = bytes_of a.user b.user users.1 in

@@ -10,3 +10,4 @@ pub mod Joining
 pub mod Telling
 pub mod Facts
 pub mod Order
+mod Examples

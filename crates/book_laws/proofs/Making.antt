@@ -21,32 +21,45 @@ use Rattle.book_laws.proofs.Says.{Kinds, put, Says, IsBetween, FoundTerminus, te
 
 -- a search that finds something still does
 
-has_role_more : (role : LinkRole) (o more : Option Terminus) → has_role role o ≡ true → has_role role (option_or o more) ≡ true
+has_role_more : (role : LinkRole) (o more : Option Terminus) → has_role role o ≡ true
+    → has_role role (option_or o more) ≡ true
 has_role_more role None more is = absurd cc
 has_role_more role (Some t) more is = is
 
-has_role_push : (role : LinkRole) (n : ℕ) (ts : List Terminus) (t : Terminus) → has_role role (terminus_at n ts) ≡ true → has_role role (terminus_at n (ts ++ t ∷ [])) ≡ true
+has_role_push : (role : LinkRole) (n : ℕ) (ts : List Terminus) (t : Terminus) → has_role role (terminus_at n ts) ≡ true
+    → has_role role (terminus_at n (ts ++ t ∷ [])) ≡ true
 has_role_push role n ts t is =
-    ap (has_role role) (find-append (λ (t : Terminus). t.number.0 == n) ts (t ∷ [])) ∙ has_role_more role (terminus_at n ts) (terminus_at n (t ∷ [])) is
+    ap (has_role role) (find-append (λ (t : Terminus). t.number.0 == n) ts (t ∷ []))
+    ∙ has_role_more role (terminus_at n ts) (terminus_at n (t ∷ [])) is
 
-may_bind_push : (o : Option TerminusNumber) (ts : List Terminus) (t : Terminus) → may_bind o ts ≡ true → may_bind o (ts ++ t ∷ []) ≡ true
+may_bind_push : (o : Option TerminusNumber) (ts : List Terminus) (t : Terminus) → may_bind o ts ≡ true
+    → may_bind o (ts ++ t ∷ []) ≡ true
 may_bind_push None ts t is = refl
 may_bind_push (Some n) ts t is = has_role_push Consumer n.0 ts t is
 
 between_push : (ts : List Terminus) (t : Terminus) (a : Admission) → IsBetween ts a → IsBetween (ts ++ t ∷ []) a
-between_push ts t a is = record { producer = has_role_push Producer a.producer.0 ts t is.producer; consumer = may_bind_push a.consumer ts t is.consumer }
+between_push ts t a is = record {
+  producer = has_role_push Producer a.producer.0 ts t is.producer;
+  consumer =
+      may_bind_push a.consumer ts t is.consumer;
+}
 
 -- a key that no terminus of the book has: no Make of it stands
-none_at_key : (k : Kinds) (b : BookView) (key : LinkKey) → Says k b → list_any (λ u. same_key u.key key) b.termini ≡ false → count_by (holds_key k.drops key) k.makes ≡ 0
+none_at_key : (k : Kinds) (b : BookView) (key : LinkKey) → Says k b
+    → list_any (λ u. same_key u.key key) b.termini ≡ false → count_by (holds_key k.drops key) k.makes ≡ 0
 none_at_key k b key says none =
     sym (count_kept (λ (t : Terminus). same_key t.key key) (stays_by k.drops) k.makes)
-    ∙ none_counted (λ (t : Terminus). same_key t.key key) (filter (stays_by k.drops) k.makes) (subst (λ (ts : List Terminus). list_any (λ u. same_key u.key key) ts ≡ false) says.termini none)
+    ∙ none_counted (λ (t : Terminus). same_key t.key key) (filter (stays_by k.drops) k.makes)
+    (subst (λ (ts : List Terminus). list_any (λ u. same_key u.key key) ts ≡ false) says.termini none)
 
-pub says_make : (k : Kinds) (b : BookView) (t : Terminus) → refusal b (Make t) ≡ None → Says k b → Says (put k (Make t)) (effect b (Make t))
+pub says_make : (k : Kinds) (b : BookView) (t : Terminus) → refusal b (Make t) ≡ None → Says k b
+    → Says (put k (Make t)) (effect b (Make t))
 says_make k b t applies says = record {
   rows = says.rows;
-  termini = ap (λ (ts : List Terminus). ts ++ t ∷ []) says.termini ∙ sym (filter_push (stays_by k.drops) k.makes t stays);
-  makes = once_push number_of_make b.next_terminus (b.next_terminus + 1) k.makes t says.makes (says.makes.above t.number.0 (omega (arith, may.next))) (omega (arith, may.next)) (omega arith);
+  termini = ap (λ (ts : List Terminus). ts ++ t ∷ []) says.termini
+      ∙ sym (filter_push (stays_by k.drops) k.makes t stays);
+  makes = once_push number_of_make b.next_terminus (b.next_terminus + 1) k.makes t says.makes
+      (says.makes.above t.number.0 (omega (arith, may.next))) (omega (arith, may.next)) (omega arith);
   admits = says.admits;
   decides = says.decides;
   forgets = says.forgets;
@@ -62,7 +75,8 @@ says_make k b t applies says = record {
     may = may_make b t applies
 
     dropped : dropped_by k.drops t.number.0 ≡ false
-    dropped = none_passes (λ (m : TerminusNumber). m.0 == t.number.0) k.drops (says.drops.above t.number.0 (omega (arith, may.next)))
+    dropped = none_passes (λ (m : TerminusNumber). m.0 == t.number.0) k.drops
+        (says.drops.above t.number.0 (omega (arith, may.next)))
 
     stays : stays_by k.drops t ≡ true
     stays = ap not dropped
@@ -83,11 +97,13 @@ was_kept : (p q : Bool) → not (p || q) ≡ true → not p ≡ true
 was_kept true q e = e
 was_kept false q e = refl
 
-pub says_drop : (k : Kinds) (b : BookView) (n : TerminusNumber) → refusal b (Drop n) ≡ None → Says k b → Says (put k (Drop n)) (effect b (Drop n))
+pub says_drop : (k : Kinds) (b : BookView) (n : TerminusNumber) → refusal b (Drop n) ≡ None → Says k b
+    → Says (put k (Drop n)) (effect b (Drop n))
 says_drop k b n applies says = record {
   rows = says.rows;
   termini = ap (filter (λ (t : Terminus). not (t.number.0 == n.0))) says.termini
-      ∙ filter_twice (stays_by k.drops) (λ (t : Terminus). not (t.number.0 == n.0)) (stays_by (k.drops ++ n ∷ [])) left k.makes;
+      ∙ filter_twice (stays_by k.drops) (λ (t : Terminus). not (t.number.0 == n.0))
+      (stays_by (k.drops ++ n ∷ [])) left k.makes;
   makes = says.makes;
   admits = says.admits;
   decides = says.decides;
@@ -96,7 +112,8 @@ says_drop k b n applies says = record {
   makes_rise = says.makes_rise;
   admits_rise = says.admits_rise;
   tags = says.tags;
-  keys = λ key. fewer (count_implied (holds_key (k.drops ++ n ∷ []) key) (holds_key k.drops key) (stood key) k.makes) (says.keys key);
+  keys = λ key. fewer (count_implied (holds_key (k.drops ++ n ∷ []) key) (holds_key k.drops key) (stood key) k.makes)
+      (says.keys key);
   between = says.between;
 }
   where
@@ -116,11 +133,14 @@ says_drop k b n applies says = record {
     low = found_low number_of_make b.next_terminus n.0 k.makes there.0 says.makes found.is
 
     left : (t : Terminus) → (stays_by k.drops t && not (t.number.0 == n.0)) ≡ stays_by (k.drops ++ n ∷ []) t
-    left t = ap (λ (q : Bool). stays_by k.drops t && not q) (turned t.number.0 n.0) ∙ both_stay (dropped_by k.drops t.number.0) (n.0 == t.number.0)
+    left t = ap (λ (q : Bool). stays_by k.drops t && not q) (turned t.number.0 n.0)
+        ∙ both_stay (dropped_by k.drops t.number.0) (n.0 == t.number.0)
         ∙ sym (ap not (dropped_push k.drops n t.number.0))
 
     stood : (key : LinkKey) (t : Terminus) → holds_key (k.drops ++ n ∷ []) key t ≡ true → holds_key k.drops key t ≡ true
     stood key t e =
         let both = and_parts (stays_by (k.drops ++ n ∷ []) t) (same_key t.key key) e in
-        let was : stays_by k.drops t ≡ true = was_kept (dropped_by k.drops t.number.0) (n.0 == t.number.0 || false) (sym (ap not (dropped_push k.drops n t.number.0)) ∙ both.0) in
+        let was : stays_by k.drops t ≡ true =
+        was_kept (dropped_by k.drops t.number.0) (n.0 == t.number.0 || false)
+        (sym (ap not (dropped_push k.drops n t.number.0)) ∙ both.0) in
         rw was both.1

@@ -17,11 +17,15 @@ module _ {V : Type 0} (number : V → ℕ) where
   pub once_later : (next later : ℕ) (vs : List V) → next ≤ later → Once number next vs → Once number later vs
   once_later next later vs l was = record { once = was.once; above = λ n h. was.above n (omega (arith, l, h)) }
 
-  pub once_push : (next later : ℕ) (vs : List V) (v : V) → Once number next vs → count_by (λ w. number w == number v) vs ≡ 0 → number v < later → next ≤ later
+  pub once_push : (next later : ℕ) (vs : List V) (v : V) → Once number next vs
+      → count_by (λ w. number w == number v) vs ≡ 0 → number v < later → next ≤ later
       → Once number later (vs ++ v ∷ [])
   once_push next later vs v was new low l = record {
-    once = λ n. one_more (λ w. number w == n) vs v (was.once n) (λ e. subst (λ (k : ℕ). count_by (λ w. number w == k) vs ≡ 0) (eqb-true (number v) n e) new);
-    above = λ n h. count_push (λ w. number w == n) vs v ∙ sum (count_by (λ w. number w == n) vs) (number v == n) (was.above n (omega (arith, l, h))) (other_numbers (number v) n (omega (arith, low, h)));
+    once = λ n. one_more (λ w. number w == n) vs v (was.once n)
+        (λ e. subst (λ (k : ℕ). count_by (λ w. number w == k) vs ≡ 0) (eqb-true (number v) n e) new);
+    above = λ n h. count_push (λ w. number w == n) vs v
+        ∙ sum (count_by (λ w. number w == n) vs) (number v == n) (was.above n (omega (arith, l, h)))
+        (other_numbers (number v) n (omega (arith, low, h)));
   }
     where
       sum : (k : ℕ) (b : Bool) → k ≡ 0 → b ≡ false → k + cond b 1 0 ≡ 0
@@ -29,8 +33,10 @@ module _ {V : Type 0} (number : V → ℕ) where
       sum k false e f = omega (arith, e)
 
   -- one that is found is below the next
-  pub found_low : (next n : ℕ) (vs : List V) (v : V) → Once number next vs → find (λ w. number w == n) vs ≡ Some v → n < next
-  found_low next n vs v was is = ⊎_elim (λ l. l) (λ h. absurd (none_not_some (sym (nothing_found (λ w. number w == n) vs (was.above n h)) ∙ is))) (cases_lt n next)
+  pub found_low : (next n : ℕ) (vs : List V) (v : V) → Once number next vs → find (λ w. number w == n) vs ≡ Some v
+      → n < next
+  found_low next n vs v was is = ⊎_elim (λ l. l)
+      (λ h. absurd (none_not_some (sym (nothing_found (λ w. number w == n) vs (was.above n h)) ∙ is))) (cases_lt n next)
 
   -- in rising order
 
@@ -43,7 +49,8 @@ module _ {V : Type 0} (number : V → ℕ) where
   Rises (v ∷ vs) = AllAbove (number v) vs × Rises vs
 
   -- a number that none has, from the next on, is above all
-  pub rises_push : (next : ℕ) (vs : List V) (v : V) → Rises vs → ((n : ℕ) → next ≤ n → count_by (λ w. number w == n) vs ≡ 0) → number v ≡ next → Rises (vs ++ v ∷ [])
+  pub rises_push : (next : ℕ) (vs : List V) (v : V) → Rises vs
+      → ((n : ℕ) → next ≤ n → count_by (λ w. number w == n) vs ≡ 0) → number v ≡ next → Rises (vs ++ v ∷ [])
   rises_push next [] v up above is = (tt, tt)
   rises_push next (w ∷ vs) v up above is = (higher vs up.0, rises_push next vs v up.1 (λ n h. rest n (above n h)) is)
     where
@@ -51,7 +58,9 @@ module _ {V : Type 0} (number : V → ℕ) where
       rest n none = omega (arith, count_more (λ w. number w == n) w vs, none)
 
       low : number w < number v
-      low = ⊎_elim (λ l. omega (arith, l, is)) (λ h. absurd (one (number w == number w) (same_numbers (number w) (number w) refl) (sym (count_more (λ x. number x == number w) w vs) ∙ above (number w) h))) (cases_lt (number w) next)
+      low = ⊎_elim (λ l. omega (arith, l, is))
+          (λ h. absurd (one (number w == number w) (same_numbers (number w) (number w) refl)
+          (sym (count_more (λ x. number x == number w) w vs) ∙ above (number w) h))) (cases_lt (number w) next)
         where
           one : (b : Bool) → b ≡ true → cond b 1 0 + count_by (λ x. number x == number w) vs ≡ 0 → ⊥
           one true e none = omega (arith, none)
@@ -84,7 +93,8 @@ module _ {V : Type 0} (number : V → ℕ) where
 
   pub rises_pairs : (vs : List V) → Rises vs → AllPairs (λ (v w : V). number v < number w) vs
   rises_pairs [] up = λ i j d less l. absurd (omega (arith, l))
-  rises_pairs (v ∷ vs) up = AllPairs-cons (λ (v w : V). number v < number w) v vs (all_above (number v) vs up.0) (rises_pairs vs up.1)
+  rises_pairs (v ∷ vs) up = AllPairs-cons (λ (v w : V). number v < number w) v vs (all_above (number v) vs up.0)
+      (rises_pairs vs up.1)
 
 module _ {V W : Type 0} (number : V → ℕ) (shown : W → ℕ) (f : V → W) (same : (v : V) → shown (f v) ≡ number v) where
   above_mapped : (n : ℕ) (vs : List V) → AllAbove number n vs → AllAbove shown n (map f vs)
@@ -93,4 +103,8 @@ module _ {V W : Type 0} (number : V → ℕ) (shown : W → ℕ) (f : V → W) (
 
   pub rises_mapped : (vs : List V) → Rises number vs → Rises shown (map f vs)
   rises_mapped [] up = tt
-  rises_mapped (v ∷ vs) up = (subst (λ (k : ℕ). AllAbove shown k (map f vs)) (sym (same v)) (above_mapped (number v) vs up.0), rises_mapped vs up.1)
+  rises_mapped (v ∷ vs) up = (
+    subst (λ (k : ℕ). AllAbove shown k (map f vs)) (sym (same v))
+        (above_mapped (number v) vs up.0),
+    rises_mapped vs up.1,
+  )

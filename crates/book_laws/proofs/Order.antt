@@ -58,36 +58,46 @@ dropped_below acts n apply h = (says_of acts apply).drops.above n h
 
 -- after what they need: an act applies to the book that the acts before it leave
 
-pub act_in_order : (older newer : List Act) (act : Act) → Apply (older ++ act ∷ newer) → refusal (book_of older) act ≡ None
-act_in_order older newer act apply = act_applies (book_of older) act newer (newer_apply empty_book older (act ∷ newer) apply)
+pub act_in_order : (older newer : List Act) (act : Act) → Apply (older ++ act ∷ newer)
+    → refusal (book_of older) act ≡ None
+act_in_order older newer act apply =
+    act_applies (book_of older) act newer (newer_apply empty_book older (act ∷ newer) apply)
 
 pub before : (older newer : List Act) → Apply (older ++ newer) → Apply older
 before older newer apply = older_apply empty_book older newer apply
 
-is_there : (acts : List Act) (n : ℕ) (r : Row) → Apply acts → row_at n (book_of acts).rows ≡ Some r → is_some (admission acts n) ≡ true
+is_there : (acts : List Act) (n : ℕ) (r : Row) → Apply acts → row_at n (book_of acts).rows ≡ Some r
+    → is_some (admission acts n) ≡ true
 is_there acts n r apply is = ap is_some (row_in_book acts n r apply is).is
 
-pub decides_after : (older newer : List Act) (d : Decision) → Apply (older ++ Decide d ∷ newer) → is_some (admission older d.row.0) ≡ true
+pub decides_after : (older newer : List Act) (d : Decision) → Apply (older ++ Decide d ∷ newer)
+    → is_some (admission older d.row.0) ≡ true
 decides_after older newer d apply =
     let may = may_decide (row_at d.row.0 (book_of older).rows) d.outcome (act_in_order older newer (Decide d) apply) in
     is_there older d.row.0 may.0 (before older (Decide d ∷ newer) apply) may.1
 
-pub forgets_after : (older newer : List Act) (n : RowNumber) → Apply (older ++ Forget n ∷ newer) → is_some (admission older n.0) ≡ true
+pub forgets_after : (older newer : List Act) (n : RowNumber) → Apply (older ++ Forget n ∷ newer)
+    → is_some (admission older n.0) ≡ true
 forgets_after older newer n apply =
     let may = may_forget (row_at n.0 (book_of older).rows) (act_in_order older newer (Forget n) apply) in
     is_there older n.0 may.0 (before older (Forget n ∷ newer) apply) may.1
 
-pub drops_after : (older newer : List Act) (n : TerminusNumber) → Apply (older ++ Drop n ∷ newer) → is_some (made older n.0) ≡ true
+pub drops_after : (older newer : List Act) (n : TerminusNumber) → Apply (older ++ Drop n ∷ newer)
+    → is_some (made older n.0) ≡ true
 drops_after older newer n apply =
-    let may = may_drop (terminus_at n.0 (book_of older).termini) (book_of older).rows (act_in_order older newer (Drop n) apply) in
-    ap is_some (terminus_found (kinds_of older) (book_of older) n.0 may.0 (says_of older (before older (Drop n ∷ newer) apply)) may.1).is
+    let may = may_drop (terminus_at n.0 (book_of older).termini) (book_of older).rows
+    (act_in_order older newer (Drop n) apply) in
+    ap is_some (terminus_found (kinds_of older) (book_of older) n.0 may.0
+    (says_of older (before older (Drop n ∷ newer) apply)) may.1).is
 
-pub admits_between : (older newer : List Act) (a : Admission) → Apply (older ++ Admit a ∷ newer) → has_role Producer (terminus_said older a.producer.0) ≡ true
+pub admits_between : (older newer : List Act) (a : Admission) → Apply (older ++ Admit a ∷ newer)
+    → has_role Producer (terminus_said older a.producer.0) ≡ true
 admits_between older newer a apply =
     ap (has_role Producer) (sym (terminus_is older a.producer.0 (before older (Admit a ∷ newer) apply)))
     ∙ (may_admit (book_of older) a (act_in_order older newer (Admit a) apply)).producer
 
-pub admits_for : (older newer : List Act) (a : Admission) → Apply (older ++ Admit a ∷ newer) → may_bind a.consumer (termini_said older) ≡ true
+pub admits_for : (older newer : List Act) (a : Admission) → Apply (older ++ Admit a ∷ newer)
+    → may_bind a.consumer (termini_said older) ≡ true
 admits_for older newer a apply =
     ap (may_bind a.consumer) (sym (termini_are older (before older (Admit a ∷ newer) apply)))
     ∙ (may_admit (book_of older) a (act_in_order older newer (Admit a) apply)).consumer
@@ -115,38 +125,54 @@ decision_found : (o : Option Decision) → is_some (option_map (λ (d : Decision
 decision_found None is = is
 decision_found (Some d) is = refl
 
-pub decided_no_more : (older newer : List Act) (n : ℕ) → Apply (older ++ newer) → is_some (decision older n) ≡ true → times_decided newer n ≡ 0
+pub decided_no_more : (older newer : List Act) (n : ℕ) → Apply (older ++ newer) → is_some (decision older n) ≡ true
+    → times_decided newer n ≡ 0
 decided_no_more older newer n apply is =
-    none_left (times_decided older n) (times_decided newer n) (times_decided (older ++ newer) n) (decided_once (older ++ newer) n apply) (times_decided_app older newer n)
-    (found_counted (λ (d : Decision). d.row.0 == n) (decides_in older) (decision_found (find (λ d. d.row.0 == n) (decides_in older)) is))
+    none_left (times_decided older n) (times_decided newer n) (times_decided (older ++ newer) n)
+    (decided_once (older ++ newer) n apply) (times_decided_app older newer n)
+    (found_counted (λ (d : Decision). d.row.0 == n) (decides_in older)
+    (decision_found (find (λ d. d.row.0 == n) (decides_in older)) is))
 
-pub admitted_no_more : (older newer : List Act) (n : ℕ) → Apply (older ++ newer) → is_some (admission older n) ≡ true → times_admitted newer n ≡ 0
+pub admitted_no_more : (older newer : List Act) (n : ℕ) → Apply (older ++ newer) → is_some (admission older n) ≡ true
+    → times_admitted newer n ≡ 0
 admitted_no_more older newer n apply is =
-    none_left (times_admitted older n) (times_admitted newer n) (times_admitted (older ++ newer) n) (admitted_once (older ++ newer) n apply) (times_admitted_app older newer n)
+    none_left (times_admitted older n) (times_admitted newer n) (times_admitted (older ++ newer) n)
+    (admitted_once (older ++ newer) n apply) (times_admitted_app older newer n)
     (found_counted (λ (a : Admission). a.row.0 == n) (admits_in older) is)
 
-pub forgotten_no_more : (older newer : List Act) (n : ℕ) → Apply (older ++ newer) → is_forgotten older n ≡ true → times_forgotten newer n ≡ 0
+pub forgotten_no_more : (older newer : List Act) (n : ℕ) → Apply (older ++ newer) → is_forgotten older n ≡ true
+    → times_forgotten newer n ≡ 0
 forgotten_no_more older newer n apply is =
-    none_left (times_forgotten older n) (times_forgotten newer n) (times_forgotten (older ++ newer) n) (forgotten_once (older ++ newer) n apply) (times_forgotten_app older newer n)
+    none_left (times_forgotten older n) (times_forgotten newer n) (times_forgotten (older ++ newer) n)
+    (forgotten_once (older ++ newer) n apply) (times_forgotten_app older newer n)
     (passes_counted (λ (m : RowNumber). m.0 == n) (forgets_in older) is)
 
-pub made_no_more : (older newer : List Act) (n : ℕ) → Apply (older ++ newer) → is_some (made older n) ≡ true → times_made newer n ≡ 0
+pub made_no_more : (older newer : List Act) (n : ℕ) → Apply (older ++ newer) → is_some (made older n) ≡ true
+    → times_made newer n ≡ 0
 made_no_more older newer n apply is =
-    none_left (times_made older n) (times_made newer n) (times_made (older ++ newer) n) (made_once (older ++ newer) n apply) (times_made_app older newer n)
+    none_left (times_made older n) (times_made newer n) (times_made (older ++ newer) n)
+    (made_once (older ++ newer) n apply) (times_made_app older newer n)
     (found_counted (λ (t : Terminus). t.number.0 == n) (makes_in older) is)
 
-pub dropped_no_more : (older newer : List Act) (n : ℕ) → Apply (older ++ newer) → is_dropped older n ≡ true → times_dropped newer n ≡ 0
+pub dropped_no_more : (older newer : List Act) (n : ℕ) → Apply (older ++ newer) → is_dropped older n ≡ true
+    → times_dropped newer n ≡ 0
 dropped_no_more older newer n apply is =
-    none_left (times_dropped older n) (times_dropped newer n) (times_dropped (older ++ newer) n) (dropped_once (older ++ newer) n apply) (times_dropped_app older newer n)
+    none_left (times_dropped older n) (times_dropped newer n) (times_dropped (older ++ newer) n)
+    (dropped_once (older ++ newer) n apply) (times_dropped_app older newer n)
     (passes_counted (λ (m : TerminusNumber). m.0 == n) (drops_in older) is)
 
 -- a longer list keeps what was found
 
-pub admission_kept : (older newer : List Act) (n : ℕ) (a : Admission) → admission older n ≡ Some a → admission (older ++ newer) n ≡ Some a
-admission_kept older newer n a is = admission_app older newer n ∙ ap (λ (o : Option Admission). option_or o (admission newer n)) is
+pub admission_kept : (older newer : List Act) (n : ℕ) (a : Admission) → admission older n ≡ Some a
+    → admission (older ++ newer) n ≡ Some a
+admission_kept older newer n a is = admission_app older newer n
+    ∙ ap (λ (o : Option Admission). option_or o (admission newer n)) is
 
-pub made_kept : (older newer : List Act) (n : ℕ) (t : Terminus) → made older n ≡ Some t → made (older ++ newer) n ≡ Some t
+pub made_kept : (older newer : List Act) (n : ℕ) (t : Terminus) → made older n ≡ Some t
+    → made (older ++ newer) n ≡ Some t
 made_kept older newer n t is = made_app older newer n ∙ ap (λ (o : Option Terminus). option_or o (made newer n)) is
 
-pub decision_kept : (older newer : List Act) (n : ℕ) (s : DeliveryState) → decision older n ≡ Some s → decision (older ++ newer) n ≡ Some s
-decision_kept older newer n s is = decision_app older newer n ∙ ap (λ (o : Option DeliveryState). option_or o (decision newer n)) is
+pub decision_kept : (older newer : List Act) (n : ℕ) (s : DeliveryState) → decision older n ≡ Some s
+    → decision (older ++ newer) n ≡ Some s
+decision_kept older newer n s is = decision_app older newer n
+    ∙ ap (λ (o : Option DeliveryState). option_or o (decision newer n)) is

@@ -29,7 +29,14 @@ pub record Kinds : Type 0 where
   pub drops : List TerminusNumber
 
 abbrev pub kinds_of : List Act → Kinds
-kinds_of acts = record { makes = makes_in acts; admits = admits_in acts; decides = decides_in acts; forgets = forgets_in acts; drops = drops_in acts }
+kinds_of acts = record {
+  makes = makes_in acts;
+  admits = admits_in acts;
+  decides = decides_in acts;
+  forgets =
+      forgets_in acts;
+  drops = drops_in acts;
+}
 
 -- with one more act
 abbrev pub put : Kinds → Act → Kinds
@@ -122,34 +129,43 @@ says_nothing = record {
 
 -- one more of a kind, as the words see it
 
-pub decision_push : (ds : List Decision) (d : Decision) (n : ℕ) → decision_by (ds ++ d ∷ []) n ≡ option_or (decision_by ds n) (cond (d.row.0 == n) (Some d.outcome) None)
-decision_push ds d n = ap (option_map (λ (d : Decision). d.outcome)) (find-append (λ (d : Decision). d.row.0 == n) ds (d ∷ [])) ∙ by (find (λ d. d.row.0 == n) ds) (d.row.0 == n)
+pub decision_push : (ds : List Decision) (d : Decision) (n : ℕ)
+    → decision_by (ds ++ d ∷ []) n ≡ option_or (decision_by ds n) (cond (d.row.0 == n) (Some d.outcome) None)
+decision_push ds d n = ap (option_map (λ (d : Decision). d.outcome))
+    (find-append (λ (d : Decision). d.row.0 == n) ds (d ∷ [])) ∙ by (find (λ d. d.row.0 == n) ds) (d.row.0 == n)
   where
-    by : (o : Option Decision) (b : Bool) → option_map (λ (d : Decision). d.outcome) (option_or o (cond b (Some d) None)) ≡ option_or (option_map (λ (d : Decision). d.outcome) o) (cond b (Some d.outcome) None)
+    by : (o : Option Decision) (b : Bool)
+        → option_map (λ (d : Decision). d.outcome) (option_or o (cond b (Some d) None))
+        ≡ option_or (option_map (λ (d : Decision). d.outcome) o) (cond b (Some d.outcome) None)
     by None true = refl
     by None false = refl
     by (Some c) b = refl
 
-pub forgotten_push : (ns : List RowNumber) (m : RowNumber) (n : ℕ) → forgotten_by (ns ++ m ∷ []) n ≡ (forgotten_by ns n || (m.0 == n || false))
+pub forgotten_push : (ns : List RowNumber) (m : RowNumber) (n : ℕ)
+    → forgotten_by (ns ++ m ∷ []) n ≡ (forgotten_by ns n || (m.0 == n || false))
 forgotten_push ns m n = list_any-append (λ (m : RowNumber). m.0 == n) ns (m ∷ [])
 
-pub dropped_push : (ns : List TerminusNumber) (m : TerminusNumber) (n : ℕ) → dropped_by (ns ++ m ∷ []) n ≡ (dropped_by ns n || (m.0 == n || false))
+pub dropped_push : (ns : List TerminusNumber) (m : TerminusNumber) (n : ℕ)
+    → dropped_by (ns ++ m ∷ []) n ≡ (dropped_by ns n || (m.0 == n || false))
 dropped_push ns m n = list_any-append (λ (m : TerminusNumber). m.0 == n) ns (m ∷ [])
 
 -- the look-ups of a book
 
 pub row_looked : (ds : List Decision) (ns : List RowNumber) (xs : List Admission) (n : ℕ)
-    → row_at n (rows_by ds ns xs) ≡ (if open_by ds ns n then option_map (row_by ds ns) (find (λ a. a.row.0 == n) xs) else None)
+    → row_at n (rows_by ds ns xs) ≡ (if open_by ds ns n then option_map (row_by ds ns)
+    (find (λ a. a.row.0 == n) xs) else None)
 row_looked ds ns xs n =
     found_mapped (λ (r : Row). r.number.0 == n) (row_by ds ns) (filter (λ a. open_by ds ns a.row.0) xs)
     ∙ ap (option_map (row_by ds ns)) (found_among number_of_admit (open_by ds ns) n xs)
     ∙ by (open_by ds ns n) (find (λ a. a.row.0 == n) xs)
   where
-    by : (b : Bool) (o : Option Admission) → option_map (row_by ds ns) (cond b o None) ≡ cond b (option_map (row_by ds ns) o) None
+    by : (b : Bool) (o : Option Admission)
+        → option_map (row_by ds ns) (cond b o None) ≡ cond b (option_map (row_by ds ns) o) None
     by true o = refl
     by false o = refl
 
-pub terminus_looked : (ns : List TerminusNumber) (ts : List Terminus) (n : ℕ) → terminus_at n (filter (stays_by ns) ts) ≡ cond (not (dropped_by ns n)) (terminus_at n ts) None
+pub terminus_looked : (ns : List TerminusNumber) (ts : List Terminus) (n : ℕ)
+    → terminus_at n (filter (stays_by ns) ts) ≡ cond (not (dropped_by ns n)) (terminus_at n ts) None
 terminus_looked ns ts n = found_among number_of_make (λ k. not (dropped_by ns k)) n ts
 
 -- a row that is found in a book: it is admitted, and what is said of it
@@ -161,20 +177,32 @@ pub record Found (k : Kinds) (n : ℕ) (r : Row) : Type 0 where
   pub opened : open_by k.decides k.forgets n ≡ true
 
 pub row_found : (k : Kinds) (b : BookView) (n : ℕ) (r : Row) → Says k b → row_at n b.rows ≡ Some r → Found k n r
-row_found k b n r says is = by (open_by k.decides k.forgets n) (find (λ a. a.row.0 == n) k.admits) refl refl (sym (ap (row_at n) says.rows ∙ row_looked k.decides k.forgets k.admits n) ∙ is)
+row_found k b n r says is = by (open_by k.decides k.forgets n) (find (λ a. a.row.0 == n) k.admits) refl refl
+    (sym (ap (row_at n) says.rows ∙ row_looked k.decides k.forgets k.admits n) ∙ is)
   where
-    by : (p : Bool) (o : Option Admission) → open_by k.decides k.forgets n ≡ p → find (λ a. a.row.0 == n) k.admits ≡ o → cond p (option_map (row_by k.decides k.forgets) o) None ≡ Some r → Found k n r
+    by : (p : Bool) (o : Option Admission) → open_by k.decides k.forgets n ≡ p → find (λ a. a.row.0 == n) k.admits ≡ o
+        → cond p (option_map (row_by k.decides k.forgets) o) None ≡ Some r → Found k n r
     by false o open_is found h = absurd (none_not_some h)
     by true None open_is found h = absurd (none_not_some h)
-    by true (Some a) open_is found h = record { admission = a; is = found; number = found_number number_of_admit n k.admits a found; row = sym (some_same h); opened = open_is }
+    by true (Some a) open_is found h = record {
+      admission = a;
+      is = found;
+      number =
+          found_number number_of_admit n k.admits a found;
+      row = sym (some_same h);
+      opened = open_is;
+    }
 
 pub record FoundTerminus (k : Kinds) (n : ℕ) (t : Terminus) : Type 0 where
   pub is : terminus_at n k.makes ≡ Some t
   pub stays : dropped_by k.drops n ≡ false
 
-pub terminus_found : (k : Kinds) (b : BookView) (n : ℕ) (t : Terminus) → Says k b → terminus_at n b.termini ≡ Some t → FoundTerminus k n t
-terminus_found k b n t says is = by (dropped_by k.drops n) refl (sym (ap (terminus_at n) says.termini ∙ terminus_looked k.drops k.makes n) ∙ is)
+pub terminus_found : (k : Kinds) (b : BookView) (n : ℕ) (t : Terminus) → Says k b → terminus_at n b.termini ≡ Some t
+    → FoundTerminus k n t
+terminus_found k b n t says is = by (dropped_by k.drops n) refl
+    (sym (ap (terminus_at n) says.termini ∙ terminus_looked k.drops k.makes n) ∙ is)
   where
-    by : (p : Bool) → dropped_by k.drops n ≡ p → cond (not p) (terminus_at n k.makes) None ≡ Some t → FoundTerminus k n t
+    by : (p : Bool) → dropped_by k.drops n ≡ p → cond (not p) (terminus_at n k.makes) None ≡ Some t
+        → FoundTerminus k n t
     by true stays h = absurd (none_not_some h)
     by false stays h = record { is = h; stays = stays }

@@ -50,7 +50,8 @@ module _ {V : Type 0} (test : V → Bool) where
   nothing_found [] none = refl
   nothing_found (v ∷ vs) none = by (test v) (sym (count_more v vs) ∙ none) (nothing_found vs)
     where
-      by : (b : Bool) → cond b 1 0 + count_by test vs ≡ 0 → (count_by test vs ≡ 0 → find test vs ≡ None) → cond b (Some v) (find test vs) ≡ None
+      by : (b : Bool) → cond b 1 0 + count_by test vs ≡ 0 → (count_by test vs ≡ 0 → find test vs ≡ None)
+          → cond b (Some v) (find test vs) ≡ None
       by true none rest = absurd (omega (arith, none))
       by false none rest = rest (omega (arith, none))
 
@@ -58,7 +59,8 @@ module _ {V : Type 0} (test : V → Bool) where
   nothing_counted [] none = refl
   nothing_counted (v ∷ vs) none = count_more v vs ∙ by (test v) none (nothing_counted vs)
     where
-      by : (b : Bool) → cond b (Some v) (find test vs) ≡ None → (find test vs ≡ None → count_by test vs ≡ 0) → cond b 1 0 + count_by test vs ≡ 0
+      by : (b : Bool) → cond b (Some v) (find test vs) ≡ None → (find test vs ≡ None → count_by test vs ≡ 0)
+          → cond b 1 0 + count_by test vs ≡ 0
       by true none rest = absurd cc
       by false none rest = omega (arith, rest none)
 
@@ -66,7 +68,8 @@ module _ {V : Type 0} (test : V → Bool) where
   none_passes [] none = refl
   none_passes (v ∷ vs) none = by (test v) (sym (count_more v vs) ∙ none) (none_passes vs)
     where
-      by : (b : Bool) → cond b 1 0 + count_by test vs ≡ 0 → (count_by test vs ≡ 0 → list_any test vs ≡ false) → (b || list_any test vs) ≡ false
+      by : (b : Bool) → cond b 1 0 + count_by test vs ≡ 0 → (count_by test vs ≡ 0 → list_any test vs ≡ false)
+          → (b || list_any test vs) ≡ false
       by true none rest = absurd (omega (arith, none))
       by false none rest = rest (omega (arith, none))
 
@@ -74,7 +77,8 @@ module _ {V : Type 0} (test : V → Bool) where
   none_counted [] none = refl
   none_counted (v ∷ vs) none = count_more v vs ∙ by (test v) none (none_counted vs)
     where
-      by : (b : Bool) → (b || list_any test vs) ≡ false → (list_any test vs ≡ false → count_by test vs ≡ 0) → cond b 1 0 + count_by test vs ≡ 0
+      by : (b : Bool) → (b || list_any test vs) ≡ false → (list_any test vs ≡ false → count_by test vs ≡ 0)
+          → cond b 1 0 + count_by test vs ≡ 0
       by true none rest = absurd cc
       by false none rest = omega (arith, rest none)
 
@@ -97,7 +101,8 @@ module _ {V : Type 0} (test keep : V → Bool) where
   found_kept passes [] = refl
   found_kept passes (v ∷ vs) = by (keep v) refl (found_kept passes vs)
     where
-      by : (b : Bool) → keep v ≡ b → find test (filter keep vs) ≡ find test vs → find test (cond b (v ∷ filter keep vs) (filter keep vs)) ≡ cond (test v) (Some v) (find test vs)
+      by : (b : Bool) → keep v ≡ b → find test (filter keep vs) ≡ find test vs
+          → find test (cond b (v ∷ filter keep vs) (filter keep vs)) ≡ cond (test v) (Some v) (find test vs)
       by true is rest = ap (cond (test v) (Some v)) rest
       by false is rest = by_case (test v) (λ e. absurd (one_way (sym is ∙ passes v e))) (λ e. rest ∙ rw e refl)
 
@@ -107,7 +112,8 @@ module _ {V W : Type 0} (test : W → Bool) (f : V → W) where
   found_mapped [] = refl
   found_mapped (v ∷ vs) = by (test (f v)) (found_mapped vs)
     where
-      by : (b : Bool) → find test (map f vs) ≡ option_map f (find (λ v. test (f v)) vs) → cond b (Some (f v)) (find test (map f vs)) ≡ option_map f (cond b (Some v) (find (λ v. test (f v)) vs))
+      by : (b : Bool) → find test (map f vs) ≡ option_map f (find (λ v. test (f v)) vs)
+          → cond b (Some (f v)) (find test (map f vs)) ≡ option_map f (cond b (Some v) (find (λ v. test (f v)) vs))
       by true rest = refl
       by false rest = rest
 
@@ -117,24 +123,31 @@ module _ {V : Type 0} (number : V → ℕ) where
   found_number n vs v is = eqb-true (number v) n (found_passes (λ v. number v == n) vs v is)
 
   -- among those whose number passes a test
-  pub found_among : (g : ℕ → Bool) (n : ℕ) (vs : List V) → find (λ v. number v == n) (filter (λ v. g (number v)) vs) ≡ cond (g n) (find (λ v. number v == n) vs) None
+  pub found_among : (g : ℕ → Bool) (n : ℕ) (vs : List V)
+      → find (λ v. number v == n) (filter (λ v. g (number v)) vs) ≡ cond (g n) (find (λ v. number v == n) vs) None
   found_among g n [] = sym (either_none (g n) None refl)
   found_among g n (v ∷ vs) = by (g (number v)) refl (found_among g n vs)
     where
       same : (number v == n) ≡ true → g n ≡ g (number v)
       same e = ap g (sym (eqb-true (number v) n e))
 
-      by : (b : Bool) → g (number v) ≡ b → find (λ v. number v == n) (filter (λ v. g (number v)) vs) ≡ cond (g n) (find (λ v. number v == n) vs) None
-          → find (λ v. number v == n) (cond b (v ∷ filter (λ v. g (number v)) vs) (filter (λ v. g (number v)) vs)) ≡ cond (g n) (cond (number v == n) (Some v) (find (λ v. number v == n) vs)) None
+      by : (b : Bool) → g (number v) ≡ b → find (λ v. number v == n) (filter (λ v. g (number v)) vs)
+          ≡ cond (g n) (find (λ v. number v == n) vs) None
+          → find (λ v. number v == n) (cond b (v ∷ filter (λ v. g (number v)) vs) (filter (λ v. g (number v)) vs))
+          ≡ cond (g n) (cond (number v == n) (Some v) (find (λ v. number v == n) vs)) None
       by true is rest = by_case (number v == n) (λ e. rw (e, same e, is) refl) (λ e. rw e rest)
-      by false is rest = by_case (number v == n) (λ e. rest ∙ closed (g n) (find (λ v. number v == n) vs) (same e ∙ is) ∙ sym (closed (g n) (cond (number v == n) (Some v) (find (λ v. number v == n) vs)) (same e ∙ is))) (λ e. rw e rest)
+      by false is rest = by_case (number v == n)
+          (λ e. rest ∙ closed (g n) (find (λ v. number v == n) vs) (same e ∙ is)
+          ∙ sym (closed (g n) (cond (number v == n) (Some v) (find (λ v. number v == n) vs)) (same e ∙ is)))
+          (λ e. rw e rest)
 
 -- counts
 
 module _ {V : Type 0} (test more : V → Bool) where
   pub count_implied : ((v : V) → test v ≡ true → more v ≡ true) → (vs : List V) → count_by test vs ≤ count_by more vs
   count_implied passes [] = omega arith
-  count_implied passes (v ∷ vs) = omega (arith, count_more test v vs, count_more more v vs, by (test v) (more v) (passes v), count_implied passes vs)
+  count_implied passes (v ∷ vs) = omega
+      (arith, count_more test v vs, count_more more v vs, by (test v) (more v) (passes v), count_implied passes vs)
     where
       by : (b c : Bool) → (b ≡ true → c ≡ true) → cond b 1 0 ≤ cond c 1 0
       by true true e = omega arith
@@ -148,35 +161,42 @@ module _ {V : Type 0} (test keep : V → Bool) where
   count_kept (v ∷ vs) = by (keep v) (count_kept vs) ∙ sym (count_more (λ v. keep v && test v) v vs)
     where
       by : (b : Bool) → count_by test (filter keep vs) ≡ count_by (λ v. keep v && test v) vs
-          → count_by test (cond b (v ∷ filter keep vs) (filter keep vs)) ≡ cond (b && test v) 1 0 + count_by (λ v. keep v && test v) vs
+          → count_by test (cond b (v ∷ filter keep vs) (filter keep vs))
+          ≡ cond (b && test v) 1 0 + count_by (λ v. keep v && test v) vs
       by true rest = count_more test v (filter keep vs) ∙ ap (λ (n : ℕ). cond (test v) 1 0 + n) rest
       by false rest = omega (arith, rest)
 
 module _ {V W : Type 0} (test : W → Bool) (f : V → W) where
   pub count_mapped : (vs : List V) → count_by test (map f vs) ≡ count_by (λ v. test (f v)) vs
   count_mapped [] = refl
-  count_mapped (v ∷ vs) = count_more test (f v) (map f vs) ∙ ap (λ (n : ℕ). cond (test (f v)) 1 0 + n) (count_mapped vs) ∙ sym (count_more (λ v. test (f v)) v vs)
+  count_mapped (v ∷ vs) = count_more test (f v) (map f vs) ∙ ap (λ (n : ℕ). cond (test (f v)) 1 0 + n) (count_mapped vs)
+      ∙ sym (count_more (λ v. test (f v)) v vs)
 
 -- at most one passes: one more may, if none did
-pub one_more : {V : Type 0} (test : V → Bool) (vs : List V) (v : V) → count_by test vs ≤ 1 → (test v ≡ true → count_by test vs ≡ 0) → count_by test (vs ++ v ∷ []) ≤ 1
+pub one_more : {V : Type 0} (test : V → Bool) (vs : List V) (v : V) → count_by test vs ≤ 1
+    → (test v ≡ true → count_by test vs ≡ 0) → count_by test (vs ++ v ∷ []) ≤ 1
 one_more test vs v few none = by (test v) none (count_push test vs v)
   where
-    by : (b : Bool) → (b ≡ true → count_by test vs ≡ 0) → count_by test (vs ++ v ∷ []) ≡ count_by test vs + cond b 1 0 → count_by test (vs ++ v ∷ []) ≤ 1
+    by : (b : Bool) → (b ≡ true → count_by test vs ≡ 0) → count_by test (vs ++ v ∷ []) ≡ count_by test vs + cond b 1 0
+        → count_by test (vs ++ v ∷ []) ≤ 1
     by true none sum = omega (arith, none refl, sum)
     by false none sum = omega (arith, few, sum)
 
 -- lists that are filtered and mapped
 
-pub filter_push : {V : Type 0} (keep : V → Bool) (vs : List V) (v : V) → keep v ≡ true → filter keep (vs ++ v ∷ []) ≡ filter keep vs ++ v ∷ []
+pub filter_push : {V : Type 0} (keep : V → Bool) (vs : List V) (v : V) → keep v ≡ true
+    → filter keep (vs ++ v ∷ []) ≡ filter keep vs ++ v ∷ []
 filter_push keep vs v e = filter-append keep vs (v ∷ []) ∙ ap (λ (b : Bool). filter keep vs ++ cond b (v ∷ []) []) e
 
 module _ {V : Type 0} (first second both : V → Bool) where
-  pub filter_twice : ((v : V) → (first v && second v) ≡ both v) → (vs : List V) → filter second (filter first vs) ≡ filter both vs
+  pub filter_twice : ((v : V) → (first v && second v) ≡ both v) → (vs : List V)
+      → filter second (filter first vs) ≡ filter both vs
   filter_twice same [] = refl
   filter_twice same (v ∷ vs) = by (first v) (same v) (filter_twice same vs)
     where
       by : (b : Bool) → (b && second v) ≡ both v → filter second (filter first vs) ≡ filter both vs
-          → filter second (cond b (v ∷ filter first vs) (filter first vs)) ≡ cond (both v) (v ∷ filter both vs) (filter both vs)
+          → filter second (cond b (v ∷ filter first vs) (filter first vs))
+          ≡ cond (both v) (v ∷ filter both vs) (filter both vs)
       by true e rest = rw (e, rest) refl
       by false e rest = rw (← e) rest
 
@@ -187,8 +207,10 @@ module _ {V W : Type 0} (change : W → Option W) (f g : V → W) (keep left : V
   changed_rows same [] = refl
   changed_rows same (v ∷ vs) = by (keep v) (left v) (same v) (changed_rows same vs)
     where
-      by : (b c : Bool) → cond b (change (f v)) None ≡ cond c (Some (g v)) None → filter_map change (map f (filter keep vs)) ≡ map g (filter left vs)
-          → filter_map change (map f (cond b (v ∷ filter keep vs) (filter keep vs))) ≡ map g (cond c (v ∷ filter left vs) (filter left vs))
+      by : (b c : Bool) → cond b (change (f v)) None ≡ cond c (Some (g v)) None
+          → filter_map change (map f (filter keep vs)) ≡ map g (filter left vs)
+          → filter_map change (map f (cond b (v ∷ filter keep vs) (filter keep vs)))
+          ≡ map g (cond c (v ∷ filter left vs) (filter left vs))
       by true true e rest = rw (e, rest) refl
       by true false e rest = rw (e, rest) refl
       by false true e rest = absurd cc
@@ -201,7 +223,8 @@ module _ {V : Type 0} (test keep : V → Bool) where
   found_both (v ∷ vs) = by (keep v) (found_both vs)
     where
       by : (b : Bool) → find test (filter keep vs) ≡ find (λ v. keep v && test v) vs
-          → find test (cond b (v ∷ filter keep vs) (filter keep vs)) ≡ cond (b && test v) (Some v) (find (λ v. keep v && test v) vs)
+          → find test (cond b (v ∷ filter keep vs) (filter keep vs))
+          ≡ cond (b && test v) (Some v) (find (λ v. keep v && test v) vs)
       by true rest = ap (cond (test v) (Some v)) rest
       by false rest = rest
 
@@ -218,7 +241,12 @@ module _ {V : Type 0} (number : V → ℕ) (test : V → Bool) where
   counted_pass : (vs : List V) (v : V) → find test vs ≡ Some v → 1 ≤ count_by (λ w. number w == number v) vs
   counted_pass [] v is = absurd (none_not_some is)
   counted_pass (w ∷ vs) v is = by_case (test w)
-      (λ e. omega (arith, count_more (λ x. number x == number v) w vs, one (number w == number v) (same_numbers (number w) (number v) (ap number (some_same (here e))))))
+      (λ e. omega (
+        arith,
+        count_more (λ x. number x == number v) w vs,
+        one (number w == number v)
+            (same_numbers (number w) (number v) (ap number (some_same (here e)))),
+      ))
       (λ e. omega (arith, count_more (λ x. number x == number v) w vs, counted_pass vs v (rest e)))
     where
       one : (b : Bool) → b ≡ true → 1 ≤ cond b 1 0
@@ -231,13 +259,17 @@ module _ {V : Type 0} (number : V → ℕ) (test : V → Bool) where
       rest : test w ≡ false → find test vs ≡ Some v
       rest e = rw e at is
 
-  pub found_alone : (vs : List V) (v : V) → find test vs ≡ Some v → count_by (λ w. number w == number v) vs ≤ 1 → find (λ w. number w == number v) vs ≡ Some v
+  pub found_alone : (vs : List V) (v : V) → find test vs ≡ Some v → count_by (λ w. number w == number v) vs ≤ 1
+      → find (λ w. number w == number v) vs ≡ Some v
   found_alone [] v is once = absurd (none_not_some is)
   found_alone (w ∷ vs) v is once = by_case (test w)
-      (λ e. let same : w ≡ v = some_same (here e) in rw (same_numbers (number w) (number v) (ap number same)) (ap Some same))
+      (λ e. let same : w ≡ v = some_same (here e) in
+      rw (same_numbers (number w) (number v) (ap number same)) (ap Some same))
       (λ e. let among : find test vs ≡ Some v = rest e in
-      let few : cond (number w == number v) 1 0 + count_by (λ x. number x == number v) vs ≤ 1 = subst (λ (n : ℕ). n ≤ 1) (count_more (λ x. number x == number v) w vs) once in
-      rw (other (number w == number v) few (counted_pass vs v among)) (found_alone vs v among (less (number w == number v) few)))
+      let few : cond (number w == number v) 1 0 + count_by (λ x. number x == number v) vs ≤ 1 =
+      subst (λ (n : ℕ). n ≤ 1) (count_more (λ x. number x == number v) w vs) once in
+      rw (other (number w == number v) few (counted_pass vs v among))
+      (found_alone vs v among (less (number w == number v) few)))
     where
       here : test w ≡ true → Some w ≡ Some v
       here e = rw e at is
@@ -245,10 +277,12 @@ module _ {V : Type 0} (number : V → ℕ) (test : V → Bool) where
       rest : test w ≡ false → find test vs ≡ Some v
       rest e = rw e at is
 
-      other : (b : Bool) → cond b 1 0 + count_by (λ x. number x == number v) vs ≤ 1 → 1 ≤ count_by (λ x. number x == number v) vs → b ≡ false
+      other : (b : Bool) → cond b 1 0 + count_by (λ x. number x == number v) vs ≤ 1
+          → 1 ≤ count_by (λ x. number x == number v) vs → b ≡ false
       other true few some = absurd (omega (arith, few, some))
       other false few some = refl
 
-      less : (b : Bool) → cond b 1 0 + count_by (λ x. number x == number v) vs ≤ 1 → count_by (λ x. number x == number v) vs ≤ 1
+      less : (b : Bool) → cond b 1 0 + count_by (λ x. number x == number v) vs ≤ 1
+          → count_by (λ x. number x == number v) vs ≤ 1
       less true few = omega (arith, few)
       less false few = omega (arith, few)

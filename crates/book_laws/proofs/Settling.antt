@@ -21,7 +21,8 @@ abbrev shown : Admission → Option DeliveryState → Bool → Option Row
 shown a outcome forgotten = cond (not (is_some outcome && forgotten)) (Some (row_with a outcome forgotten)) None
 
 abbrev changed : (Row → Option Row) → Admission → Option DeliveryState → Bool → Option Row
-changed change a outcome forgotten = cond (not (is_some outcome && forgotten)) (change (row_with a outcome forgotten)) None
+changed change a outcome forgotten =
+    cond (not (is_some outcome && forgotten)) (change (row_with a outcome forgotten)) None
 
 decided_here : (a : Admission) (s : DeliveryState) (f : Bool) → changed (decided s) a None f ≡ shown a (Some s) f
 decided_here a s true = refl
@@ -36,17 +37,22 @@ abbrev change_one : ℕ → (Row → Option Row) → Row → Option Row
 change_one n change r = if r.number.0 == n then change r else Some r
 
 module _ (n : ℕ) (change : Row → Option Row) (a : Admission) where
-  at_it : (o : Option DeliveryState) (f : Bool) → (a.row.0 == n) ≡ true → changed (change_one n change) a o f ≡ changed change a o f
+  at_it : (o : Option DeliveryState) (f : Bool) → (a.row.0 == n) ≡ true
+      → changed (change_one n change) a o f ≡ changed change a o f
   at_it o f e = rw e refl
 
-  elsewhere : (o : Option DeliveryState) (f : Bool) → (a.row.0 == n) ≡ false → changed (change_one n change) a o f ≡ shown a o f
+  elsewhere : (o : Option DeliveryState) (f : Bool) → (a.row.0 == n) ≡ false
+      → changed (change_one n change) a o f ≡ shown a o f
   elsewhere o f e = rw e refl
 
-pub says_decide : (k : Kinds) (b : BookView) (d : Decision) → refusal b (Decide d) ≡ None → Says k b → Says (put k (Decide d)) (effect b (Decide d))
+pub says_decide : (k : Kinds) (b : BookView) (d : Decision) → refusal b (Decide d) ≡ None → Says k b
+    → Says (put k (Decide d)) (effect b (Decide d))
 says_decide k b d applies says = record {
   rows = ap (with_row d.row.0 (decided d.outcome)) says.rows
-      ∙ changed_rows (change_one d.row.0 (decided d.outcome)) (row_by k.decides k.forgets) (row_by (k.decides ++ d ∷ []) k.forgets)
-      (λ (a : Admission). open_by k.decides k.forgets a.row.0) (λ (a : Admission). open_by (k.decides ++ d ∷ []) k.forgets a.row.0) left k.admits;
+      ∙ changed_rows (change_one d.row.0 (decided d.outcome)) (row_by k.decides k.forgets)
+      (row_by (k.decides ++ d ∷ []) k.forgets)
+      (λ (a : Admission). open_by k.decides k.forgets a.row.0)
+      (λ (a : Admission). open_by (k.decides ++ d ∷ []) k.forgets a.row.0) left k.admits;
   termini = says.termini;
   makes = says.makes;
   admits = says.admits;
@@ -74,22 +80,27 @@ says_decide k b d applies says = record {
     unfound (Some c) e = absurd cc
 
     new : count_by (λ (c : Decision). c.row.0 == d.row.0) k.decides ≡ 0
-    new = nothing_counted (λ (c : Decision). c.row.0 == d.row.0) k.decides (unfound (find (λ c. c.row.0 == d.row.0) k.decides) undecided)
+    new = nothing_counted (λ (c : Decision). c.row.0 == d.row.0) k.decides
+        (unfound (find (λ c. c.row.0 == d.row.0) k.decides) undecided)
 
     low : d.row.0 < b.next_row
     low = found_low number_of_admit b.next_row d.row.0 k.admits found.admission says.admits found.is
 
-    left : (a : Admission) → changed (change_one d.row.0 (decided d.outcome)) a (decision_by k.decides a.row.0) (forgotten_by k.forgets a.row.0)
+    left : (a : Admission) → changed (change_one d.row.0 (decided d.outcome)) a (decision_by k.decides a.row.0)
+        (forgotten_by k.forgets a.row.0)
         ≡ shown a (decision_by (k.decides ++ d ∷ []) a.row.0) (forgotten_by k.forgets a.row.0)
     left a = by_case (a.row.0 == d.row.0) here other
       where
         here : (a.row.0 == d.row.0) ≡ true
-            → changed (change_one d.row.0 (decided d.outcome)) a (decision_by k.decides a.row.0) (forgotten_by k.forgets a.row.0)
+            → changed (change_one d.row.0 (decided d.outcome)) a (decision_by k.decides a.row.0)
+            (forgotten_by k.forgets a.row.0)
             ≡ shown a (decision_by (k.decides ++ d ∷ []) a.row.0) (forgotten_by k.forgets a.row.0)
         here e =
-            let none : decision_by k.decides a.row.0 ≡ None = ap (decision_by k.decides) (eqb-true a.row.0 d.row.0 e) ∙ undecided in
+            let none : decision_by k.decides a.row.0 ≡ None = ap (decision_by k.decides) (eqb-true a.row.0 d.row.0 e)
+            ∙ undecided in
             let now : decision_by (k.decides ++ d ∷ []) a.row.0 ≡ Some d.outcome =
-            decision_push k.decides d a.row.0 ∙ ap (λ (o : Option DeliveryState). option_or o (cond (d.row.0 == a.row.0) (Some d.outcome) None)) none
+            decision_push k.decides d a.row.0 ∙ ap
+            (λ (o : Option DeliveryState). option_or o (cond (d.row.0 == a.row.0) (Some d.outcome) None)) none
             ∙ ap (λ (p : Bool). cond p (Some d.outcome) None) (turned d.row.0 a.row.0 ∙ e) in
             at_it d.row.0 (decided d.outcome) a (decision_by k.decides a.row.0) (forgotten_by k.forgets a.row.0) e
             ∙ ap (λ (o : Option DeliveryState). changed (decided d.outcome) a o (forgotten_by k.forgets a.row.0)) none
@@ -101,12 +112,14 @@ says_decide k b d applies says = record {
         or_none (Some s) = refl
 
         other : (a.row.0 == d.row.0) ≡ false
-            → changed (change_one d.row.0 (decided d.outcome)) a (decision_by k.decides a.row.0) (forgotten_by k.forgets a.row.0)
+            → changed (change_one d.row.0 (decided d.outcome)) a (decision_by k.decides a.row.0)
+            (forgotten_by k.forgets a.row.0)
             ≡ shown a (decision_by (k.decides ++ d ∷ []) a.row.0) (forgotten_by k.forgets a.row.0)
         other e =
             let same : decision_by (k.decides ++ d ∷ []) a.row.0 ≡ decision_by k.decides a.row.0 =
             decision_push k.decides d a.row.0
-            ∙ ap (λ (p : Bool). option_or (decision_by k.decides a.row.0) (cond p (Some d.outcome) None)) (turned d.row.0 a.row.0 ∙ e)
+            ∙ ap (λ (p : Bool). option_or (decision_by k.decides a.row.0) (cond p (Some d.outcome) None))
+            (turned d.row.0 a.row.0 ∙ e)
             ∙ or_none (decision_by k.decides a.row.0) in
             elsewhere d.row.0 (decided d.outcome) a (decision_by k.decides a.row.0) (forgotten_by k.forgets a.row.0) e
             ∙ sym (ap (λ (o : Option DeliveryState). shown a o (forgotten_by k.forgets a.row.0)) same)
@@ -117,11 +130,13 @@ was_kept : (p q : Bool) → not (p || q) ≡ true → not p ≡ true
 was_kept true q e = e
 was_kept false q e = refl
 
-pub says_forget : (k : Kinds) (b : BookView) (n : RowNumber) → refusal b (Forget n) ≡ None → Says k b → Says (put k (Forget n)) (effect b (Forget n))
+pub says_forget : (k : Kinds) (b : BookView) (n : RowNumber) → refusal b (Forget n) ≡ None → Says k b
+    → Says (put k (Forget n)) (effect b (Forget n))
 says_forget k b n applies says = record {
   rows = ap (with_row n.0 forgotten) says.rows
       ∙ changed_rows (change_one n.0 forgotten) (row_by k.decides k.forgets) (row_by k.decides (k.forgets ++ n ∷ []))
-      (λ (a : Admission). open_by k.decides k.forgets a.row.0) (λ (a : Admission). open_by k.decides (k.forgets ++ n ∷ []) a.row.0) left k.admits;
+      (λ (a : Admission). open_by k.decides k.forgets a.row.0)
+      (λ (a : Admission). open_by k.decides (k.forgets ++ n ∷ []) a.row.0) left k.admits;
   termini = says.termini;
   makes = says.makes;
   admits = says.admits;
@@ -130,7 +145,8 @@ says_forget k b n applies says = record {
   drops = says.drops;
   makes_rise = says.makes_rise;
   admits_rise = says.admits_rise;
-  tags = λ producer tag. fewer (count_implied (stands_by (k.forgets ++ n ∷ []) producer tag) (stands_by k.forgets producer tag) (stood producer tag) k.admits) (says.tags producer tag);
+  tags = λ producer tag. fewer (count_implied (stands_by (k.forgets ++ n ∷ []) producer tag)
+      (stands_by k.forgets producer tag) (stood producer tag) k.admits) (says.tags producer tag);
   keys = says.keys;
   between = says.between;
 }
@@ -145,7 +161,8 @@ says_forget k b n applies says = record {
     found = row_found k b n.0 there.0 says there.1
 
     unforgotten : forgotten_by k.forgets n.0 ≡ false
-    unforgotten = ap (forgotten_by k.forgets) (sym found.number) ∙ sym (ap (λ (r : Row). r.forgotten) found.row) ∙ there.2
+    unforgotten = ap (forgotten_by k.forgets) (sym found.number) ∙ sym (ap (λ (r : Row). r.forgotten) found.row)
+        ∙ there.2
 
     new : count_by (λ (m : RowNumber). m.0 == n.0) k.forgets ≡ 0
     new = none_counted (λ (m : RowNumber). m.0 == n.0) k.forgets unforgotten
@@ -153,7 +170,8 @@ says_forget k b n applies says = record {
     low : n.0 < b.next_row
     low = found_low number_of_admit b.next_row n.0 k.admits found.admission says.admits found.is
 
-    left : (a : Admission) → changed (change_one n.0 forgotten) a (decision_by k.decides a.row.0) (forgotten_by k.forgets a.row.0)
+    left : (a : Admission) → changed (change_one n.0 forgotten) a (decision_by k.decides a.row.0)
+        (forgotten_by k.forgets a.row.0)
         ≡ shown a (decision_by k.decides a.row.0) (forgotten_by (k.forgets ++ n ∷ []) a.row.0)
     left a = by_case (a.row.0 == n.0) here other
       where
@@ -161,9 +179,11 @@ says_forget k b n applies says = record {
             → changed (change_one n.0 forgotten) a (decision_by k.decides a.row.0) (forgotten_by k.forgets a.row.0)
             ≡ shown a (decision_by k.decides a.row.0) (forgotten_by (k.forgets ++ n ∷ []) a.row.0)
         here e =
-            let none : forgotten_by k.forgets a.row.0 ≡ false = ap (forgotten_by k.forgets) (eqb-true a.row.0 n.0 e) ∙ unforgotten in
+            let none : forgotten_by k.forgets a.row.0 ≡ false = ap (forgotten_by k.forgets) (eqb-true a.row.0 n.0 e)
+            ∙ unforgotten in
             let now : forgotten_by (k.forgets ++ n ∷ []) a.row.0 ≡ true =
-            forgotten_push k.forgets n a.row.0 ∙ ap (λ (p : Bool). p || (n.0 == a.row.0 || false)) none ∙ ap (λ (p : Bool). p || false) (turned n.0 a.row.0 ∙ e) in
+            forgotten_push k.forgets n a.row.0 ∙ ap (λ (p : Bool). p || (n.0 == a.row.0 || false)) none
+            ∙ ap (λ (p : Bool). p || false) (turned n.0 a.row.0 ∙ e) in
             at_it n.0 forgotten a (decision_by k.decides a.row.0) (forgotten_by k.forgets a.row.0) e
             ∙ ap (changed forgotten a (decision_by k.decides a.row.0)) none
             ∙ forgotten_here a (decision_by k.decides a.row.0)
@@ -178,13 +198,18 @@ says_forget k b n applies says = record {
             ≡ shown a (decision_by k.decides a.row.0) (forgotten_by (k.forgets ++ n ∷ []) a.row.0)
         other e =
             let same : forgotten_by (k.forgets ++ n ∷ []) a.row.0 ≡ forgotten_by k.forgets a.row.0 =
-            forgotten_push k.forgets n a.row.0 ∙ ap (λ (p : Bool). forgotten_by k.forgets a.row.0 || (p || false)) (turned n.0 a.row.0 ∙ e) ∙ or_false (forgotten_by k.forgets a.row.0) in
+            forgotten_push k.forgets n a.row.0 ∙ ap (λ (p : Bool). forgotten_by k.forgets a.row.0 || (p || false))
+            (turned n.0 a.row.0 ∙ e) ∙ or_false (forgotten_by k.forgets a.row.0) in
             elsewhere n.0 forgotten a (decision_by k.decides a.row.0) (forgotten_by k.forgets a.row.0) e
             ∙ sym (ap (shown a (decision_by k.decides a.row.0)) same)
 
-    stood : (producer : ℕ) (tag : List ℕ) (a : Admission) → stands_by (k.forgets ++ n ∷ []) producer tag a ≡ true → stands_by k.forgets producer tag a ≡ true
+    stood : (producer : ℕ) (tag : List ℕ) (a : Admission) → stands_by (k.forgets ++ n ∷ []) producer tag a ≡ true
+        → stands_by k.forgets producer tag a ≡ true
     stood producer tag a e =
-        let last = and_parts (a.producer.0 == producer && not (forgotten_by (k.forgets ++ n ∷ []) a.row.0)) (same_bytes a.tag.items tag) e in
+        let last = and_parts (a.producer.0 == producer && not (forgotten_by (k.forgets ++ n ∷ []) a.row.0))
+        (same_bytes a.tag.items tag) e in
         let first = and_parts (a.producer.0 == producer) (not (forgotten_by (k.forgets ++ n ∷ []) a.row.0)) last.0 in
-        let was : not (forgotten_by k.forgets a.row.0) ≡ true = was_kept (forgotten_by k.forgets a.row.0) (n.0 == a.row.0 || false) (sym (ap not (forgotten_push k.forgets n a.row.0)) ∙ first.1) in
+        let was : not (forgotten_by k.forgets a.row.0) ≡ true =
+        was_kept (forgotten_by k.forgets a.row.0) (n.0 == a.row.0 || false)
+        (sym (ap not (forgotten_push k.forgets n a.row.0)) ∙ first.1) in
         rw (first.0, was) last.1

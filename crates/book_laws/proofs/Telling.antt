@@ -23,10 +23,13 @@ put_all : Kinds → List Act → Kinds
 put_all k [] = k
 put_all k (act ∷ acts) = put_all (put k act) acts
 
-says_all : (acts : List Act) (k : Kinds) (b : BookView) → first_fault b acts ≡ None → Says k b → Says (put_all k acts) (effects b acts)
+says_all : (acts : List Act) (k : Kinds) (b : BookView) → first_fault b acts ≡ None → Says k b
+    → Says (put_all k acts) (effects b acts)
 unfolding put_all effects
 says_all [] k b apply says = says
-says_all (act ∷ acts) k b apply says = says_all acts (put k act) (effect b act) (acts_apply b act acts apply) (says_act k b act (act_applies b act acts apply) says)
+says_all (act ∷ acts) k b apply says =
+    says_all acts (put k act) (effect b act) (acts_apply b act acts apply)
+    (says_act k b act (act_applies b act acts apply) says)
 
 abbrev with_acts : Kinds → List Act → Kinds
 with_acts k acts = record {
@@ -46,11 +49,17 @@ put_of_kind [] k = sym (λ i. record {
   forgets = append-nil k.forgets i;
   drops = append-nil k.drops i;
 })
-put_of_kind (Make t ∷ acts) k = put_of_kind acts (put k (Make t)) ∙ (λ i. record (with_acts k acts) { makes = append_assoc k.makes (t ∷ []) (makes_in acts) i })
-put_of_kind (Admit a ∷ acts) k = put_of_kind acts (put k (Admit a)) ∙ (λ i. record (with_acts k acts) { admits = append_assoc k.admits (a ∷ []) (admits_in acts) i })
-put_of_kind (Decide d ∷ acts) k = put_of_kind acts (put k (Decide d)) ∙ (λ i. record (with_acts k acts) { decides = append_assoc k.decides (d ∷ []) (decides_in acts) i })
-put_of_kind (Forget n ∷ acts) k = put_of_kind acts (put k (Forget n)) ∙ (λ i. record (with_acts k acts) { forgets = append_assoc k.forgets (n ∷ []) (forgets_in acts) i })
-put_of_kind (Drop n ∷ acts) k = put_of_kind acts (put k (Drop n)) ∙ (λ i. record (with_acts k acts) { drops = append_assoc k.drops (n ∷ []) (drops_in acts) i })
+put_of_kind (Make t ∷ acts) k = put_of_kind acts (put k (Make t))
+    ∙ (λ i. record (with_acts k acts) { makes = append_assoc k.makes (t ∷ []) (makes_in acts) i })
+put_of_kind (Admit a ∷ acts) k = put_of_kind acts (put k (Admit a))
+    ∙ (λ i. record (with_acts k acts) { admits = append_assoc k.admits (a ∷ []) (admits_in acts) i })
+put_of_kind (Decide d ∷ acts) k = put_of_kind acts (put k (Decide d))
+    ∙ (λ i. record (with_acts k acts) { decides = append_assoc k.decides (d ∷ []) (decides_in acts) i })
+put_of_kind (Forget n ∷ acts) k = put_of_kind acts (put k (Forget n))
+    ∙ (λ i. record (with_acts k acts) { forgets = append_assoc k.forgets (n ∷ []) (forgets_in acts) i })
+put_of_kind (Drop n ∷ acts) k = put_of_kind acts (put k (Drop n))
+    ∙ (λ i. record (with_acts k acts) { drops = append_assoc k.drops (n ∷ []) (drops_in acts) i })
 
 pub says_of : (acts : List Act) → Apply acts → Says (kinds_of acts) (book_of acts)
-says_of acts apply = subst (λ (k : Kinds). Says k (book_of acts)) (put_of_kind acts (kinds_of [])) (says_all acts (kinds_of []) empty_book apply says_nothing)
+says_of acts apply = subst (λ (k : Kinds). Says k (book_of acts)) (put_of_kind acts (kinds_of []))
+    (says_all acts (kinds_of []) empty_book apply says_nothing)

@@ -1,5 +1,5 @@
--- What a list of acts says, oldest first: which rows it admits, decides and forgets, which termini it makes and drops, and which of
--- them still stand. Each word searches the list; none of them knows a book.
+-- What a list of acts says, oldest first: which rows it admits, decides and forgets, which termini it makes and drops,
+-- and which of them still stand. Each word searches the list; none of them knows a book.
 use Rattle.std.specs.Prelude.{◌≡◌, ℕ, ◌==◌, Bool, not, ◌&&◌, if◌then◌else◌, Option, Some, None, is_some, option_map, List, find, filter, filter_map, map, count_by}
 use Rattle.std.specs.List.{list_any}
 use Rattle.amqp_model.specs.declared.state.DeliveryState.{DeliveryState}
@@ -24,42 +24,28 @@ book_of acts = effects empty_book acts
 
 -- The acts of one kind.
 
+-- the terminus of a Make, and so on
 abbrev pub make_of : Act → Option Terminus
 make_of (Make t) = Some t
-make_of (Admit a) = None
-make_of (Decide d) = None
-make_of (Forget n) = None
-make_of (Drop n) = None
+make_of _ = None
 
 abbrev pub admit_of : Act → Option Admission
-admit_of (Make t) = None
 admit_of (Admit a) = Some a
-admit_of (Decide d) = None
-admit_of (Forget n) = None
-admit_of (Drop n) = None
+admit_of _ = None
 
 abbrev pub decide_of : Act → Option Decision
-decide_of (Make t) = None
-decide_of (Admit a) = None
 decide_of (Decide d) = Some d
-decide_of (Forget n) = None
-decide_of (Drop n) = None
+decide_of _ = None
 
 abbrev pub forget_of : Act → Option RowNumber
-forget_of (Make t) = None
-forget_of (Admit a) = None
-forget_of (Decide d) = None
 forget_of (Forget n) = Some n
-forget_of (Drop n) = None
+forget_of _ = None
 
 abbrev pub drop_of : Act → Option TerminusNumber
-drop_of (Make t) = None
-drop_of (Admit a) = None
-drop_of (Decide d) = None
-drop_of (Forget n) = None
 drop_of (Drop n) = Some n
+drop_of _ = None
 
--- the Makes among acts, in their order, and so on
+-- the termini of the Makes among acts, in their order, and so on
 abbrev pub makes_in : List Act → List Terminus
 makes_in acts = filter_map make_of acts
 
@@ -103,7 +89,8 @@ is_forgotten acts n = list_any (λ m. m.0 == n) (forgets_in acts)
 abbrev pub is_open : List Act → ℕ → Bool
 is_open acts n = not (is_some (decision acts n) && is_forgotten acts n)
 
--- an admitted row as acts leave it: with the fields of its Admit and the outcome of its Decide, forgotten if a Forget names it
+-- an admitted row as acts leave it: with the fields of its Admit and the outcome of its Decide, forgotten if a Forget
+-- names it
 abbrev pub row_of : List Act → Admission → Row
 row_of acts a = record (admitted a) { outcome = decision acts a.row.0; forgotten = is_forgotten acts a.row.0 }
 
@@ -117,7 +104,8 @@ rows_said acts = map (row_of acts) (filter (λ a. is_open acts a.row.0) (admits_
 
 -- whether an Admit is from this producer's terminus and under this tag, and no Forget names its row
 abbrev pub stands_under : List Act → ℕ → List ℕ → Admission → Bool
-stands_under acts producer tag a = a.producer.0 == producer && not (is_forgotten acts a.row.0) && same_bytes a.tag.items tag
+stands_under acts producer tag a = a.producer.0 == producer && not (is_forgotten acts a.row.0)
+    && same_bytes a.tag.items tag
 
 -- the row admitted for a producer's terminus under a tag that no Forget names
 abbrev pub standing_row : List Act → ℕ → List ℕ → Option Row

@@ -43,59 +43,84 @@ pub fn a_book_has_what_is_open()
 /// The termini of the book are those that are made and not dropped, in the order of their Makes. At most one has a key.
 pub fn a_book_has_standing_termini()
     ensures termini { (acts : List Act) → Apply acts → (book_of acts).termini ≡ termini_said acts }
-    ensures number { (acts : List Act) (n : ℕ) → Apply acts → terminus_at n (book_of acts).termini ≡ terminus_said acts n }
-    ensures key { (acts : List Act) (key : LinkKey) → Apply acts → terminus_of key (book_of acts).termini ≡ standing_terminus acts key }
+    ensures number { (acts : List Act) (n : ℕ) → Apply acts
+        → terminus_at n (book_of acts).termini ≡ terminus_said acts n }
+    ensures key { (acts : List Act) (key : LinkKey) → Apply acts
+        → terminus_of key (book_of acts).termini ≡ standing_terminus acts key }
     ensures one { (acts : List Act) (key : LinkKey) → Apply acts → termini_standing acts key ≤ 1 }
 {}
 
 /// The row that the book has at a tag of a producer's terminus is the one that is admitted there under it and not forgotten. There is
 /// at most one, and it is what acts say of the row of its number.
 pub fn tags_name_one_row()
-    ensures row { (acts : List Act) (producer : ℕ) (tag : List ℕ) → Apply acts → row_named producer tag (book_of acts).rows ≡ standing_row acts producer tag }
+    ensures row { (acts : List Act) (producer : ℕ) (tag : List ℕ) → Apply acts
+        → row_named producer tag (book_of acts).rows ≡ standing_row acts producer tag }
     ensures one { (acts : List Act) (producer : ℕ) (tag : List ℕ) → Apply acts → times_standing acts producer tag ≤ 1 }
-    ensures number { (acts : List Act) (producer : ℕ) (tag : List ℕ) (r : Row) → Apply acts → standing_row acts producer tag ≡ Some r → row_said acts r.number.0 ≡ Some r }
+    ensures number { (acts : List Act) (producer : ℕ) (tag : List ℕ) (r : Row) → Apply acts
+        → standing_row acts producer tag ≡ Some r → row_said acts r.number.0 ≡ Some r }
 {}
 
 /// No act names a number from the book's next one on; and the numbers of rows and of termini rise.
 pub fn numbers_stay_below()
-    ensures admitted { (acts : List Act) (n : ℕ) → Apply acts → (book_of acts).next_row ≤ n → times_admitted acts n ≡ 0 }
+    ensures admitted { (acts : List Act) (n : ℕ) → Apply acts → (book_of acts).next_row ≤ n
+        → times_admitted acts n ≡ 0 }
     ensures decided { (acts : List Act) (n : ℕ) → Apply acts → (book_of acts).next_row ≤ n → times_decided acts n ≡ 0 }
-    ensures forgotten { (acts : List Act) (n : ℕ) → Apply acts → (book_of acts).next_row ≤ n → times_forgotten acts n ≡ 0 }
+    ensures forgotten { (acts : List Act) (n : ℕ) → Apply acts → (book_of acts).next_row ≤ n
+        → times_forgotten acts n ≡ 0 }
     ensures made { (acts : List Act) (n : ℕ) → Apply acts → (book_of acts).next_terminus ≤ n → times_made acts n ≡ 0 }
-    ensures dropped { (acts : List Act) (n : ℕ) → Apply acts → (book_of acts).next_terminus ≤ n → times_dropped acts n ≡ 0 }
-    ensures rows_rise { (acts : List Act) → Apply acts → AllPairs (λ (r s : Row). r.number.0 < s.number.0) (book_of acts).rows }
-    ensures termini_rise { (acts : List Act) → Apply acts → AllPairs (λ (t u : Terminus). t.number.0 < u.number.0) (book_of acts).termini }
+    ensures dropped { (acts : List Act) (n : ℕ) → Apply acts → (book_of acts).next_terminus ≤ n
+        → times_dropped acts n ≡ 0 }
+    ensures rows_rise { (acts : List Act) → Apply acts
+        → AllPairs (λ (r s : Row). r.number.0 < s.number.0) (book_of acts).rows }
+    ensures termini_rise { (acts : List Act) → Apply acts
+        → AllPairs (λ (t u : Terminus). t.number.0 < u.number.0) (book_of acts).termini }
 {}
 
 /// Acts come in order: a Decide and a Forget after the Admit of their row, a Drop after the Make of its terminus, and an Admit while
 /// its termini stand, each in its role.
 pub fn acts_come_in_order()
-    ensures decides { (older newer : List Act) (d : Decision) → Apply (older ++ Decide d ∷ newer) → is_some (admission older d.row.0) ≡ true }
-    ensures forgets { (older newer : List Act) (n : RowNumber) → Apply (older ++ Forget n ∷ newer) → is_some (admission older n.0) ≡ true }
-    ensures drops { (older newer : List Act) (n : TerminusNumber) → Apply (older ++ Drop n ∷ newer) → is_some (made older n.0) ≡ true }
-    ensures producers { (older newer : List Act) (a : Admission) → Apply (older ++ Admit a ∷ newer) → has_role Producer (terminus_said older a.producer.0) ≡ true }
-    ensures consumers { (older newer : List Act) (a : Admission) → Apply (older ++ Admit a ∷ newer) → may_bind a.consumer (termini_said older) ≡ true }
+    ensures decides { (older newer : List Act) (d : Decision) → Apply (older ++ Decide d ∷ newer)
+        → is_some (admission older d.row.0) ≡ true }
+    ensures forgets { (older newer : List Act) (n : RowNumber) → Apply (older ++ Forget n ∷ newer)
+        → is_some (admission older n.0) ≡ true }
+    ensures drops { (older newer : List Act) (n : TerminusNumber) → Apply (older ++ Drop n ∷ newer)
+        → is_some (made older n.0) ≡ true }
+    ensures producers { (older newer : List Act) (a : Admission) → Apply (older ++ Admit a ∷ newer)
+        → has_role Producer (terminus_said older a.producer.0) ≡ true }
+    ensures consumers { (older newer : List Act) (a : Admission) → Apply (older ++ Admit a ∷ newer)
+        → may_bind a.consumer (termini_said older) ≡ true }
 {}
 
 /// The search of a longer list finds what that of a shorter one found: Admits, Makes, Decides, Forgets and Drops are kept. Newer acts
 /// are searched only if the older ones say nothing.
 pub fn longer_lists_keep_what_was_said()
-    ensures admissions { (older newer : List Act) (n : ℕ) → admission (older ++ newer) n ≡ option_or (admission older n) (admission newer n) }
-    ensures decisions { (older newer : List Act) (n : ℕ) → decision (older ++ newer) n ≡ option_or (decision older n) (decision newer n) }
-    ensures forgets { (older newer : List Act) (n : ℕ) → is_forgotten (older ++ newer) n ≡ (is_forgotten older n || is_forgotten newer n) }
-    ensures makes { (older newer : List Act) (n : ℕ) → made (older ++ newer) n ≡ option_or (made older n) (made newer n) }
-    ensures drops { (older newer : List Act) (n : ℕ) → is_dropped (older ++ newer) n ≡ (is_dropped older n || is_dropped newer n) }
+    ensures admissions { (older newer : List Act) (n : ℕ)
+        → admission (older ++ newer) n ≡ option_or (admission older n) (admission newer n) }
+    ensures decisions { (older newer : List Act) (n : ℕ)
+        → decision (older ++ newer) n ≡ option_or (decision older n) (decision newer n) }
+    ensures forgets { (older newer : List Act) (n : ℕ)
+        → is_forgotten (older ++ newer) n ≡ (is_forgotten older n || is_forgotten newer n) }
+    ensures makes { (older newer : List Act) (n : ℕ)
+        → made (older ++ newer) n ≡ option_or (made older n) (made newer n) }
+    ensures drops { (older newer : List Act) (n : ℕ)
+        → is_dropped (older ++ newer) n ≡ (is_dropped older n || is_dropped newer n) }
 {}
 
 /// What older acts did isn't done again: after older acts that decide a row no newer ones decide it, so its outcome stays; and so
 /// with Admits, Forgets, Makes and Drops.
 pub fn a_decided_row_stays_decided()
-    ensures outcome { (older newer : List Act) (n : ℕ) (s : DeliveryState) → decision older n ≡ Some s → decision (older ++ newer) n ≡ Some s }
-    ensures decided { (older newer : List Act) (n : ℕ) → Apply (older ++ newer) → is_some (decision older n) ≡ true → times_decided newer n ≡ 0 }
-    ensures admitted { (older newer : List Act) (n : ℕ) → Apply (older ++ newer) → is_some (admission older n) ≡ true → times_admitted newer n ≡ 0 }
-    ensures forgotten { (older newer : List Act) (n : ℕ) → Apply (older ++ newer) → is_forgotten older n ≡ true → times_forgotten newer n ≡ 0 }
-    ensures made { (older newer : List Act) (n : ℕ) → Apply (older ++ newer) → is_some (made older n) ≡ true → times_made newer n ≡ 0 }
-    ensures dropped { (older newer : List Act) (n : ℕ) → Apply (older ++ newer) → is_dropped older n ≡ true → times_dropped newer n ≡ 0 }
+    ensures outcome { (older newer : List Act) (n : ℕ) (s : DeliveryState) → decision older n ≡ Some s
+        → decision (older ++ newer) n ≡ Some s }
+    ensures decided { (older newer : List Act) (n : ℕ) → Apply (older ++ newer) → is_some (decision older n) ≡ true
+        → times_decided newer n ≡ 0 }
+    ensures admitted { (older newer : List Act) (n : ℕ) → Apply (older ++ newer) → is_some (admission older n) ≡ true
+        → times_admitted newer n ≡ 0 }
+    ensures forgotten { (older newer : List Act) (n : ℕ) → Apply (older ++ newer) → is_forgotten older n ≡ true
+        → times_forgotten newer n ≡ 0 }
+    ensures made { (older newer : List Act) (n : ℕ) → Apply (older ++ newer) → is_some (made older n) ≡ true
+        → times_made newer n ≡ 0 }
+    ensures dropped { (older newer : List Act) (n : ℕ) → Apply (older ++ newer) → is_dropped older n ≡ true
+        → times_dropped newer n ≡ 0 }
 {}
 
 /// Acts that are cut anywhere: the older part applies and leaves a book, to which the newer part applies and which it makes the book
@@ -103,6 +128,7 @@ pub fn a_decided_row_stays_decided()
 pub fn a_prefix_makes_its_book()
     ensures older { (older newer : List Act) → Apply (older ++ newer) → Apply older }
     ensures newer { (older newer : List Act) → Apply (older ++ newer) → first_fault (book_of older) newer ≡ None }
-    ensures joined { (older newer : List Act) → Apply older → first_fault (book_of older) newer ≡ None → Apply (older ++ newer) }
+    ensures joined { (older newer : List Act) → Apply older → first_fault (book_of older) newer ≡ None
+        → Apply (older ++ newer) }
     ensures book { (older newer : List Act) → book_of (older ++ newer) ≡ effects (book_of older) newer }
 {}
