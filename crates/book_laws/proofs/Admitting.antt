@@ -21,7 +21,7 @@ use Rattle.book_laws.proofs.Conditions.{MayAdmit, may_admit}
 use Rattle.book_laws.proofs.Keys.{bytes_of}
 use Rattle.book_laws.proofs.Numbers.{once_later, once_push, rises_push}
 use Rattle.book_laws.proofs.Searching.{none_not_some, some_same, count_kept, count_mapped, count_implied, nothing_found, none_passes, none_counted, one_more, filter_push}
-use Rattle.book_laws.proofs.Says.{Kinds, put, Says, IsBetween, terminus_looked, number_of_admit, number_of_decide, number_of_forget, decision_by, forgotten_by, open_by, row_with, row_by, rows_by, stays_by, dropped_by, stands_by}
+use Rattle.book_laws.proofs.Says.{Kinds, put, Says, IsBetween, IsKept, terminus_looked, number_of_admit, number_of_decide, number_of_forget, decision_by, forgotten_by, open_by, row_with, row_by, rows_by, stays_by, dropped_by, stands_by}
 
 -- termini of a book were made
 
@@ -87,7 +87,8 @@ says_admit k b a applies says = record {
   tags = λ producer tag. one_more (stands_by k.forgets producer tag) k.admits a (says.tags producer tag)
       (new producer tag);
   keys = says.keys;
-  between = between;
+  between = λ n x is. new_or_old (IsBetween k.makes) n x is here (says.between n x);
+  kept = λ n x is. new_or_old (IsKept k.decides k.forgets b.termini) n x is kept_here (says.kept n x);
 }
   where
     may : MayAdmit b a
@@ -139,12 +140,18 @@ says_admit k b a applies says = record {
           (subst (λ (ts : List Terminus). may_bind a.consumer ts ≡ true) says.termini may.consumer);
     }
 
-    between : (n : ℕ) (x : Admission) → find (λ x. x.row.0 == n) (k.admits ++ a ∷ []) ≡ Some x → IsBetween k.makes x
-    between n x is = by (find (λ x. x.row.0 == n) k.admits) refl (a.row.0 == n)
+    kept_here : IsKept k.decides k.forgets b.termini a
+    kept_here = record { producer = λ e. may.producer; consumer = λ e. may.consumer }
+
+    -- a search finds this Admit, or what it found before
+    new_or_old : (P : Admission → Type 0) (n : ℕ) (x : Admission)
+        → find (λ x. x.row.0 == n) (k.admits ++ a ∷ []) ≡ Some x → P a
+        → (find (λ x. x.row.0 == n) k.admits ≡ Some x → P x) → P x
+    new_or_old P n x is here there = by (find (λ x. x.row.0 == n) k.admits) refl (a.row.0 == n)
         (sym (find-append (λ (x : Admission). x.row.0 == n) k.admits (a ∷ [])) ∙ is)
       where
         by : (o : Option Admission) → find (λ x. x.row.0 == n) k.admits ≡ o → (p : Bool)
-            → option_or o (cond p (Some a) None) ≡ Some x → IsBetween k.makes x
-        by None found true e = subst (IsBetween k.makes) (some_same e) here
+            → option_or o (cond p (Some a) None) ≡ Some x → P x
+        by None found true e = subst P (some_same e) here
         by None found false e = absurd (none_not_some e)
-        by (Some y) found p e = says.between n x (found ∙ e)
+        by (Some y) found p e = there (found ∙ e)

@@ -7,7 +7,7 @@ use Rattle.book_model.specs.declared.terminus.LinkRole.{LinkRole}
 use Rattle.book_model.specs.declared.terminus.LinkRole.TheVariants.{Producer, Consumer}
 use Rattle.book_model.specs.Book.{same_key, same_role, same_bytes}
 
-role_of : (a b : LinkRole) → same_role a b ≡ true → a ≡ b
+pub role_of : (a b : LinkRole) → same_role a b ≡ true → a ≡ b
 role_of Producer Producer h = refl
 role_of Producer Consumer h = absurd cc
 role_of Consumer Producer h = absurd cc

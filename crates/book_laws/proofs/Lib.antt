@@ -3,6 +3,7 @@ pub mod Numbers
 pub mod Keys
 pub mod Conditions
 pub mod Says
+pub mod Keeping
 pub mod Making
 pub mod Admitting
 pub mod Settling

@@ -7,6 +7,8 @@ use Rattle.std.proofs.lemmas.Bool.{and_parts}
 use Rattle.std.proofs.lemmas.List.Folds.{find-append}
 use Rattle.book_model.specs.declared.act.Act.TheVariants.{Make, Drop}
 use Rattle.book_model.specs.declared.act.Admission.{Admission}
+use Rattle.book_model.specs.declared.act.Decision.{Decision}
+use Rattle.book_model.specs.declared.row.RowNumber.{RowNumber}
 use Rattle.book_model.specs.declared.terminus.LinkKey.{LinkKey}
 use Rattle.book_model.specs.declared.terminus.LinkRole.{LinkRole}
 use Rattle.book_model.specs.declared.terminus.LinkRole.TheVariants.{Producer, Consumer}
@@ -14,10 +16,11 @@ use Rattle.book_model.specs.declared.terminus.Terminus.{Terminus}
 use Rattle.book_model.specs.declared.terminus.TerminusNumber.{TerminusNumber}
 use Rattle.book_model.specs.Book.{BookView, refusal, effect, same_key, has_role, may_bind, terminus_at}
 use Rattle.book_laws.proofs.Conditions.{MayMake, may_make, may_drop}
+use Rattle.book_laws.proofs.Keeping.{kept_drop}
 use Rattle.book_laws.proofs.Keys.{key_of}
 use Rattle.book_laws.proofs.Numbers.{once_later, once_push, found_low, rises_push}
 use Rattle.book_laws.proofs.Searching.{turned, count_kept, count_implied, none_passes, none_counted, one_more, filter_push, filter_twice}
-use Rattle.book_laws.proofs.Says.{Kinds, put, Says, IsBetween, FoundTerminus, terminus_found, number_of_make, number_of_drop, stays_by, holds_key, dropped_by, dropped_push}
+use Rattle.book_laws.proofs.Says.{Kinds, put, Says, IsBetween, IsKept, FoundTerminus, terminus_found, number_of_make, number_of_drop, stays_by, holds_key, dropped_by, dropped_push}
 
 -- a search that finds something still does
 
@@ -42,6 +45,13 @@ between_push ts t a is = record {
   producer = has_role_push Producer a.producer.0 ts t is.producer;
   consumer =
       may_bind_push a.consumer ts t is.consumer;
+}
+
+kept_push : (ds : List Decision) (ns : List RowNumber) (ts : List Terminus) (t : Terminus) (a : Admission)
+    → IsKept ds ns ts a → IsKept ds ns (ts ++ t ∷ []) a
+kept_push ds ns ts t a is = record {
+  producer = λ e. has_role_push Producer a.producer.0 ts t (is.producer e);
+  consumer = λ e. may_bind_push a.consumer ts t (is.consumer e);
 }
 
 -- a key that no terminus of the book has: no Make of it stands
@@ -69,6 +79,7 @@ says_make k b t applies says = record {
   tags = says.tags;
   keys = λ key. one_more (holds_key k.drops key) k.makes t (says.keys key) (new key);
   between = λ n a is. between_push k.makes t a (says.between n a is);
+  kept = λ n a is. kept_push k.decides k.forgets b.termini t a (says.kept n a is);
 }
   where
     may : MayMake b t
@@ -115,6 +126,7 @@ says_drop k b n applies says = record {
   keys = λ key. fewer (count_implied (holds_key (k.drops ++ n ∷ []) key) (holds_key k.drops key) (stood key) k.makes)
       (says.keys key);
   between = says.between;
+  kept = λ m a is. kept_drop k b n m a applies says is (says.kept m a is);
 }
   where
     fewer : {i j : ℕ} → i ≤ j → j ≤ 1 → i ≤ 1

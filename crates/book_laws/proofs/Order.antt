@@ -1,5 +1,5 @@
 -- The order of acts that apply: what comes once, what comes first, and what doesn't come again.
-use Rattle.std.proofs.Common.{◌≡◌, ◌∙◌, sym, ap, refl, ℕ, zero, suc, ◌+◌, ◌≤◌, Bool, true, List, ◌∷◌, ◌++◌, arith, Option, Some, None}
+use Rattle.std.proofs.Common.{◌≡◌, ◌∙◌, sym, ap, refl, ℕ, zero, suc, ◌+◌, ◌≤◌, ◌⊎◌, inl, inr, Bool, true, List, ◌∷◌, ◌++◌, arith, Option, Some, None}
 use Rattle.std.specs.Prelude.{◌==◌, find, count_by, is_some, option_map}
 use Rattle.std.specs.List.{list_any}
 use Rattle.std.specs.Option.{option_or}
@@ -161,6 +161,11 @@ dropped_no_more older newer n apply is =
     (dropped_once (older ++ newer) n apply) (times_dropped_app older newer n)
     (passes_counted (λ (m : TerminusNumber). m.0 == n) (drops_in older) is)
 
+before_or_now : {V : Type 0} (o p : Option V) (v : V) → option_or o p ≡ Some v
+    → (o ≡ Some v) ⊎ ((o ≡ None) × (p ≡ Some v))
+before_or_now None p v is = inr (refl, is)
+before_or_now (Some w) p v is = inl is
+
 -- a longer list keeps what was found
 
 pub admission_kept : (older newer : List Act) (n : ℕ) (a : Admission) → admission older n ≡ Some a
@@ -176,3 +181,19 @@ pub decision_kept : (older newer : List Act) (n : ℕ) (s : DeliveryState) → d
     → decision (older ++ newer) n ≡ Some s
 decision_kept older newer n s is = decision_app older newer n
     ∙ ap (λ (o : Option DeliveryState). option_or o (decision newer n)) is
+
+-- what a longer list says was said before, or is said now
+
+pub decision_from : (older newer : List Act) (n : ℕ) (s : DeliveryState) → decision (older ++ newer) n ≡ Some s
+    → (decision older n ≡ Some s) ⊎ ((decision older n ≡ None) × (decision newer n ≡ Some s))
+decision_from older newer n s is =
+    before_or_now (decision older n) (decision newer n) s (sym (decision_app older newer n) ∙ is)
+
+pub admission_from : (older newer : List Act) (n : ℕ) (a : Admission) → admission (older ++ newer) n ≡ Some a
+    → (admission older n ≡ Some a) ⊎ ((admission older n ≡ None) × (admission newer n ≡ Some a))
+admission_from older newer n a is =
+    before_or_now (admission older n) (admission newer n) a (sym (admission_app older newer n) ∙ is)
+
+pub made_from : (older newer : List Act) (n : ℕ) (t : Terminus) → made (older ++ newer) n ≡ Some t
+    → (made older n ≡ Some t) ⊎ ((made older n ≡ None) × (made newer n ≡ Some t))
+made_from older newer n t is = before_or_now (made older n) (made newer n) t (sym (made_app older newer n) ∙ is)

@@ -97,6 +97,11 @@ pub record IsBetween (makes : List Terminus) (a : Admission) : Type 0 where
   pub producer : has_role Producer (terminus_at a.producer.0 makes) ≡ true
   pub consumer : may_bind a.consumer makes ≡ true
 
+-- its termini stand: the producer's until it is forgotten, the consumer's until it is decided
+pub record IsKept (ds : List Decision) (ns : List RowNumber) (ts : List Terminus) (a : Admission) : Type 0 where
+  pub producer : forgotten_by ns a.row.0 ≡ false → has_role Producer (terminus_at a.producer.0 ts) ≡ true
+  pub consumer : decision_by ds a.row.0 ≡ None → may_bind a.consumer ts ≡ true
+
 pub record Says (k : Kinds) (b : BookView) : Type 0 where
   pub rows : b.rows ≡ rows_by k.decides k.forgets k.admits
   pub termini : b.termini ≡ filter (stays_by k.drops) k.makes
@@ -110,6 +115,8 @@ pub record Says (k : Kinds) (b : BookView) : Type 0 where
   pub tags : (producer : ℕ) (tag : List ℕ) → count_by (stands_by k.forgets producer tag) k.admits ≤ 1
   pub keys : (key : LinkKey) → count_by (holds_key k.drops key) k.makes ≤ 1
   pub between : (n : ℕ) (a : Admission) → find (λ a. a.row.0 == n) k.admits ≡ Some a → IsBetween k.makes a
+  pub kept : (n : ℕ) (a : Admission) → find (λ a. a.row.0 == n) k.admits ≡ Some a
+      → IsKept k.decides k.forgets b.termini a
 
 pub says_nothing : Says (kinds_of []) empty_book
 says_nothing = record {
@@ -125,6 +132,7 @@ says_nothing = record {
   tags = λ producer tag. omega arith;
   keys = λ key. omega arith;
   between = λ n a is. absurd (none_not_some is);
+  kept = λ n a is. absurd (none_not_some is);
 }
 
 -- one more of a kind, as the words see it

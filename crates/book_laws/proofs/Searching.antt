@@ -286,3 +286,21 @@ module _ {V : Type 0} (number : V → ℕ) (test : V → Bool) where
           → count_by (λ x. number x == number v) vs ≤ 1
       less true few = omega (arith, few)
       less false few = omega (arith, few)
+
+-- what one search finds shows that another isn't without it
+module _ {V : Type 0} (test other : V → Bool) where
+  pub found_any : (vs : List V) (v : V) → find test vs ≡ Some v → other v ≡ true → list_any other vs ≡ true
+  found_any [] v is passes = absurd (none_not_some is)
+  found_any (w ∷ vs) v is passes = by_case (test w)
+      (λ e. ap (λ (b : Bool). b || list_any other vs) (ap other (some_same (here e)) ∙ passes))
+      (λ e. either (other w) (list_any other vs) (found_any vs v (rest e) passes))
+    where
+      either : (b c : Bool) → c ≡ true → (b || c) ≡ true
+      either true c e = refl
+      either false c e = e
+
+      here : test w ≡ true → Some w ≡ Some v
+      here e = rw e at is
+
+      rest : test w ≡ false → find test vs ≡ Some v
+      rest e = rw e at is

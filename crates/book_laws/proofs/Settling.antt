@@ -2,7 +2,7 @@
 use Rattle.std.proofs.Common.{◌≡◌, ◌∙◌, sym, ap, refl, ℕ, ◌≤◌, ◌<◌, Bool, true, false, cond, not, ◌&&◌, ◌||◌, List, [], ◌∷◌, ◌++◌, arith, Option, Some, None}
 use Rattle.std.specs.Prelude.{◌==◌, find, count_by, is_some, option_map, if◌then◌else◌}
 use Rattle.std.specs.Option.{option_or}
-use Rattle.std.proofs.lemmas.Bool.{and_parts, eqb-true}
+use Rattle.std.proofs.lemmas.Bool.{and_parts, or_parts, eqb-true}
 use Rattle.amqp_model.specs.declared.state.DeliveryState.{DeliveryState}
 use Rattle.book_model.specs.declared.act.Act.TheVariants.{Decide, Forget}
 use Rattle.book_model.specs.declared.act.Admission.{Admission}
@@ -13,7 +13,7 @@ use Rattle.book_model.specs.Book.{BookView, refusal, effect, with_row, row_at, d
 use Rattle.book_laws.proofs.Conditions.{may_decide, may_forget}
 use Rattle.book_laws.proofs.Numbers.{once_push, found_low}
 use Rattle.book_laws.proofs.Searching.{by_case, turned, nothing_counted, none_counted, count_implied, changed_rows}
-use Rattle.book_laws.proofs.Says.{Kinds, put, Says, Found, row_found, number_of_admit, number_of_decide, number_of_forget, decision_by, forgotten_by, open_by, row_with, row_by, stands_by, decision_push, forgotten_push}
+use Rattle.book_laws.proofs.Says.{Kinds, put, Says, IsKept, Found, row_found, number_of_admit, number_of_decide, number_of_forget, decision_by, forgotten_by, open_by, row_with, row_by, stands_by, decision_push, forgotten_push}
 
 -- what an act that changes one row makes of a row that is shown
 
@@ -45,6 +45,10 @@ module _ (n : ℕ) (change : Row → Option Row) (a : Admission) where
       → changed (change_one n change) a o f ≡ shown a o f
   elsewhere o f e = rw e refl
 
+first_is_none : (o p : Option DeliveryState) → option_or o p ≡ None → o ≡ None
+first_is_none None p e = refl
+first_is_none (Some s) p e = absurd cc
+
 pub says_decide : (k : Kinds) (b : BookView) (d : Decision) → refusal b (Decide d) ≡ None → Says k b
     → Says (put k (Decide d)) (effect b (Decide d))
 says_decide k b d applies says = record {
@@ -64,8 +68,17 @@ says_decide k b d applies says = record {
   tags = says.tags;
   keys = says.keys;
   between = says.between;
+  kept = kept;
 }
   where
+    kept : (n : ℕ) (a : Admission) → find (λ a. a.row.0 == n) k.admits ≡ Some a
+        → IsKept (k.decides ++ d ∷ []) k.forgets b.termini a
+    kept n a is = record {
+      producer = (says.kept n a is).producer;
+      consumer = λ e. (says.kept n a is).consumer (first_is_none (decision_by k.decides a.row.0) _
+          (sym (decision_push k.decides d a.row.0) ∙ e));
+    }
+
     there : (r : Row) × (row_at d.row.0 b.rows ≡ Some r) × (r.outcome ≡ None)
     there = may_decide (row_at d.row.0 b.rows) d.outcome applies
 
@@ -149,8 +162,17 @@ says_forget k b n applies says = record {
       (stands_by k.forgets producer tag) (stood producer tag) k.admits) (says.tags producer tag);
   keys = says.keys;
   between = says.between;
+  kept = kept;
 }
   where
+    kept : (m : ℕ) (a : Admission) → find (λ a. a.row.0 == m) k.admits ≡ Some a
+        → IsKept k.decides (k.forgets ++ n ∷ []) b.termini a
+    kept m a is = record {
+      producer = λ e. (says.kept m a is).producer (or_parts (forgotten_by k.forgets a.row.0) _
+          (sym (forgotten_push k.forgets n a.row.0) ∙ e)).0;
+      consumer = (says.kept m a is).consumer;
+    }
+
     fewer : {i j : ℕ} → i ≤ j → j ≤ 1 → i ≤ 1
     fewer h l = omega (arith, h, l)
 
