@@ -1,5 +1,5 @@
 -- Searches of lists, by a test and by a number.
-use Rattle.std.proofs.Common.{◌≡◌, ◌∙◌, sym, ap, refl, subst, ℕ, zero, suc, ◌+◌, ◌≤◌, ◌<◌, Bool, true, false, cond, ◌&&◌, ◌||◌, List, [], ◌∷◌, ◌++◌, map, arith, Option, Some, None}
+use Rattle.std.proofs.Common.{◌≡◌, ◌∙◌, sym, ap, refl, subst, ℕ, ◌+◌, ◌≤◌, ◌<◌, Bool, true, false, cond, ◌&&◌, ◌||◌, List, [], ◌∷◌, ◌++◌, map, arith, Option, Some, None}
 use Rattle.std.specs.Prelude.{◌==◌, find, filter, filter_map, option_map, count_by}
 use Rattle.std.specs.List.{list_any}
 use Rattle.std.proofs.lemmas.Bool.{eqb-true}
@@ -227,14 +227,6 @@ module _ {V : Type 0} (test keep : V → Bool) where
           ≡ cond (b && test v) (Some v) (find (λ v. keep v && test v) vs)
       by true rest = ap (cond (test v) (Some v)) rest
       by false rest = rest
-
--- what a search finds is counted
-pub some_counted : {V : Type 0} (test : V → Bool) (vs : List V) (v : V) → find test vs ≡ Some v → 1 ≤ count_by test vs
-some_counted test vs v is = by (count_by test vs) refl
-  where
-    by : (n : ℕ) → count_by test vs ≡ n → 1 ≤ n
-    by zero none = absurd (none_not_some (sym (nothing_found test vs none) ∙ is))
-    by (suc n) some = omega arith
 
 -- one whose number comes once is found by its number, whatever found it
 module _ {V : Type 0} (number : V → ℕ) (test : V → Bool) where

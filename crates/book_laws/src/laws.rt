@@ -1,6 +1,6 @@
 //! Laws of lists of acts (`docs/book.md`). The functions do nothing: their contracts are the laws. Lists are oldest
 //! first, and apply to the empty book; `older` and `newer` are the two parts of one that is cut anywhere.
-ghost use Rattle.std.specs.Prelude.{◌≡◌, ◌+◌, ◌<◌, ◌≤◌, ◌||◌, ℕ, true, false, List, ◌∷◌, ◌++◌, Some, None, is_some, length};
+ghost use Rattle.std.specs.Prelude.{◌≡◌, ◌+◌, ◌<◌, ◌≤◌, ◌||◌, ℕ, true, false, List, ◌∷◌, ◌++◌, Some, None, is_some};
 ghost use Rattle.std.specs.List.{AllPairs};
 ghost use Rattle.std.specs.Option.{option_or};
 ghost use Rattle.amqp_model.specs.declared.state.DeliveryState.{DeliveryState};
