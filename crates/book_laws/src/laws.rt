@@ -1,11 +1,11 @@
 //! Laws of lists of acts (`docs/book.md`). The functions do nothing: their contracts are the laws. Lists are oldest
 //! first, and apply to the empty book; `older` and `newer` are the two parts of one that is cut anywhere.
-ghost use Rattle.std.specs.Prelude.{◌≡◌, ◌+◌, ◌<◌, ◌≤◌, ◌||◌, ℕ, true, false, List, ◌∷◌, ◌++◌, Some, None, is_some};
+ghost use Rattle.std.specs.Prelude.{◌≡◌, ◌<◌, ◌≤◌, ◌||◌, ℕ, true, false, List, ◌∷◌, ◌++◌, Some, None, is_some};
 ghost use Rattle.std.specs.List.{AllPairs};
 ghost use Rattle.std.specs.Option.{option_or};
 ghost use Rattle.amqp_model.specs.declared.state.DeliveryState.{DeliveryState};
 ghost use Rattle.book_model.specs.declared.act.Act.{Act};
-ghost use Rattle.book_model.specs.declared.act.Act.TheVariants.{Make, Admit, Decide, Forget, Drop};
+ghost use Rattle.book_model.specs.declared.act.Act.TheVariants.{Admit, Decide, Forget, Drop};
 ghost use Rattle.book_model.specs.declared.act.Admission.{Admission};
 ghost use Rattle.book_model.specs.declared.act.Decision.{Decision};
 ghost use Rattle.book_model.specs.declared.row.Row.{Row};
