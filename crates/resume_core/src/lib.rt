@@ -1,0 +1,11 @@
+//! What happens when a durable link is attached again (AMQP 1.0 part 2, section 2.6.13): pure functions over the rows of its terminus and the
+//! unsettled map of the peer's attach. They change nothing: the caller writes the acts and sends what the plan says.
+#![tactic(auto)]
+
+mod consumer;
+mod entry;
+mod peer_map;
+mod producer;
+
+pub use consumer::{ConsumerPlan, Resumed, Sending, consumer_plan};
+pub use producer::{ProducerPlan, producer_plan};
