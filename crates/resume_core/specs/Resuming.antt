@@ -41,13 +41,16 @@ map_entry tag outcome = record { tag = record { items = tag }; state = option_ma
 
 -- The rows of a producer's link. Their tags are the producer's.
 
+abbrev pub is_unforgotten : Row → Bool
+is_unforgotten r = not r.forgotten
+
 -- The attach forgets an unforgotten row if a complete map lacks its tag: the producer has settled it.
 abbrev pub is_forgotten_by : Bool → List UnsettledDelivery → Row → Bool
-is_forgotten_by complete theirs r = complete && (not r.forgotten && not (is_some (told_in theirs r.tag.items)))
+is_forgotten_by complete theirs r = complete && (is_unforgotten r && not (is_some (told_in theirs r.tag.items)))
 
 -- it is unsettled after the attach
 abbrev pub is_unsettled_after : Bool → List UnsettledDelivery → Row → Bool
-is_unsettled_after complete theirs r = not r.forgotten && not (is_forgotten_by complete theirs r)
+is_unsettled_after complete theirs r = is_unforgotten r && not (is_forgotten_by complete theirs r)
 
 -- the producer may resume it: it is unsettled after the attach, and stands in the producer's map
 abbrev pub is_due : Bool → List UnsettledDelivery → Row → Bool
@@ -91,6 +94,9 @@ outcome_given told None = option_map kept_outcome (outcome_told told)
 abbrev pub decided_by : List UnsettledDelivery → Row → Option DeliveryState
 decided_by theirs r = outcome_given (told_of theirs r) r.outcome
 
+abbrev pub is_decided_by : List UnsettledDelivery → Row → Bool
+is_decided_by theirs r = is_some (decided_by theirs r)
+
 -- the outcome of a row after the attach
 abbrev pub either_outcome : Option DeliveryState → Option DeliveryState → Option DeliveryState
 either_outcome (Some outcome) given = Some outcome
@@ -120,8 +126,14 @@ resumed_as complete false (Some outcome) = None
 resumed_as true false None = Some Anew
 resumed_as false false None = None
 
+abbrev pub sent_as : Bool → List UnsettledDelivery → Row → Option Resumed
+sent_as complete theirs r = resumed_as complete (is_told_of theirs r) (outcome_after theirs r)
+
+abbrev pub is_sent : Bool → List UnsettledDelivery → Row → Bool
+is_sent complete theirs r = is_some (sent_as complete theirs r)
+
 abbrev pub sending_of : Bool → List UnsettledDelivery → Row → Option Sending
-sending_of complete theirs r = option_map (λ how. record { row = r.number; how = how }) (resumed_as complete (is_told_of theirs r) (outcome_after theirs r))
+sending_of complete theirs r = option_map (λ how. record { row = r.number; how = how }) (sent_as complete theirs r)
 
 -- the rows that are decided, the router's map, and what is sent
 abbrev pub decisions : List UnsettledDelivery → List Row → List Decision
