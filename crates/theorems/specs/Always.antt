@@ -10,7 +10,7 @@ use Rattle.router_core.specs.Replies.{handled}
 use Rattle.router_core.specs.Runs.{Run}
 use Rattle.router_core.specs.Moves.{IsTrace}
 use Rattle.core_machine.specs.Moves.{Move, GoesInTurnBy}
-use Rattle.router_play.specs.declared.script.Step.{Step}
+use Rattle.core_player.specs.declared.script.Step.{Step}
 use Rattle.router_play.specs.Script.{Scene, opening, Plays}
 
 -- in every trace of the router
