@@ -10,7 +10,7 @@ use Rattle.amqp_link.proofs.Uses.{skipped, count_started}
 use Rattle.amqp_link.specs.Deliveries.{Frame, bytes, still, settled, delivery, is_too_large, part_of}
 use Rattle.amqp_link.specs.Gathering.{Gathered, RecvFigures, fitting, gathered, joined, with_frame, settled_now, whole, more, turned, next}
 use Rattle.amqp_link.specs.Receiving.{Received, TheirAttach, OurGrant, TheirCount, TheirTransfer, TheirSettlement, middle, is_empty, seen, unused, is_beyond, given, behind}
-use Rattle.amqp_link.specs.Figures.{Receives, recv_end_of, unused_at, awaiting_at, starts_beyond, count_behind_transfer, behind_our_grant, behind_count, behind_settlement, given_by, behind_transfer}
+use Rattle.amqp_link.specs.Figures.{Receives, recv_end_of, unused_at, awaiting_at, starts_beyond, count_after_transfer, after_our_grant, after_count, after_settlement, given_by, after_transfer}
 
 -- bytes that follow too many are too many
 longer : (b payload : List ℕ) → nat_lt 65536 (length b) ≡ true → nat_lt 65536 (length (b ++ payload)) ≡ true
@@ -85,23 +85,23 @@ granted_by_start : (empty : Bool) (t : Received) → link.granted (seen t) ≡ l
 granted_by_start true t = refl
 granted_by_start false t = refl
 
-taken_in : (f : Frame) (e : RecvFigures) (t : Received) → Receives e t → Receives (record e { count = count_behind_transfer e; middle = (next f e.middle).1 }) (TheirTransfer f ∷ t)
+taken_in : (f : Frame) (e : RecvFigures) (t : Received) → Receives e t → Receives (record e { count = count_after_transfer e; middle = (next f e.middle).1 }) (TheirTransfer f ∷ t)
 taken_in f e t r = record {
   count = ap (λ b. if b then (e.count + 1) % 2 ^ 32 else e.count) (none_kept e t r) ∙ count_by_start (is_empty (middle t)) e.count t r.count;
   granted = r.granted ∙ granted_by_start (is_empty (middle t)) t;
   middle = let P : Turn → Option Gathered = λ p. p.1 in ap P (next_same f e t r);
 }
 
-pub behind_same : (f : Frame) (e : RecvFigures) (t : Received) → Receives e t → Receives (behind_transfer f e) (behind f t)
-behind_same f e t r = by_credit (is_beyond t) (starts_beyond e) (beyond_same e t r)
+pub after_same : (f : Frame) (e : RecvFigures) (t : Received) → Receives e t → Receives (after_transfer f e) (behind f t)
+after_same f e t r = by_credit (is_beyond t) (starts_beyond e) (beyond_same e t r)
   where
-    by_credit : (b c : Bool) → c ≡ b → Receives (if c then e else record e { count = count_behind_transfer e; middle = (next f e.middle).1 }) (if b then t else TheirTransfer f ∷ t)
+    by_credit : (b c : Bool) → c ≡ b → Receives (if c then e else record e { count = count_after_transfer e; middle = (next f e.middle).1 }) (if b then t else TheirTransfer f ∷ t)
     by_credit true true same = r
     by_credit true false same = absurd (cc)
     by_credit false true same = absurd (cc)
     by_credit false false same = taken_in f e t r
 
-pub grant_told : (g : Grant) (e : RecvFigures) (t : Received) → Receives e t → Receives (behind_our_grant g e) (OurGrant g ∷ t)
+pub grant_told : (g : Grant) (e : RecvFigures) (t : Received) → Receives e t → Receives (after_our_grant g e) (OurGrant g ∷ t)
 grant_told g e t r = record {
   count = r.count ∙ ap (λ n. (link.count_told (seen t) + n) % 2 ^ 32) (sym (skipped (link.Granted (Some g.count) g.credit) (link.since link.tells_count (seen t)) refl));
   granted = refl;
@@ -111,7 +111,7 @@ grant_told g e t r = record {
 none_more : (n : ℕ) → n % 2 ^ 32 ≡ (n + 0) % 2 ^ 32
 none_more n = omega arith
 
-pub count_taken : (n : ℕ) (e : RecvFigures) (t : Received) → Receives e t → Receives (behind_count n e) (TheirCount n ∷ t)
+pub count_taken : (n : ℕ) (e : RecvFigures) (t : Received) → Receives e t → Receives (after_count n e) (TheirCount n ∷ t)
 count_taken n e t r = record { count = none_more n; granted = r.granted; middle = r.middle }
 
 -- a settlement: whatever came first, the newest frame shows it
@@ -120,10 +120,10 @@ settled_in_the_middle [] = refl
 settled_in_the_middle (f ∷ []) = refl
 settled_in_the_middle (f ∷ (g ∷ fs)) = refl
 
-pub settlement_taken : (e : RecvFigures) (t : Received) → Receives e t → Receives (behind_settlement e) (TheirSettlement ∷ t)
+pub settlement_taken : (e : RecvFigures) (t : Received) → Receives e t → Receives (after_settlement e) (TheirSettlement ∷ t)
 settlement_taken e t r = record { count = r.count; granted = r.granted; middle = ap (option_map settled_now) r.middle ∙ settled_in_the_middle (middle t) }
 
-pub settlement_noted : (e behind : RecvFigures) (t : Received) → behind ≡ behind_settlement e → Receives e t → Receives behind (TheirSettlement ∷ t)
+pub settlement_noted : (e behind : RecvFigures) (t : Received) → behind ≡ after_settlement e → Receives e t → Receives behind (TheirSettlement ∷ t)
 settlement_noted e behind t same r = let P : RecvFigures → Type 0 = λ x. Receives x (TheirSettlement ∷ t) in subst P (sym same) (settlement_taken e t r)
 
 pub just_attached : (n : ℕ) (t : Received) → Receives (awaiting_at n) (TheirAttach n ∷ t)
@@ -143,17 +143,17 @@ receives_as_recv_end_of e t same = let P : RecvFigures → Type 0 = λ x. Receiv
 pub at_attach : (n : ℕ) (t : Received) → awaiting_at n ≡ recv_end_of (TheirAttach n ∷ t)
 at_attach n t = is_recv_end_of _ _ (just_attached n t)
 
-pub at_grant : (g : Grant) (t : Received) → behind_our_grant g (recv_end_of t) ≡ recv_end_of (OurGrant g ∷ t)
+pub at_grant : (g : Grant) (t : Received) → after_our_grant g (recv_end_of t) ≡ recv_end_of (OurGrant g ∷ t)
 at_grant g t = is_recv_end_of _ _ (grant_told g _ t (recv_end_of_fits t))
 
-pub at_count : (n : ℕ) (t : Received) → behind_count n (recv_end_of t) ≡ recv_end_of (TheirCount n ∷ t)
+pub at_count : (n : ℕ) (t : Received) → after_count n (recv_end_of t) ≡ recv_end_of (TheirCount n ∷ t)
 at_count n t = is_recv_end_of _ _ (count_taken n _ t (recv_end_of_fits t))
 
-pub at_settlement : (t : Received) → behind_settlement (recv_end_of t) ≡ recv_end_of (TheirSettlement ∷ t)
+pub at_settlement : (t : Received) → after_settlement (recv_end_of t) ≡ recv_end_of (TheirSettlement ∷ t)
 at_settlement t = is_recv_end_of _ _ (settlement_taken _ t (recv_end_of_fits t))
 
-pub at_transfer : (f : Frame) (t : Received) → behind_transfer f (recv_end_of t) ≡ recv_end_of (behind f t)
-at_transfer f t = is_recv_end_of _ _ (behind_same f _ t (recv_end_of_fits t))
+pub at_transfer : (f : Frame) (t : Received) → after_transfer f (recv_end_of t) ≡ recv_end_of (behind f t)
+at_transfer f t = is_recv_end_of _ _ (after_same f _ t (recv_end_of_fits t))
 
 pub given_at_transfer : (f : Frame) (t : Received) → given_by f (recv_end_of t) ≡ given f t
 given_at_transfer f t = given_same f _ t (recv_end_of_fits t)

@@ -33,23 +33,23 @@ abbrev pub begun_at : ℕ → SendEnd
 begun_at n = record { initial = n; count = n % 2 ^ 32; granted = None }
 
 -- ... after a flow of the receiver, ...
-abbrev pub behind_grant : Option ℕ → ℕ → SendEnd → SendEnd
-behind_grant count credit e = record e { granted = Some (record { count = unwrap_or count e.initial; credit = credit }) }
+abbrev pub after_grant : Option ℕ → ℕ → SendEnd → SendEnd
+after_grant count credit e = record e { granted = Some (record { count = unwrap_or count e.initial; credit = credit }) }
 
 -- ... the start of a delivery, ...
-abbrev pub behind_start : SendEnd → SendEnd
-behind_start e = record e { count = (e.count + 1) % 2 ^ 32 }
+abbrev pub after_start : SendEnd → SendEnd
+after_start e = record e { count = (e.count + 1) % 2 ^ 32 }
 
 -- ... and a drain, whose count is that at which the credit is used up
 abbrev pub drained_count : SendEnd → ℕ
 drained_count e = (e.count + left_at e) % 2 ^ 32
 
-abbrev pub behind_drain : SendEnd → SendEnd
-behind_drain e = record e { count = drained_count e }
+abbrev pub after_drain : SendEnd → SendEnd
+after_drain e = record e { count = drained_count e }
 
 -- ... or a flow of the sender with this count
-abbrev pub behind_told_count : ℕ → SendEnd → SendEnd
-behind_told_count n e = record e { count = n % 2 ^ 32 }
+abbrev pub after_told_count : ℕ → SendEnd → SendEnd
+after_told_count n e = record e { count = n % 2 ^ 32 }
 
 -- of a receiving end
 pub record Receives (e : RecvFigures) (t : Received) : Type 0 where
@@ -69,27 +69,27 @@ abbrev pub awaiting_at : ℕ → RecvFigures
 awaiting_at n = record { count = n % 2 ^ 32; granted = None; middle = None }
 
 -- ... after a grant of this end, ...
-abbrev pub behind_our_grant : Grant → RecvFigures → RecvFigures
-behind_our_grant g e = record e { granted = Some g }
+abbrev pub after_our_grant : Grant → RecvFigures → RecvFigures
+after_our_grant g e = record e { granted = Some g }
 
 -- ... a count that the peer gave, ...
-abbrev pub behind_count : ℕ → RecvFigures → RecvFigures
-behind_count n e = record e { count = n % 2 ^ 32 }
+abbrev pub after_count : ℕ → RecvFigures → RecvFigures
+after_count n e = record e { count = n % 2 ^ 32 }
 
 -- ... a settlement of the delivery in the middle, ...
-abbrev pub behind_settlement : RecvFigures → RecvFigures
-behind_settlement e = record e { middle = option_map settled_now e.middle }
+abbrev pub after_settlement : RecvFigures → RecvFigures
+after_settlement e = record e { middle = option_map settled_now e.middle }
 
 -- ... and a transfer of the peer, beside what that gives
 abbrev pub starts_beyond : RecvFigures → Bool
 starts_beyond e = is_none e.middle && nat_eq (unused_at e) 0
 
-abbrev pub count_behind_transfer : RecvFigures → ℕ
-count_behind_transfer e = if is_none e.middle then (e.count + 1) % 2 ^ 32 else e.count
+abbrev pub count_after_transfer : RecvFigures → ℕ
+count_after_transfer e = if is_none e.middle then (e.count + 1) % 2 ^ 32 else e.count
 
 abbrev pub given_by : Frame → RecvFigures → Part
 given_by f e = if starts_beyond e then part.BeyondCredit else (next f e.middle).0
 
-abbrev pub behind_transfer : Frame → RecvFigures → RecvFigures
-behind_transfer f e =
-    if starts_beyond e then e else record e { count = count_behind_transfer e; middle = (next f e.middle).1 }
+abbrev pub after_transfer : Frame → RecvFigures → RecvFigures
+after_transfer f e =
+    if starts_beyond e then e else record e { count = count_after_transfer e; middle = (next f e.middle).1 }

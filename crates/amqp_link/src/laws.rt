@@ -26,7 +26,7 @@ pub fn both_ends_agree()
 {}
 
 /// After the count 2^32 - 1 comes 0: of 2 granted there, one delivery is started at each of the two, and none is left then.
-pub fn counts_go_on_behind_the_highest()
+pub fn counts_go_on_after_the_highest()
     ensures granted { let t : Link = Granted (Some 4294967295) 2 ∷ Attached 4294967295 ∷ [] in (count t ≡ 4294967295) × (credit t ≡ 2) }
     ensures one_started { let t : Link = Started ∷ Granted (Some 4294967295) 2 ∷ Attached 4294967295 ∷ [] in (count t ≡ 0) × (credit t ≡ 1) }
     ensures both_started { let t : Link = Started ∷ Started ∷ Granted (Some 4294967295) 2 ∷ Attached 4294967295 ∷ [] in (count t ≡ 1) × (credit t ≡ 0) }

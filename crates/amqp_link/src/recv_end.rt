@@ -5,7 +5,7 @@ ghost use Rattle.amqp_session.specs.Serials.{distance};
 ghost use Rattle.amqp_link.specs.Deliveries.{frame};
 ghost use Rattle.amqp_link.specs.Receiving.{Received, TheirAttach, OurGrant, TheirCount, TheirTransfer, TheirSettlement, middle, is_beyond, delivery_count, unused, given, behind};
 ghost use Rattle.amqp_link.specs.Gathering.{gathered, next};
-ghost use Rattle.amqp_link.specs.Figures.{Receives, unused_at, awaiting_at, behind_our_grant, behind_count, behind_settlement, given_by, behind_transfer};
+ghost use Rattle.amqp_link.specs.Figures.{Receives, unused_at, awaiting_at, after_our_grant, after_count, after_settlement, given_by, after_transfer};
 
 use crate::fault::LinkFault;
 use crate::gathering::{Gathering, first, later};
@@ -58,7 +58,7 @@ impl RecvEnd {
         ensures fits { (t : Received) → Receives self.old t → Receives self.new (OurGrant result ∷ t) }
         ensures told { (t : Received) → Receives self.old t → result ≡ record { count = delivery_count t; credit = min (unused t + credit) (2 ^ 31 - 1) } }
         ensures unused { (t : Received) → Receives self.old t → unused (OurGrant result ∷ t) ≡ result.credit }
-        ensures figures { self.new ≡ behind_our_grant result self.old }
+        ensures figures { self.new ≡ after_our_grant result self.old }
         ensures tells { result ≡ record { count = self.old.count; credit = min (unused_at self.old + credit) (2 ^ 31 - 1) } }
     {
         let count = self.count;
@@ -69,7 +69,7 @@ impl RecvEnd {
 
     /// Notes that a flow of this end granted this: for a table that follows what was sent.
     pub fn note_grant(&mut self, grant: Grant)
-        ensures figures { self.new ≡ behind_our_grant grant self.old }
+        ensures figures { self.new ≡ after_our_grant grant self.old }
     {
         self.granted = Some(grant);
     }
@@ -80,7 +80,7 @@ impl RecvEnd {
         ensures fits { (t : Received) → Receives self.old t → OnOk result (Receives self.new (TheirCount count ∷ t)) }
         ensures within { (t : Received) → Receives self.old t → (IsOk result ↔ (distance (delivery_count t) count ≤ unused t)) }
         ensures reaches { IsOk result ↔ (distance self.old.count count ≤ unused_at self.old) }
-        ensures figures { OnOk result (self.new ≡ behind_count count self.old) }
+        ensures figures { OnOk result (self.new ≡ after_count count self.old) }
         ensures err { OnErr result (self.new ≡ self.old) }
     {
         if self.count.distance_to(count) > self.unused() {
@@ -92,7 +92,7 @@ impl RecvEnd {
 
     /// Takes a transfer and its payload. One that starts a delivery uses one credit, and is `BeyondCredit` and changes
     /// nothing where none is unused. That allocates nothing, and neither does a delivery of one frame or an aborted one.
-    #[tactic(auto, using(crate::proofs::Receives::given_same, crate::proofs::Receives::behind_same))]
+    #[tactic(auto, using(crate::proofs::Receives::given_same, crate::proofs::Receives::after_same))]
     pub fn on_transfer(&mut self, transfer: &Transfer, payload: Bytes) -> Result<Part, AllocError>
         ensures part { (t : Received) → Receives self.old t → IfOk result (λ p. p ≡ given (frame transfer.now payload) t) }
         ensures fits { (t : Received) → Receives self.old t → OnOk result (Receives self.new (behind (frame transfer.now payload) t)) }
@@ -100,7 +100,7 @@ impl RecvEnd {
         ensures alone { (t : Received) → Receives self.old t → middle t ≡ [] → transfer.now.more ≡ false → IsOk result }
         ensures aborted { transfer.now.aborted ≡ true → IsOk result }
         ensures gives { IfOk result (λ p. p ≡ given_by (frame transfer.now payload) self.old) }
-        ensures figures { OnOk result (self.new ≡ behind_transfer (frame transfer.now payload) self.old) }
+        ensures figures { OnOk result (self.new ≡ after_transfer (frame transfer.now payload) self.old) }
         ensures err { OnErr result (self.new ≡ self.old) }
     {
         match self.middle.take() {
@@ -128,7 +128,7 @@ impl RecvEnd {
     /// section 2.7.6): it is reported as settled once it is whole. Without one in the middle nothing changes.
     pub fn settle(&mut self)
         ensures fits { (t : Received) → Receives self.old t → Receives self.new (TheirSettlement ∷ t) }
-        ensures figures { self.new ≡ behind_settlement self.old }
+        ensures figures { self.new ≡ after_settlement self.old }
     {
         if let Some(gathering) = &mut self.middle {
             gathering.settle();

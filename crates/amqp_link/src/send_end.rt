@@ -1,7 +1,7 @@
 //! The sending end of a link.
 ghost use Rattle.std.specs.Prelude.{◌≡◌, ◌≤◌, ◌+◌, ◌%◌, ◌^◌, ◌↔◌, ◌∷◌, IsTrue};
 ghost use Rattle.amqp_link.specs.Credit.{Link, Attached, Granted, Started, Counted, initial, count, credit, WithinCredit};
-ghost use Rattle.amqp_link.specs.Figures.{Sends, CanStart, left_at, begun_at, behind_grant, behind_start, behind_drain, behind_told_count, drained_count};
+ghost use Rattle.amqp_link.specs.Figures.{Sends, CanStart, left_at, begun_at, after_grant, after_start, after_drain, after_told_count, drained_count};
 
 use crate::grant::Grant;
 use amqp_session::Serial;
@@ -30,7 +30,7 @@ impl SendEnd {
     /// Takes a flow of the receiver that has a link-credit. One without a delivery-count grants from the initial one.
     pub fn on_flow(&mut self, count: Option<Serial>, credit: u32)
         ensures fits { (t : Link) → Sends self.old t → Sends self.new (Granted count credit ∷ t) }
-        ensures figures { self.new ≡ behind_grant count credit self.old }
+        ensures figures { self.new ≡ after_grant count credit self.old }
     {
         self.granted = Some(Grant {
             count: count.unwrap_or(self.initial),
@@ -51,21 +51,21 @@ impl SendEnd {
         requires { CanStart self.old }
         ensures fits { (t : Link) → Sends self.old t → Sends self.new (Started ∷ t) }
         ensures within { (t : Link) → Sends self.old t → WithinCredit t → WithinCredit (Started ∷ t) }
-        ensures figures { self.new ≡ behind_start self.old }
+        ensures figures { self.new ≡ after_start self.old }
     {
         self.note_started();
     }
 
     /// Notes that a delivery was started, whatever credit is left: for a table that follows what was sent.
     pub fn note_started(&mut self)
-        ensures figures { self.new ≡ behind_start self.old }
+        ensures figures { self.new ≡ after_start self.old }
     {
         self.count = self.count.plus(1);
     }
 
     /// Notes that a flow of this end gave this delivery-count: for a table that follows what was sent.
     pub fn note_count(&mut self, count: Serial)
-        ensures figures { self.new ≡ behind_told_count count self.old }
+        ensures figures { self.new ≡ after_told_count count self.old }
     {
         self.count = count;
     }
@@ -77,7 +77,7 @@ impl SendEnd {
         ensures told { (t : Link) → Sends self.old t → result ≡ (count t + credit t) % 2 ^ 32 }
         ensures drained { (t : Link) → Sends self.old t → credit (Counted result ∷ t) ≡ 0 }
         ensures within { (t : Link) → Sends self.old t → WithinCredit t → WithinCredit (Counted result ∷ t) }
-        ensures figures { self.new ≡ behind_drain self.old }
+        ensures figures { self.new ≡ after_drain self.old }
         ensures tells { result ≡ drained_count self.old }
     {
         self.count = self.count.plus(self.left());

@@ -133,8 +133,8 @@ lesser a b h = by_test (nat_lt a b) (λ e. ltb-true a b e) (λ e. absurd (not_le
     not_less false h = absurd (cc)
 
 -- the distances on either side of the first
-behind_first : (first a b : ℕ) → first ≤ a → a < b → b < 2 ^ 32 → distance first a < distance first b
-behind_first first a b f l h = grind arith
+after_first : (first a b : ℕ) → first ≤ a → a < b → b < 2 ^ 32 → distance first a < distance first b
+after_first first a b f l h = grind arith
 
 before_first : (first last a b : ℕ) → last < first → first < 2 ^ 32 → a < b → b ≤ last → distance first a < distance first b
 before_first first last a b f s l h = grind arith
@@ -158,7 +158,7 @@ low_rising first high m small ordered = piece_rising first first high m goes ord
     goes : (a b : ℕ) → within first high a ≡ true → within first high b ≡ true → nat_cmp a b ≡ Less → by_distance first a b ≡ Less
     goes a b x y l =
         let top : b ≤ high = below first high b y in
-        less (distance first a) (distance first b) (behind_first first a b (above first high a x) (lesser a b l) (omega (arith, top, small)))
+        less (distance first a) (distance first b) (after_first first a b (above first high a x) (lesser a b l) (omega (arith, top, small)))
 
 high_rising : {X : Type 0} (first last : ℕ) (m : BTreeMap ℕ X) → last < first → first < 2 ^ 32 → IsOrdered nat_cmp m → IsRising first (filter (within 0 last) (keys_of m.entries))
 high_rising first last m wraps small ordered = piece_rising first 0 last m goes ordered

@@ -39,20 +39,20 @@ begun ours asked = record {
 }
 
 -- ... after a flow of the peer, ...
-abbrev pub behind_their_flow : FlowState → Window → Window
-behind_their_flow f w = record w {
+abbrev pub after_their_flow : FlowState → Window → Window
+after_their_flow f w = record w {
   remote_window = f.incoming_window - distance (unwrap_or f.next_incoming w.first_outgoing) w.next_outgoing;
   next_incoming = f.next_outgoing % 2 ^ 32;
 }
 
 -- ... a transfer of the peer, which doesn't count on the session beyond what the peer may send, ...
-abbrev pub behind_their_transfer : Window → Window
-behind_their_transfer w =
+abbrev pub after_their_transfer : Window → Window
+after_their_transfer w =
     if nat_eq w.allowance 0 then w else record w { next_incoming = (w.next_incoming + 1) % 2 ^ 32; allowance = w.allowance - 1 }
 
 -- ... a flow of this end, and a transfer of it
-abbrev pub behind_our_flow : ℕ → Window → Window
-behind_our_flow allowance w = record w { allowance = allowance }
+abbrev pub after_our_flow : ℕ → Window → Window
+after_our_flow allowance w = record w { allowance = allowance }
 
-abbrev pub behind_our_transfer : Window → Window
-behind_our_transfer w = record w { next_outgoing = (w.next_outgoing + 1) % 2 ^ 32; remote_window = w.remote_window - 1 }
+abbrev pub after_our_transfer : Window → Window
+after_our_transfer w = record w { next_outgoing = (w.next_outgoing + 1) % 2 ^ 32; remote_window = w.remote_window - 1 }

@@ -1,7 +1,7 @@
 //! The windows of one session.
 ghost use Rattle.std.specs.Prelude.{◌≡◌, ◌≤◌, ◌↔◌, ◌∷◌, Some, IsTrue, OnOk, OnErr};
 ghost use Rattle.amqp_session.specs.Session.{Session, OurBegin, TheirBegin, OurFlow, TheirFlow, OurTransfer, TheirTransfer, next_outgoing, next_incoming, remote_window, allowance, WindowKept};
-ghost use Rattle.amqp_session.specs.Figures.{Fits, CanSend, begun, behind_their_flow, behind_their_transfer, behind_our_flow, behind_our_transfer};
+ghost use Rattle.amqp_session.specs.Figures.{Fits, CanSend, begun, after_their_flow, after_their_transfer, after_our_flow, after_our_transfer};
 
 use crate::fault::SessionFault;
 use crate::serial::Serial;
@@ -53,7 +53,7 @@ impl Window {
     /// Notes that a transfer frame was sent, whether the peer's window had room for it or not.
     pub fn note_sent(&mut self)
         ensures fits { (t : Session) → Fits self.old t → Fits self.new (OurTransfer ∷ t) }
-        ensures figures { self.new ≡ behind_our_transfer self.old }
+        ensures figures { self.new ≡ after_our_transfer self.old }
     {
         self.next_outgoing = self.next_outgoing.plus(1);
         self.remote_window = self.remote_window.saturating_sub(1);
@@ -64,7 +64,7 @@ impl Window {
     pub fn received(&mut self) -> Result<(), SessionFault>
         ensures fits { (t : Session) → Fits self.old t → OnOk result (Fits self.new (TheirTransfer ∷ t)) }
         ensures beyond { (t : Session) → Fits self.old t → (OnErr result (allowance t ≡ 0)) × OnOk result (1 ≤ allowance t) }
-        ensures figures { self.new ≡ behind_their_transfer self.old }
+        ensures figures { self.new ≡ after_their_transfer self.old }
         ensures err { OnErr result (self.new ≡ self.old) }
     {
         if self.allowance == 0 {
@@ -78,7 +78,7 @@ impl Window {
     /// Takes what a flow of the peer says of its end.
     pub fn on_flow(&mut self, flow: FlowState)
         ensures fits { (t : Session) → Fits self.old t → Fits self.new (TheirFlow flow ∷ t) }
-        ensures figures { self.new ≡ behind_their_flow flow self.old }
+        ensures figures { self.new ≡ after_their_flow flow self.old }
     {
         let got = flow.next_incoming.unwrap_or(self.first_outgoing);
         let on_the_way = got.distance_to(self.next_outgoing);
@@ -95,7 +95,7 @@ impl Window {
           incoming_window = incoming_window;
           next_outgoing = next_outgoing t;
         } }
-        ensures figures { self.new ≡ behind_our_flow incoming_window self.old }
+        ensures figures { self.new ≡ after_our_flow incoming_window self.old }
         ensures tells { result ≡ record {
           next_incoming = Some self.old.next_incoming;
           incoming_window = incoming_window;

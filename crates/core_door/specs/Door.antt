@@ -111,8 +111,8 @@ turn d i = turn_at d d.stage i
 abbrev pub door : Door → Item → Verdict
 door d i = (turn d i).verdict
 
-abbrev pub door_behind : Door → Item → Door
-door_behind d i = record d { stage = (turn d i).stage }
+abbrev pub door_after : Door → Item → Door
+door_after d i = record d { stage = (turn d i).stage }
 
 -- an answer, by its content
 abbrev pub verdict_of : DoorAnswer → Verdict

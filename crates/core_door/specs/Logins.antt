@@ -9,7 +9,7 @@ use Rattle.route_table.specs.declared.sections.Listener.{Listener}
 use Rattle.route_table.specs.Settings.{Settings}
 use Rattle.router_trace.specs.Frames.{header_item}
 use Rattle.core_door.specs.declared.door.Door.{Door}
-use Rattle.core_door.specs.Door.{Verdict, says, passes, ends, door, door_behind, door_of, logins_of, sasl_header}
+use Rattle.core_door.specs.Door.{Verdict, says, passes, ends, door, door_after, door_of, logins_of, sasl_header}
 
 -- the user that a connection passes as with these items, if it passes
 abbrev pub user_by : Verdict → Option (List ℕ) → Option (List ℕ)
@@ -19,7 +19,7 @@ user_by (ends items) later = None
 
 abbrev pub user_past : Door → List Item → Option (List ℕ)
 user_past d [] = None
-user_past d (i ∷ is) = user_by (door d i) (user_past (door_behind d i) is)
+user_past d (i ∷ is) = user_by (door d i) (user_past (door_after d i) is)
 
 -- it begins with the AMQP header at a listener that needs no login, and is `anonymous`
 pub record ComesPlain (listener : Listener) (items : List Item) (user : List ℕ) : Type 0 where

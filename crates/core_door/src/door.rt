@@ -2,7 +2,7 @@
 ghost use Rattle.std.specs.Prelude.{◌≡◌, ◌∷◌, [], codes, map, OnOk, OnErr, IfOk};
 ghost use Rattle.amqp_sasl.specs.Names.{name_of};
 ghost use Rattle.router_trace.specs.Frames.{header_item};
-ghost use Rattle.core_door.specs.Door.{door, door_behind, turn, turn_at, turn_of, first, last, told, over, lets_in, goes_on, protocol_of, sasl_header, sasl_frame, offer, outcome, refused_by, door_of, user_of, mechanism_of, role_of, verdict_of};
+ghost use Rattle.core_door.specs.Door.{door, door_after, turn, turn_at, turn_of, first, last, told, over, lets_in, goes_on, protocol_of, sasl_header, sasl_frame, offer, outcome, refused_by, door_of, user_of, mechanism_of, role_of, verdict_of};
 ghost use Rattle.core_door.specs.declared.door.Stage.TheVariants as stage;
 
 use amqp_model::{Item, Perf, SaslOutcome, Text};
@@ -92,7 +92,7 @@ impl Door {
     /// else ends the connection; a first header gets an answer. If memory is refused, nothing is changed.
     pub fn step(&mut self, alloc: Global, item: &Item) -> Result<DoorAnswer, AllocError>
         ensures answer { IfOk result (λ a. verdict_of a ≡ door self.old item.now) }
-        ensures stage { OnOk result (self.new ≡ door_behind self.old item.now) }
+        ensures stage { OnOk result (self.new ≡ door_after self.old item.now) }
         ensures err { OnErr result (self.new ≡ self.old) }
     {
         let Answered { answer, stage } = self.turn(alloc, item)?;

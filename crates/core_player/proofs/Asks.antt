@@ -13,7 +13,7 @@ use Rattle.core_player.specs.declared.socket.Socket.{Socket}
 use Rattle.core_player.specs.declared.socket.Asked.{Asked}
 use Rattle.core_player.specs.declared.socket.Asked.TheVariants as asked
 use Rattle.core_player.specs.declared.player.Player.{Player}
-use Rattle.core_door.specs.Door.{Verdict, says, passes, ends, door, door_behind}
+use Rattle.core_door.specs.Door.{Verdict, says, passes, ends, door, door_after}
 use Rattle.core_player.specs.Script.{Scene, with_socket, say_all, say, out_line, hand, enter, enter_by, enter_at, judged_by}
 use Rattle.core_player.specs.Asking.{IsAskedAt, IsVerdict, AsksAt, behind, follow}
 use Rattle.router_trace.specs.Trace.{Trace}
@@ -46,14 +46,14 @@ module _ {M : Type 0} (m : Meaning M) where
       → ((n : ℕ) → seen (old n) ≡ seen (s.sockets n)) → look_at l ≡ look_at k → IsVerdict i l d v after a → ((n : ℕ) → new n ≡ (if c.0 == n then behind a after else old n))
       → Asks c i new a s (judged_by m.next c i k d s v)
   judged c i old new (asked.Say ys) s k l after d (says items) same one is up = record {
-    after = with_socket c (Some (record { door = Some (door_behind d i); reader = k.reader })) s;
+    after = with_socket c (Some (record { door = Some (door_after d i); reader = k.reader })) s;
     id = refl;
     config = refl;
     trace = refl;
     last = refl;
     lines = refl;
-    sockets = changed c.0 old new s.sockets (Some after) _ same up (with_door after l k (Some (door_behind d i)) is.1 one);
-    leads = ap (λ zs. say_all (map (out_line c) zs) (with_socket c (Some (record { door = Some (door_behind d i); reader = k.reader })) s)) is.0;
+    sockets = changed c.0 old new s.sockets (Some after) _ same up (with_door after l k (Some (door_after d i)) is.1 one);
+    leads = ap (λ zs. say_all (map (out_line c) zs) (with_socket c (Some (record { door = Some (door_after d i); reader = k.reader })) s)) is.0;
   }
   judged c i old new (asked.Pass peer) s k l after d (passes user) same one is up = record {
     after = with_socket c (Some (record { door = None; reader = k.reader })) s;

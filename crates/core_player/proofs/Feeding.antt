@@ -12,7 +12,7 @@ use Rattle.router_trace.specs.declared.event.Event.TheVariants as event
 use Rattle.router_trace.specs.Trace.{step_of}
 use Rattle.router_trace.specs.Refusing.{refuses}
 use Rattle.core_door.specs.declared.door.Door.{Door as DoorState}
-use Rattle.core_door.specs.Door.{Verdict, says, passes, ends, door, door_behind}
+use Rattle.core_door.specs.Door.{Verdict, says, passes, ends, door, door_after}
 use Rattle.state_connections.proofs.Lists.{by_test}
 use Rattle.core_player.specs.declared.line.Line.TheVariants as line
 use Rattle.core_player.specs.declared.socket.Socket.{Socket}
@@ -59,7 +59,7 @@ module _ {M : Type 0} (m : Meaning M) where
 
   flow_judged : (c : ConnectionId) (r : List ℕ) (b : Bool) (i : Item) (k : Socket) (d : DoorState) (s : Scene) (v : Verdict)
       → flow c r b (judged_by m.next c i k d s v) ≡ judged_by m.next c i (stream_of k r b) d (flow c r b s) v
-  flow_judged c r b i k d s (says items) = ap (say_all (map (out_line c) items)) (flow_socket c r b (Some (record { door = Some (door_behind d i); reader = k.reader })) s)
+  flow_judged c r b i k d s (says items) = ap (say_all (map (out_line c) items)) (flow_socket c r b (Some (record { door = Some (door_after d i); reader = k.reader })) s)
   flow_judged c r b i k d s (passes user) =
       let inside : Scene = with_socket c (Some (record { door = None; reader = k.reader })) s
       in let up : Event = event.Up c (record { user = user; role = d.role })
@@ -125,12 +125,12 @@ module _ {M : Type 0} (m : Meaning M) where
 
   -- Bytes that were read on an open connection, and then more of them.
 
-  -- the scene behind them
+  -- the scene after them
   behind : (c : ConnectionId) (s v : Scene) (k : Socket) (e : Bool) (xs : List Item) (mid : List ℕ) → s.sockets c.0 ≡ Some k → v ≡ enter_all m.next c xs (with_socket c (Some (stream_of k mid e)) s)
       → v ≡ flow c mid e (enter_all m.next c xs s)
   behind c s v k e xs mid is so = so ∙ ap (enter_all m.next c xs) (flow_open c k mid e s is) ∙ sym (flow_all c mid e xs s)
 
-  -- the connection's reader behind them
+  -- the connection's reader after them
   keeping : (c : ConnectionId) (a : List ℕ) (s v : Scene) (k : Socket) (h : Reads m.next c a s k false v) → Keeps h.2 h.0 (v.sockets c.0)
   keeping c a s v k h =
       let here : (c.0 == c.0) ≡ true = same c.0
@@ -277,7 +277,7 @@ module _ {M : Type 0} (m : Meaning M) where
   piece_read c piece s None p q items read enters = absurd read
   piece_read c piece s (Some k) p q items read enters = piece_one c piece s k k.reader.failed p q items refl read enters
 
-  -- a piece behind others
+  -- a piece after others
   pub next_piece : (c : ConnectionId) (a piece : List ℕ) (s v : Scene) (k : Socket) (p q : Player M) (items : List Item) → s.sockets c.0 ≡ Some k → Reads m.next c a s k false v
       → IsRead m c piece v (v.sockets c.0) p (Some items) → ((w : Scene) → Follows m p w → Follows m q (enter_all m.next c items w))
       → (u : Scene) × Reads m.next c (a ++ piece) s k false u × Follows m q u

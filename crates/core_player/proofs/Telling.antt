@@ -9,16 +9,16 @@ use Rattle.core_player.specs.declared.line.Line.{Line}
 use Rattle.core_player.specs.declared.line.Line.TheVariants as line
 use Rattle.core_player.specs.declared.player.Player.{Player}
 use Rattle.core_player.specs.Playing.{Said, Tells}
-use Rattle.core_player.specs.Telling.{TellsOf, fault_behind}
+use Rattle.core_player.specs.Telling.{TellsOf, fault_after}
 
 -- more lines tell of it too
 pub tells_more : (fault : Option CoreFault) (ls more : List Line) → TellsOf fault ls → TellsOf fault (ls ++ more)
 tells_more None ls more told = tt
 tells_more (Some f) ls more told = Contains-append_left ls more (line.Failed f) told
 
-pub tells_behind : (fault : Option CoreFault) (before ls : List Line) → TellsOf fault ls → TellsOf fault (before ++ ls)
-tells_behind None before ls told = tt
-tells_behind (Some f) before ls told = Contains-append_right before ls (line.Failed f) told
+pub tells_after : (fault : Option CoreFault) (before ls : List Line) → TellsOf fault ls → TellsOf fault (before ++ ls)
+tells_after None before ls told = tt
+tells_after (Some f) before ls told = Contains-append_right before ls (line.Failed f) told
 
 -- the last line tells of a fault
 last_tells : (fault : CoreFault) (ls : List Line) → Contains (ls ++ line.Failed fault ∷ []) (line.Failed fault)
@@ -57,7 +57,7 @@ module _ {M : Type 0} (m : Meaning M) where
 
   -- a router that answered with a fault: it is kept and told m.next if it failed by it
   pub fault_tells : (p q r : Player M) (fault : CoreFault) → (fault ≡ NoConnection → q.core ≡ p.core) → (fault ≡ Failed → q.core ≡ p.core)
-      → q.lines ≡ p.lines → q.fault ≡ p.fault → r.fault ≡ fault_behind q.fault fault → Said q r (line.Failed fault ∷ []) → Tells m p → Tells m r
+      → q.lines ≡ p.lines → q.fault ≡ p.fault → r.fault ≡ fault_after q.fault fault → Said q r (line.Failed fault ∷ []) → Tells m p → Tells m r
   fault_tells p q r NoConnection refused failed lines same kept said h =
       said_tells p r (line.Failed NoConnection) (said.lines ∙ ap (λ l. l.items ++ line.Failed NoConnection ∷ []) lines) (said.core ∙ refused refl) (kept ∙ same) h
   fault_tells p q r Failed refused failed lines same kept said h =

@@ -10,11 +10,11 @@ use Rattle.core_door.specs.declared.door.Door.{Door as DoorState}
 use Rattle.core_player.specs.declared.socket.Socket.{Socket}
 use Rattle.core_player.specs.declared.socket.Asked.{Asked}
 use Rattle.core_player.specs.declared.socket.Asked.TheVariants as asked
-use Rattle.core_door.specs.Door.{Verdict, says, passes, ends, door, door_behind}
+use Rattle.core_door.specs.Door.{Verdict, says, passes, ends, door, door_after}
 
 -- the answer is the door's verdict
 abbrev pub IsVerdict : Item → Socket → DoorState → Verdict → Socket → Asked → Type 0
-IsVerdict i k d (says items) new (asked.Say ys) = (ys.items ≡ items) × (new ≡ record { door = Some (door_behind d i); reader = k.reader })
+IsVerdict i k d (says items) new (asked.Say ys) = (ys.items ≡ items) × (new ≡ record { door = Some (door_after d i); reader = k.reader })
 IsVerdict i k d (passes user) new (asked.Pass peer) = (peer ≡ record { user = user; role = d.role }) × (new ≡ record { door = None; reader = k.reader })
 IsVerdict i k d (ends items) new (asked.End ys) = ys.items ≡ items
 IsVerdict i k d verdict new answer = ⊥

@@ -80,7 +80,7 @@ IsRead m c bytes s None p None = Follows m p s
 IsRead m c bytes s None p (Some items) = ⊥
 IsRead m c bytes s (Some k) p read = IsReadOne m c bytes s k k.reader.failed p read
 
--- bytes were read behind others of the same step: where the player agreed with what those lead to, it agrees now with what both lead to
+-- bytes were read after others of the same step: where the player agreed with what those lead to, it agrees now with what both lead to
 abbrev pub Continues : {M : Type 0} → Meaning M → ConnectionId → List ℕ → Player M → Player M → Type 0
 Continues m c bytes old new =
     (s v : Scene) (k : Socket) (before : List ℕ) → s.sockets c.0 ≡ Some k → Reads m.next c before s k false v → Follows m old v → (u : Scene) × Reads m.next c (before ++ bytes) s k false u × Follows m new u

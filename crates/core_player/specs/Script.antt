@@ -13,7 +13,7 @@ use Rattle.router_trace.specs.Trace.{Trace, Beginning, Step as Handled, step_of}
 use Rattle.router_trace.specs.Connection.{Connection, conn, took, is_ready}
 use Rattle.router_trace.specs.Refusing.{refuses, rises}
 use Rattle.core_door.specs.declared.door.Door.{Door as DoorState}
-use Rattle.core_door.specs.Door.{Verdict, says, passes, ends, door, door_behind}
+use Rattle.core_door.specs.Door.{Verdict, says, passes, ends, door, door_after}
 use Rattle.core_machine.specs.declared.fault.CoreFault.TheVariants.{NoConnection}
 use Rattle.core_machine.specs.Meaning.{Meaning}
 use Rattle.core_machine.specs.Moves.{IsNext, Taking, items_of, took_one}
@@ -77,7 +77,7 @@ hand next e s = if refuses s.trace e then say refused s else with_trace (next s.
 -- the effect of the door's verdict on an item
 abbrev pub judged_by : Next → ConnectionId → Item → Socket → DoorState → Scene → Verdict → Scene
 judged_by next c i k d s (says items) =
-    say_all (map (out_line c) items) (with_socket c (Some (record { door = Some (door_behind d i); reader = k.reader })) s)
+    say_all (map (out_line c) items) (with_socket c (Some (record { door = Some (door_after d i); reader = k.reader })) s)
 judged_by next c i k d s (passes user) =
     hand next (event.Item c i) (hand next (event.Up c (record { user = user; role = d.role })) (with_socket c (Some (record { door = None; reader = k.reader })) s))
 judged_by next c i k d s (ends items) = say (line.End c) (say_all (map (out_line c) items) (with_socket c None s))

@@ -6,11 +6,11 @@ use Rattle.core_player.specs.declared.line.Line.{Line}
 use Rattle.core_player.specs.declared.line.Line.TheVariants as line
 
 -- the fault with which a router failed, once it has answered with this fault
-abbrev pub fault_behind : Option CoreFault → CoreFault → Option CoreFault
-fault_behind old Disk = Some Disk
-fault_behind old Memory = Some Memory
-fault_behind old Failed = old
-fault_behind old NoConnection = old
+abbrev pub fault_after : Option CoreFault → CoreFault → Option CoreFault
+fault_after old Disk = Some Disk
+fault_after old Memory = Some Memory
+fault_after old Failed = old
+fault_after old NoConnection = old
 
 -- if a router failed, these lines say with which fault
 abbrev pub TellsOf : Option CoreFault → List Line → Type 0

@@ -9,7 +9,7 @@ ghost use Rattle.core_machine.specs.Turns.{is_start};
 ghost use Rattle.core_player.specs.Script.{Scene, IsFresh, opening, refused, out_line, say_all, hand, enter, enter_all, BytesCome, make, lose, Takes, take_one, close_if, Flushes, Plays};
 ghost use Rattle.core_player.specs.Asking.{follow};
 ghost use Rattle.core_player.specs.Playing.{Begun, Follows, Said, Tells, IsRead, Continues, part_by};
-ghost use Rattle.core_player.specs.Telling.{TellsOf, fault_behind};
+ghost use Rattle.core_player.specs.Telling.{TellsOf, fault_after};
 ghost use Rattle.core_player.specs.declared.line.Line.TheVariants as line;
 ghost use Rattle.core_player.specs.declared.line.Line.{Line as ALine};
 
@@ -132,7 +132,7 @@ impl<'a, M: Fused> Player<'a, M> {
     fn fail(&mut self, fault: CoreFault) -> Result<(), AllocError>
         ensures said { OnOk result (Said self.old self.new (line.Failed fault ∷ [])) }
         ensures core { self.new.core ≡ self.old.core }
-        ensures kept { self.new.fault ≡ fault_behind self.old.fault fault }
+        ensures kept { self.new.fault ≡ fault_after self.old.fault fault }
     {
         self.fault = match fault {
             CoreFault::Disk | CoreFault::Memory => Some(fault),

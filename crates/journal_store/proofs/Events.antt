@@ -26,16 +26,16 @@ use Rattle.journal_store.specs.declared.acting.TerminusAct.{TerminusAct}
 use Rattle.journal_store.specs.declared.acting.TerminusAct.TheVariants as terminus
 use Rattle.book_model.specs.Made.{IsMade}
 use Rattle.journal_store.specs.Writable.{Writable}
-use Rattle.journal_store.specs.Settling.{lets_go_behind}
+use Rattle.journal_store.specs.Settling.{lets_go_after}
 use Rattle.journal_store.specs.Acting.{outcome_for, is_among, journal_outcome, decision, decide_row, forget_row, decides, forgets, settles, unless_refused, terminus_acts, event_acts, admission_acts}
 use Rattle.journal_store.proofs.Few.{few_acts, holds, next_holds}
 use Rattle.journal_store.proofs.Makes.{applies_more}
 use Rattle.journal_store.proofs.Merging.{number_of_row}
 use Rattle.journal_store.proofs.Ones.{one_applies, make_short}
-use Rattle.journal_store.proofs.Released.{lets_go_as_behind}
+use Rattle.journal_store.proofs.Released.{lets_go_as_after}
 use Rattle.journal_store.proofs.Settled.{written_is_outcome, written_is_short, settles_leave}
 
--- Two lists of acts, one behind the other.
+-- Two lists of acts, one after the other.
 bytes_more : (first more : List Act) → length (acts_bytes (first ++ more)) ≡ length (acts_bytes first) + length (acts_bytes more)
 bytes_more [] more = omega arith
 bytes_more (act ∷ first) more =
@@ -231,10 +231,10 @@ module _ (b : BookView) (ds : List Decision) (numbers : List RowNumber) (up : Ri
   make_asked : (t : Terminus) (r : Option BookFault) → r ≡ make_refusal b t → asked (Some (terminus.Make t)) ≡ unless_refused (is_none r) (Make t)
   make_asked t r is = ap (λ (x : BookView). unless_refused (is_none (make_refusal x t)) (Make t)) (settles_leave b ds numbers up).is ∙ ap (λ (o : Option BookFault). unless_refused (is_none o) (Make t)) (sym is)
 
-  drop_asked : (n : TerminusNumber) (g : Bool) → g ≡ lets_go_behind b ds numbers n → asked (Some (terminus.Drop n)) ≡ unless_refused g (Drop n)
+  drop_asked : (n : TerminusNumber) (g : Bool) → g ≡ lets_go_after b ds numbers n → asked (Some (terminus.Drop n)) ≡ unless_refused g (Drop n)
   drop_asked n g is =
       ap (λ (x : BookView). unless_refused (is_none (drop_refusal (terminus_at n.0 x.termini) x.rows)) (Drop n)) (settles_leave b ds numbers up).is
-      ∙ ap (λ (v : Bool). unless_refused v (Drop n)) (sym (is ∙ lets_go_as_behind ds numbers b.rows (terminus_at n.0 b.termini)))
+      ∙ ap (λ (v : Bool). unless_refused v (Drop n)) (sym (is ∙ lets_go_as_after ds numbers b.rows (terminus_at n.0 b.termini)))
 
   refused_none : (o : Option BookFault) (act : Act) → is_some o ≡ true → unless_refused (is_none o) act ≡ []
   refused_none None act e = absurd cc
@@ -251,8 +251,8 @@ module _ (b : BookView) (ds : List Decision) (numbers : List RowNumber) (up : Ri
   pub make_added : (t : Terminus) (r : Option BookFault) → r ≡ make_refusal b t → is_some r ≡ false → Make t ∷ [] ≡ terminus_acts (effects b (settles b ds numbers)) (Some (terminus.Make t))
   make_added t r is fine = sym (make_asked t r is ∙ not_refused r (Make t) fine)
 
-  pub drop_left : (n : TerminusNumber) (g : Bool) (acts : List Act) → g ≡ lets_go_behind b ds numbers n → g ≡ false → acts ≡ acts ++ terminus_acts (effects b (settles b ds numbers)) (Some (terminus.Drop n))
+  pub drop_left : (n : TerminusNumber) (g : Bool) (acts : List Act) → g ≡ lets_go_after b ds numbers n → g ≡ false → acts ≡ acts ++ terminus_acts (effects b (settles b ds numbers)) (Some (terminus.Drop n))
   drop_left n g acts is kept = sym (ap (λ (xs : List Act). acts ++ xs) (drop_asked n g is ∙ ap (λ (v : Bool). unless_refused v (Drop n)) kept) ∙ append-nil acts)
 
-  pub drop_added : (n : TerminusNumber) (g : Bool) → g ≡ lets_go_behind b ds numbers n → g ≡ true → Drop n ∷ [] ≡ terminus_acts (effects b (settles b ds numbers)) (Some (terminus.Drop n))
+  pub drop_added : (n : TerminusNumber) (g : Bool) → g ≡ lets_go_after b ds numbers n → g ≡ true → Drop n ∷ [] ≡ terminus_acts (effects b (settles b ds numbers)) (Some (terminus.Drop n))
   drop_added n g is free = sym (drop_asked n g is ∙ ap (λ (v : Bool). unless_refused v (Drop n)) free)

@@ -98,12 +98,12 @@ pub nothing_done : (b : BookView) (acts : List Act) → acts ≡ [] → b ≡ ef
 unfolding effects
 nothing_done b acts none = subst (λ (xs : List Act). b ≡ effects b xs) (sym none) refl
 
--- what is kept free behind acts, of a book that acts made
+-- what is kept free after acts, of a book that acts made
 made_is_ordered : (b : BookView) → IsMade b → IsOrdered b
 made_is_ordered b made = subst IsOrdered (sym made.2) (made_ordered made.0 made.1)
 
-pub kept_behind : (b given : BookView) (acts : List Act) (old new : ℕ) → ∥ IsMade b ∥₁ → given ≡ b
+pub kept_after : (b given : BookView) (acts : List Act) (old new : ℕ) → ∥ IsMade b ∥₁ → given ≡ b
     → (IsOrdered given → old ≡ reserve given → new ≡ reserve (effects given acts)) → old ≡ reserve b → new ≡ reserve (effects b acts)
-kept_behind b given acts old new made same behind was =
+kept_after b given acts old new made same behind was =
     let P : BookView → Type 0 = λ x. IsOrdered x → old ≡ reserve x → new ≡ reserve (effects x acts) in
     ∥∥₁_elim made (ℕ_set new (reserve (effects b acts))) (λ m. subst P same behind (made_is_ordered b m) was)

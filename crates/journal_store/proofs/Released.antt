@@ -1,4 +1,4 @@
--- Which rows still keep their terminus behind an event's decisions and what it forgets.
+-- Which rows still keep their terminus after an event's decisions and what it forgets.
 use Rattle.std.proofs.Common.{◌≡◌, ◌∙◌, sym, ap, refl, ℕ, ◌&&◌, ◌||◌, Bool, true, false, cond, not, List, [], ◌∷◌, Option, Some, None}
 use Rattle.std.specs.Prelude.{filter, filter_map, is_none, is_some, if◌then◌else◌}
 use Rattle.std.specs.List.{cons_option, list_any}
@@ -11,8 +11,8 @@ use Rattle.book_model.specs.declared.terminus.LinkRole.{LinkRole}
 use Rattle.book_model.specs.declared.terminus.LinkRole.TheVariants.{Producer, Consumer}
 use Rattle.book_model.specs.declared.terminus.Terminus.{Terminus}
 use Rattle.book_model.specs.Book.{unless, drop_refusal, is_from, is_for, is_of, is_undecided, keeps, forgotten}
-use Rattle.journal_store.specs.Acting.{outcome_for, is_among, journal_outcome, decided_to, decided_by, forgotten_by, rows_behind}
-use Rattle.journal_store.specs.Settling.{keeps_behind, lets_go_by}
+use Rattle.journal_store.specs.Acting.{outcome_for, is_among, journal_outcome, decided_to, decided_by, forgotten_by, rows_after}
+use Rattle.journal_store.specs.Settling.{keeps_after, lets_go_by}
 use Rattle.journal_store.proofs.Merging.{number_of_row}
 
 module _ {V : Type 0} where
@@ -87,20 +87,20 @@ abbrev decided_if : Bool → Option DeliveryState → Row → Option Row
 decided_if u o r = if u then decided_to o r else Some r
 
 decided_producer : (ds : List Decision) (numbers : List RowNumber) (n : ℕ) (r : Row)
-    → passes (λ s. keeps Producer n s && not (is_among (number_of_row s) numbers)) (decided_by ds r) ≡ keeps_behind ds numbers Producer n r
+    → passes (λ s. keeps Producer n s && not (is_among (number_of_row s) numbers)) (decided_by ds r) ≡ keeps_after ds numbers Producer n r
 decided_producer ds numbers n r = by_both (is_undecided r) (outcome_for (number_of_row r) ds)
   where
     by_forgotten : (x : DeliveryState) (f : Bool) → r.forgotten ≡ f
-        → passes (λ s. keeps Producer n s && not (is_among (number_of_row s) numbers)) (if f then None else Some (record r { outcome = Some x })) ≡ keeps_behind ds numbers Producer n r
+        → passes (λ s. keeps Producer n s && not (is_among (number_of_row s) numbers)) (if f then None else Some (record r { outcome = Some x })) ≡ keeps_after ds numbers Producer n r
     by_forgotten x true is = sym (ap (λ b. (is_from n r && not b) && not (is_among (number_of_row r) numbers)) is ∙ ap (λ b. b && not (is_among (number_of_row r) numbers)) (not_both (is_from n r)))
     by_forgotten x false is = refl
 
-    by_both : (u : Bool) (o : Option DeliveryState) → passes (λ s. keeps Producer n s && not (is_among (number_of_row s) numbers)) (decided_if u o r) ≡ keeps_behind ds numbers Producer n r
+    by_both : (u : Bool) (o : Option DeliveryState) → passes (λ s. keeps Producer n s && not (is_among (number_of_row s) numbers)) (decided_if u o r) ≡ keeps_after ds numbers Producer n r
     by_both false o = refl
     by_both true None = refl
     by_both true (Some outcome) = by_forgotten (journal_outcome outcome) r.forgotten refl
 
-decided_consumer : (ds : List Decision) (numbers : List RowNumber) (n : ℕ) (r : Row) → passes (keeps Consumer n) (decided_by ds r) ≡ keeps_behind ds numbers Consumer n r
+decided_consumer : (ds : List Decision) (numbers : List RowNumber) (n : ℕ) (r : Row) → passes (keeps Consumer n) (decided_by ds r) ≡ keeps_after ds numbers Consumer n r
 decided_consumer ds numbers n r = by_both (is_undecided r) refl (outcome_for (number_of_row r) ds)
   where
     by_forgotten : (x : DeliveryState) (f : Bool) → passes (keeps Consumer n) (if f then None else Some (record r { outcome = Some x })) ≡ false
@@ -117,7 +117,7 @@ decided_consumer ds numbers n r = by_both (is_undecided r) refl (outcome_for (nu
 abbrev left_behind : List Decision → List RowNumber → LinkRole → ℕ → Row → Bool
 left_behind ds numbers role n r = passes (λ s. passes (keeps role n) (forgotten_by numbers s)) (decided_by ds r)
 
-kept : (ds : List Decision) (numbers : List RowNumber) (role : LinkRole) (n : ℕ) (r : Row) → left_behind ds numbers role n r ≡ keeps_behind ds numbers role n r
+kept : (ds : List Decision) (numbers : List RowNumber) (role : LinkRole) (n : ℕ) (r : Row) → left_behind ds numbers role n r ≡ keeps_after ds numbers role n r
 kept ds numbers Producer n r =
     same_passes (λ s. passes (keeps Producer n) (forgotten_by numbers s)) (λ s. keeps Producer n s && not (is_among (number_of_row s) numbers)) (forgotten_producer numbers n) (decided_by ds r)
     ∙ decided_producer ds numbers n r
@@ -125,24 +125,24 @@ kept ds numbers Consumer n r =
     same_passes (λ s. passes (keeps Consumer n) (forgotten_by numbers s)) (keeps Consumer n) (forgotten_consumer numbers n) (decided_by ds r)
     ∙ decided_consumer ds numbers n r
 
-any_behind : (ds : List Decision) (numbers : List RowNumber) (role : LinkRole) (n : ℕ) (rs : List Row) → list_any (keeps role n) (rows_behind ds numbers rs) ≡ list_any (keeps_behind ds numbers role n) rs
-any_behind ds numbers role n rs =
+any_after : (ds : List Decision) (numbers : List RowNumber) (role : LinkRole) (n : ℕ) (rs : List Row) → list_any (keeps role n) (rows_after ds numbers rs) ≡ list_any (keeps_after ds numbers role n) rs
+any_after ds numbers role n rs =
     any_left (keeps role n) (forgotten_by numbers) (filter_map (decided_by ds) rs)
     ∙ any_left (λ s. passes (keeps role n) (forgotten_by numbers s)) (decided_by ds) rs
-    ∙ same_any (left_behind ds numbers role n) (keeps_behind ds numbers role n) (kept ds numbers role n) rs
+    ∙ same_any (left_behind ds numbers role n) (keeps_after ds numbers role n) (kept ds numbers role n) rs
 
--- the test by the rows of the book says what the book behind them says
-pub lets_go_as_behind : (ds : List Decision) (numbers : List RowNumber) (rs : List Row) (o : Option Terminus) → lets_go_by rs ds numbers o ≡ is_none (drop_refusal o (rows_behind ds numbers rs))
-lets_go_as_behind ds numbers rs None = refl
-lets_go_as_behind ds numbers rs (Some t) =
-    ap not (sym (any_behind ds numbers t.key.role t.number.0 rs)) ∙ by_any (list_any (keeps t.key.role t.number.0) (rows_behind ds numbers rs))
+-- the test by the rows of the book says what the book after them says
+pub lets_go_as_after : (ds : List Decision) (numbers : List RowNumber) (rs : List Row) (o : Option Terminus) → lets_go_by rs ds numbers o ≡ is_none (drop_refusal o (rows_after ds numbers rs))
+lets_go_as_after ds numbers rs None = refl
+lets_go_as_after ds numbers rs (Some t) =
+    ap not (sym (any_after ds numbers t.key.role t.number.0 rs)) ∙ by_any (list_any (keeps t.key.role t.number.0) (rows_after ds numbers rs))
   where
     by_any : (b : Bool) → not b ≡ is_none (unless (not b) NoTerminus None)
     by_any true = refl
     by_any false = refl
 
 -- a row that still keeps a terminus is one of that terminus
-walked : (ds : List Decision) (numbers : List RowNumber) (role : LinkRole) (n : ℕ) (r : Row) → is_of n r ≡ false → keeps_behind ds numbers role n r ≡ false
+walked : (ds : List Decision) (numbers : List RowNumber) (role : LinkRole) (n : ℕ) (r : Row) → is_of n r ≡ false → keeps_after ds numbers role n r ≡ false
 walked ds numbers Producer n r out = by_test (is_from n r) out
   where
     by_test : (k : Bool) → (k || is_for n r) ≡ false → (k && not r.forgotten && not (is_among (number_of_row r) numbers)) ≡ false
@@ -156,5 +156,5 @@ walked ds numbers Consumer n r out = by_test (is_from n r) (is_for n r) out
     by_test false false e = refl
 
 pub any_of_terminus : (ds : List Decision) (numbers : List RowNumber) (role : LinkRole) (n : ℕ) (rs : List Row)
-    → list_any (keeps_behind ds numbers role n) (filter (is_of n) rs) ≡ list_any (keeps_behind ds numbers role n) rs
-any_of_terminus ds numbers role n rs = any_walked (keeps_behind ds numbers role n) (is_of n) (walked ds numbers role n) rs
+    → list_any (keeps_after ds numbers role n) (filter (is_of n) rs) ≡ list_any (keeps_after ds numbers role n) rs
+any_of_terminus ds numbers role n rs = any_walked (keeps_after ds numbers role n) (is_of n) (walked ds numbers role n) rs

@@ -40,12 +40,12 @@ before_more [] None r rs same above all = tt
 before_more [] (Some s) r rs same above all = (let P : ℕ → Type 0 = λ n. AllAbove number_of_row n rs in subst P (sym (same s refl)) above, tt)
 before_more (d ∷ ds) o r rs same above all = (all.0, before_more ds o r rs same above all.1)
 
--- the row is found behind those that are below it
-found_behind : (ds : List Row) (r : Row) (rs : List Row) → AllBefore ds (r ∷ rs) → row_at (number_of_row r) (ds ++ r ∷ rs) ≡ Some r
-found_behind [] r rs all = rw (same_number (number_of_row r)) refl
-found_behind (d ∷ ds) r rs all =
+-- the row is found after those that are below it
+found_after : (ds : List Row) (r : Row) (rs : List Row) → AllBefore ds (r ∷ rs) → row_at (number_of_row r) (ds ++ r ∷ rs) ≡ Some r
+found_after [] r rs all = rw (same_number (number_of_row r)) refl
+found_after (d ∷ ds) r rs all =
     let other : (number_of_row d == number_of_row r) ≡ false = lower (number_of_row d) (number_of_row r) all.0.0 in
-    rw other (found_behind ds r rs all.1)
+    rw other (found_after ds r rs all.1)
 
 higher : (a n : ℕ) → n < a → (a == n) ≡ false
 higher a n l = grind (arith, nat_tests)
@@ -61,13 +61,13 @@ option_in_front : (o : Option Row) (rs : List Row) → cons_option o rs ≡ list
 option_in_front None rs = refl
 option_in_front (Some r) rs = refl
 
-changed_behind : (change : Row → Option Row) (ds : List Row) (r : Row) (rs : List Row) → AllBefore ds (r ∷ rs) → AllAbove number_of_row (number_of_row r) rs
+changed_after : (change : Row → Option Row) (ds : List Row) (r : Row) (rs : List Row) → AllBefore ds (r ∷ rs) → AllAbove number_of_row (number_of_row r) rs
     → with_row (number_of_row r) change (ds ++ r ∷ rs) ≡ ds ++ (listed (change r) ++ rs)
-changed_behind change [] r rs all above =
+changed_after change [] r rs all above =
     rw (same_number (number_of_row r)) (ap (cons_option (change r)) (above_stay (number_of_row r) change rs above) ∙ option_in_front (change r) rs)
-changed_behind change (d ∷ ds) r rs all above =
+changed_after change (d ∷ ds) r rs all above =
     let other : (number_of_row d == number_of_row r) ≡ false = lower (number_of_row d) (number_of_row r) all.0.0 in
-    rw other (ap (λ (xs : List Row). d ∷ xs) (changed_behind change ds r rs all.1 above))
+    rw other (ap (λ (xs : List Row). d ∷ xs) (changed_after change ds r rs all.1 above))
 
 none_first : (o rest : Option BookFault) → o ≡ None → rest ≡ None → or_else o rest ≡ None
 none_first o rest first others = rw first others
@@ -99,12 +99,12 @@ module _ (act : Row → Option Act) (after : Row → Option Row) (does : (r : Ro
           let rows : (effect b a).rows ≡ (done ++ listed now) ++ rs =
           ap (λ (x : BookView). x.rows) (c.does b)
           ∙ ap (with_row (number_of_row r) c.change) is
-          ∙ changed_behind c.change done r rs low up.0
+          ∙ changed_after c.change done r rs low up.0
           ∙ ap (λ (n : Option Row). done ++ (listed n ++ rs)) c.leaves
           ∙ sym (append_assoc done (listed now) rs) in
           let behind = rest (done ++ listed now) (effect b a) rows up.1 (before_more done now r rs number up.0 (before_rest done r rs low)) in
           record {
-            applies = none_first (refusal b a) (first_fault (effect b a) (filter_map act rs)) (c.applies b (ap (row_at (number_of_row r)) is ∙ found_behind done r rs low)) behind.applies;
+            applies = none_first (refusal b a) (first_fault (effect b a) (filter_map act rs)) (c.applies b (ap (row_at (number_of_row r)) is ∙ found_after done r rs low)) behind.applies;
             is =
                 behind.is
                 ∙ ap (λ (x : BookView). record x { rows = (done ++ listed now) ++ filter_map after rs }) (c.does b)

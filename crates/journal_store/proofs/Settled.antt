@@ -18,7 +18,7 @@ use Rattle.journal_codec.specs.Batches.{IsOutcome}
 use Rattle.journal_codec.specs.Outcome.{kept_outcome}
 use Rattle.journal_codec.proofs.Kept.{is_kept}
 use Rattle.journal_store.specs.Lost.{failed}
-use Rattle.journal_store.specs.Acting.{journal_outcome, outcome_for, is_among, decision, decide_row, forget_row, decides, forgets, settles, decided_to, decided_by, forgotten_by, rows_behind}
+use Rattle.journal_store.specs.Acting.{journal_outcome, outcome_for, is_among, decision, decide_row, forget_row, decides, forgets, settles, decided_to, decided_by, forgotten_by, rows_after}
 use Rattle.journal_store.proofs.Makes.{effects_more, applies_more}
 use Rattle.journal_store.proofs.Merging.{number_of_row}
 use Rattle.journal_store.proofs.Rowwise.{Does, KeepsNumber, Leaves, each_row}
@@ -126,13 +126,13 @@ forgets_same numbers ds (r ∷ rs) =
 still_rise : (ds : List Decision) (rs : List Row) → Rises number_of_row rs → Rises number_of_row (filter_map (decided_by ds) rs)
 still_rise ds rs up = shown.rises_shown number_of_row (decided_by ds) number_of_row (decides_number ds) rs up
 
-pub settles_leave : (b : BookView) (ds : List Decision) (numbers : List RowNumber) → Rises number_of_row b.rows → Leaves b (settles b ds numbers) (rows_behind ds numbers b.rows)
+pub settles_leave : (b : BookView) (ds : List Decision) (numbers : List RowNumber) → Rises number_of_row b.rows → Leaves b (settles b ds numbers) (rows_after ds numbers b.rows)
 settles_leave b ds numbers up =
     let first = decides_leave b ds up in
     let between : BookView = record b { rows = filter_map (decided_by ds) b.rows } in
     let second = each_row (forget_row numbers) (forgotten_by numbers) (does_forget numbers) (forgets_number numbers) between (still_rise ds b.rows up) in
-    let P : List Act → Type 0 = λ acts. Leaves between acts (rows_behind ds numbers b.rows) in
-    let after : Leaves between (forgets b numbers) (rows_behind ds numbers b.rows) = subst P (sym (forgets_same numbers ds b.rows)) second in
+    let P : List Act → Type 0 = λ acts. Leaves between acts (rows_after ds numbers b.rows) in
+    let after : Leaves between (forgets b numbers) (rows_after ds numbers b.rows) = subst P (sym (forgets_same numbers ds b.rows)) second in
     record {
       applies = applies_more b (decides b ds) (forgets b numbers) first.applies (subst (λ (x : BookView). first_fault x (forgets b numbers) ≡ None) (sym first.is) after.applies);
       is = effects_more b (decides b ds) (forgets b numbers) ∙ ap (λ (x : BookView). effects x (forgets b numbers)) first.is ∙ after.is;

@@ -65,9 +65,9 @@ decided_by ds r = if is_undecided r then decided_to (outcome_for r.number.0 ds) 
 abbrev pub forgotten_by : List RowNumber → Row → Option Row
 forgotten_by numbers r = if not r.forgotten && is_among r.number.0 numbers then forgotten r else Some r
 
--- the rows behind both (`settled_rows_are_known`)
-abbrev pub rows_behind : List Decision → List RowNumber → List Row → List Row
-rows_behind ds numbers rs = filter_map (forgotten_by numbers) (filter_map (decided_by ds) rs)
+-- the rows after both (`settled_rows_are_known`)
+abbrev pub rows_after : List Decision → List RowNumber → List Row → List Row
+rows_after ds numbers rs = filter_map (forgotten_by numbers) (filter_map (decided_by ds) rs)
 
 -- Termini.
 
@@ -83,7 +83,7 @@ terminus_acts b (Some (terminus.Drop n)) = unless_refused (is_none (drop_refusal
 
 -- Events.
 
--- the acts of an event: the terminus' act is that of the book behind the rows' acts
+-- the acts of an event: the terminus' act is that of the book after the rows' acts
 abbrev pub event_acts : BookView → List Decision → List RowNumber → Option TerminusAct → List Act
 event_acts b ds numbers t = settles b ds numbers ++ terminus_acts (effects b (settles b ds numbers)) t
 

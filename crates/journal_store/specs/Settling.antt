@@ -1,4 +1,4 @@
--- How what an event decides and forgets is found by the numbers of rows, and which termini a book lets go behind it.
+-- How what an event decides and forgets is found by the numbers of rows, and which termini a book lets go after it.
 use Rattle.std.specs.Prelude.{◌≡◌, ℕ, Bool, false, ◌&&◌, not, if◌then◌else◌, Option, Some, None, is_none, List, [], ◌∷◌}
 use Rattle.std.specs.BTreeMap.{get}
 use Rattle.std.specs.BTreeSet.{contains}
@@ -32,15 +32,15 @@ abbrev pub found_forgotten : Option Row → List Act
 found_forgotten None = []
 found_forgotten (Some r) = if r.forgotten then [] else Forget r.number ∷ []
 
--- whether a row still keeps its terminus behind these decisions, and after those of these numbers are forgotten
-abbrev pub keeps_behind : List Decision → List RowNumber → LinkRole → ℕ → Row → Bool
-keeps_behind ds numbers Producer n r = keeps Producer n r && not (is_among r.number.0 numbers)
-keeps_behind ds numbers Consumer n r = keeps Consumer n r && is_none (outcome_for r.number.0 ds)
+-- whether a row still keeps its terminus after these decisions, and after those of these numbers are forgotten
+abbrev pub keeps_after : List Decision → List RowNumber → LinkRole → ℕ → Row → Bool
+keeps_after ds numbers Producer n r = keeps Producer n r && not (is_among r.number.0 numbers)
+keeps_after ds numbers Consumer n r = keeps Consumer n r && is_none (outcome_for r.number.0 ds)
 
--- whether a terminus that was looked up is there, and kept by no row behind them
+-- whether a terminus that was looked up is there, and kept by no row after them
 abbrev pub lets_go_by : List Row → List Decision → List RowNumber → Option Terminus → Bool
 lets_go_by rs ds numbers None = false
-lets_go_by rs ds numbers (Some t) = not (list_any (keeps_behind ds numbers t.key.role t.number.0) rs)
+lets_go_by rs ds numbers (Some t) = not (list_any (keeps_after ds numbers t.key.role t.number.0) rs)
 
-abbrev pub lets_go_behind : BookView → List Decision → List RowNumber → TerminusNumber → Bool
-lets_go_behind b ds numbers n = lets_go_by b.rows ds numbers (terminus_at n.0 b.termini)
+abbrev pub lets_go_after : BookView → List Decision → List RowNumber → TerminusNumber → Bool
+lets_go_after b ds numbers n = lets_go_by b.rows ds numbers (terminus_at n.0 b.termini)

@@ -30,14 +30,14 @@ abbrev pub kept_of : {D : Type 0} → Store D → ℕ
 kept_of s = kept_bytes (journal_of s)
 
 -- a journal's length after these acts: where there are none, nothing is written
-abbrev pub used_behind : ℕ → List Act → ℕ
-used_behind used [] = used
-used_behind used (act ∷ acts) = used + batch_bytes (act ∷ acts)
+abbrev pub used_after : ℕ → List Act → ℕ
+used_after used [] = used
+used_after used (act ∷ acts) = used + batch_bytes (act ∷ acts)
 
 -- how many batches a journal has after these acts
-abbrev pub batches_behind : ℕ → List Act → ℕ
-batches_behind count [] = count
-batches_behind count (act ∷ acts) = count + 1
+abbrev pub batches_after : ℕ → List Act → ℕ
+batches_after count [] = count
+batches_after count (act ∷ acts) = count + 1
 
 -- whether acts cost more than nothing, and more than the room, in a journal that is this long and keeps this much free
 abbrev pub exceeds : ℕ → ℕ → List Act → Bool
@@ -48,7 +48,7 @@ exceeds used kept (act ∷ acts) = is_full used kept (act ∷ acts)
 abbrev pub IsAsLong : {D : Type 0} → Store D → Store D → Type 0
 IsAsLong old new = (used_of new ≡ used_of old) × (kept_of new ≡ kept_of old)
 
--- the journal is longer by a batch of these acts, and keeps free what the book behind them needs, where it kept what the book needs
+-- the journal is longer by a batch of these acts, and keeps free what the book after them needs, where it kept what the book needs
 abbrev pub IsLonger : {D : Type 0} → Store D → List Act → Store D → Type 0
 IsLonger old acts new = (used_of new ≡ used_of old + batch_bytes acts) × (kept_of old ≡ reserve (book_of old) → kept_of new ≡ reserve (effects (book_of old) acts))
 

@@ -67,7 +67,7 @@ pub(crate) fn event_acts(
     Ok(acts)
 }
 
-/// Appends the act of a terminus, if nothing refuses it behind what is settled.
+/// Appends the act of a terminus, if nothing refuses it after what is settled.
 fn add_terminus_act(
     acts: &mut Vec<Act>,
     settling: &Settling,
@@ -97,7 +97,7 @@ fn add_make(acts: &mut Vec<Act>, book: &Book, terminus: Terminus) -> Result<(), 
     add(acts, Act::Make(terminus))
 }
 
-/// Appends that a terminus is dropped, if it is let go behind what is settled.
+/// Appends that a terminus is dropped, if it is let go after what is settled.
 fn add_drop(
     acts: &mut Vec<Act>,
     settling: &Settling,

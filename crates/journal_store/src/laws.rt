@@ -13,7 +13,7 @@ ghost use Rattle.journal_codec.specs.Format.{acts_bytes};
 ghost use Rattle.gate_journal.specs.Opening.{Explains};
 ghost use Rattle.gate_journal.specs.Reserve.{IsFull};
 ghost use Rattle.gate_journal.specs.declared.fault.OpenFault.TheVariants.{NotAJournal, Damaged};
-ghost use Rattle.journal_store.specs.Acting.{journal_outcome, settles, rows_behind};
+ghost use Rattle.journal_store.specs.Acting.{journal_outcome, settles, rows_after};
 ghost use Rattle.journal_store.specs.Store.{OpensTo};
 ghost use Rattle.journal_store.specs.Lost.{start_acts};
 
@@ -42,8 +42,8 @@ pub fn outcomes_are_written()
     ensures itself { (state : DeliveryState) → IsTerminal state → FitsState 32 state → length (state_spelling state) ≤ 400 → journal_outcome state ≡ state }
 {}
 
-/// Behind what an event decides and forgets only the rows differ: each is what became of that row.
+/// After what an event decides and forgets only the rows differ: each is what became of that row.
 pub fn settled_rows_are_known()
     ensures { (book : BookView) (ds : List Decision) (numbers : List RowNumber) → Rises (λ (r : Row). r.number.0) book.rows
-        → effects book (settles book ds numbers) ≡ record book { rows = rows_behind ds numbers book.rows } }
+        → effects book (settles book ds numbers) ≡ record book { rows = rows_after ds numbers book.rows } }
 {}

@@ -3,7 +3,7 @@
 #![tactic(auto)]
 
 mod acting;
-mod kept;
+mod kept_book;
 pub mod laws;
 mod lost;
 mod settling;

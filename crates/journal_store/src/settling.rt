@@ -7,7 +7,7 @@ ghost use Rattle.book_model.specs.declared.act.Decision.{Decision as ADecision};
 ghost use Rattle.book_model.specs.declared.row.RowNumber.{RowNumber as ARowNumber};
 ghost use Rattle.book_model.specs.Book.{row_at, is_for};
 ghost use Rattle.journal_store.specs.Acting.{journal_outcome, outcome_for, is_among, decides, forgets, settles};
-ghost use Rattle.journal_store.specs.Settling.{Names, found_decision, found_forgotten, keeps_behind, lets_go_behind};
+ghost use Rattle.journal_store.specs.Settling.{Names, found_decision, found_forgotten, keeps_after, lets_go_after};
 
 use crate::acting::add;
 use crate::lost::failed;
@@ -198,10 +198,10 @@ impl Settling {
         Ok(())
     }
 
-    /// Whether a row keeps its terminus, of this role and number, behind these acts.
+    /// Whether a row keeps its terminus, of this role and number, after these acts.
     fn is_kept_by(&self, row: &Row, role: LinkRole, terminus: TerminusNumber) -> bool
         ensures { (ds : List ADecision) (numbers : List ARowNumber) → Names self.now ds numbers
-            → result ≡ keeps_behind ds numbers role terminus.0 row.now }
+            → result ≡ keeps_after ds numbers role terminus.0 row.now }
     {
         match role {
             LinkRole::Producer => {
@@ -217,10 +217,10 @@ impl Settling {
         }
     }
 
-    /// Whether a book lets go of a terminus behind these acts.
+    /// Whether a book lets go of a terminus after these acts.
     pub(crate) fn lets_go(&self, book: &Book, number: TerminusNumber) -> bool
         ensures { (ds : List ADecision) (numbers : List ARowNumber) → Names self.now ds numbers
-            → result ≡ lets_go_behind book.now ds numbers number }
+            → result ≡ lets_go_after book.now ds numbers number }
     {
         let Some(terminus) = book.terminus(number) else {
             return false;

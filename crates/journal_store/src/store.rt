@@ -10,10 +10,10 @@ ghost use Rattle.gate_journal.specs.Opening.{Explains};
 ghost use Rattle.gate_journal.specs.Reserve.{reserve, batch_bytes, is_full};
 ghost use Rattle.journal_store.specs.Acting.{admission_acts, event_acts};
 ghost use Rattle.journal_store.specs.Lost.{start_acts};
-ghost use Rattle.journal_store.specs.Store.{OpensTo, Stands, Writable, IsAsLong, IsLonger, journal_of, disk_of, book_of, used_of, kept_of, used_behind, batches_behind, exceeds};
+ghost use Rattle.journal_store.specs.Store.{OpensTo, Stands, Writable, IsAsLong, IsLonger, journal_of, disk_of, book_of, used_of, kept_of, used_after, batches_after, exceeds};
 
 use crate::acting::TerminusAct;
-use crate::kept::Kept;
+use crate::kept_book::KeptBook;
 use book_core::Book;
 use book_model::{Act, Admission, Decision, RowNumber};
 use disk_core::{Crash, Disk};
@@ -24,7 +24,7 @@ use std::alloc::{AllocError, Global};
 #[derive(Drop)]
 pub struct Store<D: Disk> {
     journal: Journal<D>,
-    kept: Kept,
+    kept: KeptBook,
 }
 
 impl<D: Disk> Store<D> {
@@ -50,7 +50,7 @@ impl<D: Disk> Store<D> {
         let (journal, book) = Journal::open(alloc, disk)?;
         Ok(Store {
             journal,
-            kept: Kept::new(book),
+            kept: KeptBook::new(book),
         })
     }
 
@@ -112,13 +112,13 @@ impl<D: Disk> Store<D> {
         ensures book { OnOk result (book_of self.new ≡ effects (book_of self.old) acts.items) }
         ensures written { IfOk result (λ w. IfSome w (λ batch. (batch.0 ≡ batch_count (journal_of self.old) + 1) × (batch.1.items ≡ acts.items))) }
         ensures silent { IfOk result (λ w. IfNone w (acts.items ≡ [])) }
-        ensures count { OnOk result (batch_count (journal_of self.new) ≡ batches_behind (batch_count (journal_of self.old)) acts.items) }
+        ensures count { OnOk result (batch_count (journal_of self.new) ≡ batches_after (batch_count (journal_of self.old)) acts.items) }
 
         // Whatever is answered, a crash at any moment of the call leaves the book before these acts or the book after them.
         ensures any_moment { Stands D.seen D.may_leave self.old → LeavesOnly D.moment D.left_since (disk_of self.old) (disk_of self.new)
             (λ c. OpensTo c (book_of self.old) ⊎ OpensTo c (effects (book_of self.old) acts.items)) }
 
-        ensures length { OnOk result (used_of self.new ≡ used_behind (used_of self.old) acts.items) }
+        ensures length { OnOk result (used_of self.new ≡ used_after (used_of self.old) acts.items) }
         ensures kept { OnOk result (kept_of self.old ≡ reserve (book_of self.old) → kept_of self.new ≡ reserve (book_of self.new)) }
 
         ensures full { IsErrOf result JournalFault.Full → exceeds (used_of self.old) (kept_of self.old) acts.items ≡ true }
@@ -155,13 +155,13 @@ impl<D: Disk> Store<D> {
         ensures book { OnOk result (book_of self.new ≡ effects (book_of self.old) (start_acts (book_of self.old))) }
         ensures written { IfOk result (λ w. IfSome w (λ batch. (batch.0 ≡ batch_count (journal_of self.old) + 1) × (batch.1.items ≡ start_acts (book_of self.old)))) }
         ensures silent { IfOk result (λ w. IfNone w (start_acts (book_of self.old) ≡ [])) }
-        ensures count { OnOk result (batch_count (journal_of self.new) ≡ batches_behind (batch_count (journal_of self.old)) (start_acts (book_of self.old))) }
+        ensures count { OnOk result (batch_count (journal_of self.new) ≡ batches_after (batch_count (journal_of self.old)) (start_acts (book_of self.old))) }
 
         // Whatever is answered, a crash at any moment of the call leaves the book before these acts or the book after them.
         ensures any_moment { Stands D.seen D.may_leave self.old → LeavesOnly D.moment D.left_since (disk_of self.old) (disk_of self.new)
             (λ c. OpensTo c (book_of self.old) ⊎ OpensTo c (effects (book_of self.old) (start_acts (book_of self.old)))) }
 
-        ensures length { OnOk result (used_of self.new ≡ used_behind (used_of self.old) (start_acts (book_of self.old))) }
+        ensures length { OnOk result (used_of self.new ≡ used_after (used_of self.old) (start_acts (book_of self.old))) }
         ensures kept { OnOk result (kept_of self.old ≡ reserve (book_of self.old) → kept_of self.new ≡ reserve (book_of self.new)) }
 
         ensures room { OnOk result (exceeds (used_of self.old) (kept_of self.old) (start_acts (book_of self.old)) ≡ false) }

@@ -18,8 +18,8 @@ record NoMore (fs gs : List FieldText) : Type 0 where
   fewer : length fs ≤ length gs
   shorter : length (joined fs) ≤ length (joined gs)
 
-behind_same : (f : FieldText) (fs gs : List FieldText) → NoMore fs gs → NoMore (f ∷ fs) (f ∷ gs)
-behind_same f fs gs h = record {
+after_same : (f : FieldText) (fs gs : List FieldText) → NoMore fs gs → NoMore (f ∷ fs) (f ∷ gs)
+after_same f fs gs h = record {
   fewer = let le = h.fewer in omega (arith, le);
   shorter = let le = h.shorter in omega (arith, le, length-append (field_bytes f) (joined fs), length-append (field_bytes f) (joined gs));
 }
@@ -27,11 +27,11 @@ behind_same f fs gs h = record {
 nothing_less : (gs : List FieldText) → NoMore [] gs
 nothing_less gs = record { fewer = omega arith; shorter = omega arith }
 
-given_behind : (f : FieldText) (fs gs : List FieldText) → NoMore fs gs → NoMore (given_by f fs) (given_by f gs)
-given_behind (Some t) fs gs h = behind_same (Some t) fs gs h
-given_behind None [] gs h = nothing_less (given_by None gs)
-given_behind None (f ∷ fs) [] h = let le = h.fewer in absurd (omega (arith, le))
-given_behind None (f ∷ fs) (g ∷ gs) h = behind_same None (f ∷ fs) (g ∷ gs) h
+given_after : (f : FieldText) (fs gs : List FieldText) → NoMore fs gs → NoMore (given_by f fs) (given_by f gs)
+given_after (Some t) fs gs h = after_same (Some t) fs gs h
+given_after None [] gs h = nothing_less (given_by None gs)
+given_after None (f ∷ fs) [] h = let le = h.fewer in absurd (omega (arith, le))
+given_after None (f ∷ fs) (g ∷ gs) h = after_same None (f ∷ fs) (g ∷ gs) h
 
 given_first : (b : ℕ) (fs : List FieldText) → NoMore (given_by None fs) (given_by (Some (b ∷ [])) fs)
 given_first b [] = nothing_less (Some (b ∷ []) ∷ [])
@@ -41,7 +41,7 @@ given_first b (f ∷ fs) = record { fewer = omega arith; shorter = omega arith }
 one_null : (before behind : List FieldText) (b : ℕ) → NoMore (given (before ++ None ∷ behind)) (given (before ++ Some (b ∷ []) ∷ behind))
 unfolding given
 one_null [] behind b = given_first b (given behind)
-one_null (f ∷ fs) behind b = given_behind f (given (fs ++ None ∷ behind)) (given (fs ++ Some (b ∷ []) ∷ behind)) (one_null fs behind b)
+one_null (f ∷ fs) behind b = given_after f (given (fs ++ None ∷ behind)) (given (fs ++ Some (b ∷ []) ∷ behind)) (one_null fs behind b)
 
 -- the length of a list, by the number of its fields and their bytes
 abbrev pub list_size : Bool → Bool → ℕ → ℕ
@@ -108,14 +108,14 @@ saying x more = record x { more = more }
 abbrev fields_before : Transfer → List FieldText
 fields_before x = spelt (d.uint x.handle) ∷ mapped d.uint x.delivery_id ∷ mapped (λ t. d.binary t.items) x.delivery_tag ∷ mapped d.uint x.message_format ∷ flag_text x.settled ∷ []
 
-abbrev fields_behind : Transfer → List FieldText
-fields_behind x = mapped d.ubyte x.rcv_settle_mode ∷ state_text x.state ∷ flag_text x.resume ∷ flag_text x.aborted ∷ flag_text x.batchable ∷ []
+abbrev fields_after : Transfer → List FieldText
+fields_after x = mapped d.ubyte x.rcv_settle_mode ∷ state_text x.state ∷ flag_text x.resume ∷ flag_text x.aborted ∷ flag_text x.batchable ∷ []
 
 abbrev with_flag : Transfer → FieldText → List FieldText
-with_flag x more = fields_before x ++ more ∷ fields_behind x
+with_flag x more = fields_before x ++ more ∷ fields_after x
 
 no_more_fields : (x : Transfer) → NoMore (given (with_flag x (flag_text false))) (given (with_flag x (flag_text true)))
-no_more_fields x = subst (λ text. NoMore (given (with_flag x None)) (given (with_flag x (Some text)))) (sym said_true) (one_null (fields_before x) (fields_behind x) 0x41)
+no_more_fields x = subst (λ text. NoMore (given (with_flag x None)) (given (with_flag x (Some text)))) (sym said_true) (one_null (fields_before x) (fields_after x) 0x41)
 
 spelt_no_longer : (x : Transfer) → length (spelling (perf.Transfer (saying x false))) ≤ length (spelling (perf.Transfer (saying x true)))
 unfolding spelling

@@ -124,15 +124,15 @@ sender_echo wanted own h handle list = link_echo wanted own h handle (credit.cou
 abbrev pub receiver_echo : Bool → ℕ → Session → ℕ → Received → Answer
 receiver_echo wanted own h handle list = link_echo wanted own h handle (receiving.delivery_count list) (receiving.unused list)
 
-abbrev pub count_behind : Option ℕ → Received → Received
-count_behind None list = list
-count_behind (Some n) list = receiving.TheirCount n ∷ list
+abbrev pub count_after : Option ℕ → Received → Received
+count_after None list = list
+count_after (Some n) list = receiving.TheirCount n ∷ list
 
 abbrev pub flow_on : ℕ → Session → ℕ → Bool → Happened → AFlow → Answer
 flow_on own h handle durable (sends list) f = sender_echo f.echo own h handle (with_grant f f.link_credit list)
 flow_on own h handle durable (receives list) f =
     if is_reached f.delivery_count (receiving.delivery_count list) (receiving.unused list)
-    then receiver_echo f.echo own h handle (count_behind f.delivery_count list)
+    then receiver_echo f.echo own h handle (count_after f.delivery_count list)
     else detach_for own handle durable NotAllowed
 
 abbrev pub link_flow_reply : ℕ → Session → LinkPlace → AFlow → Answer

@@ -10,7 +10,7 @@ use Rattle.router_trace.specs.Trace.{Trace, puts}
 use Rattle.router_trace.specs.Links.{Link, link}
 use Rattle.router_trace.specs.Following.{link_of}
 use Rattle.router_trace.specs.declared.binding.Origin.{Origin}
-use Rattle.state_messages.specs.Passing.{consumer_of, binding_to, passing, standing_at, with_bound}
+use Rattle.state_messages.specs.Messages.{consumer_of, binding_to, binding_for, standing_at, with_bound}
 use Rattle.router_state.specs.declared.tables.State.{State}
 use Rattle.router_state.specs.Tables.{TablesFit}
 use Rattle.reply_transfers.specs.Transfers.{claimed_id, from_link, fresh_bound, ignored_put, lasts_on, may_pass, origin_of, released, unbound_put, consumer_for, whole_bound, whole_put}
@@ -32,7 +32,7 @@ unfit_given s t c own handle d row payload claimed id unfit fit =
     by_link : Bool → Option Link → Option Binding
     by_link may None = None
     by_link may (Some l) =
-        if may then passing t (from_link c own handle l) (option_map (origin_of (from_link c own handle l)) (claimed_id t c own handle d.id)) row (unwrap_or d.format 0) payload else None
+        if may then binding_for t (from_link c own handle l) (option_map (origin_of (from_link c own handle l)) (claimed_id t c own handle d.id)) row (unwrap_or d.format 0) payload else None
 
     none : (l : Option Link) → by_link false l ≡ None
     none None = refl
@@ -43,23 +43,23 @@ pub fresh_given : (s : State) (t : Trace) (c own handle : ℕ) (d : Told) (row :
     → claimed ≡ claimed_id t c own handle d.id → may_pass (lasts_on (link t c own handle)) (claimed_id t c own handle d.id) row ≡ true
     → format ≡ unwrap_or d.format 0 → Some from ≡ option_map (standing_at c own handle) l → l ≡ link t c own handle
     → TablesFit s (puts from.conn.0 (unbound_put t from.conn.0 from.channel from.handle claimed (consumer_of t (link_of t from)))
-    (with_bound (passing t from (option_map (origin_of from) claimed) row format payload) t))
+    (with_bound (binding_for t from (option_map (origin_of from) claimed) row format payload) t))
     → TablesFit s (puts c (unbound_put t c own handle (claimed_id t c own handle d.id) (consumer_for t c own handle d row)) (with_bound (fresh_bound t c own handle d row payload (link t c own handle)) t))
 fresh_given s t c own handle d row payload claimed format from None id may as_told stands here fit = absurd cc
 fresh_given s t c own handle d row payload claimed format from (Some k) id may as_told stands here fit =
     subst (λ v. TablesFit s (puts c (unbound_put t c own handle (claimed_id t c own handle d.id) (consumer_for t c own handle d row)) (with_bound (fresh_bound t c own handle d row payload v) t)))
     here
     (subst (λ (b : Bool). TablesFit s (puts c (fresh_put t c own handle d b)
-    (with_bound (if b then passing t (from_link c own handle k) (option_map (origin_of (from_link c own handle k)) (claimed_id t c own handle d.id)) row (unwrap_or d.format 0) payload else None) t)))
+    (with_bound (if b then binding_for t (from_link c own handle k) (option_map (origin_of (from_link c own handle k)) (claimed_id t c own handle d.id)) row (unwrap_or d.format 0) payload else None) t)))
     (sym may)
     (subst (λ (q : Option ℕ). TablesFit s (puts c (unbound_put t c own handle q (consumer_of t (link t c own handle)))
-    (with_bound (passing t (from_link c own handle k) (option_map (origin_of (from_link c own handle k)) q) row (unwrap_or d.format 0) payload) t)))
+    (with_bound (binding_for t (from_link c own handle k) (option_map (origin_of (from_link c own handle k)) q) row (unwrap_or d.format 0) payload) t)))
     id
     (subst (λ (n : ℕ). TablesFit s (puts c (unbound_put t c own handle claimed (consumer_of t (link t c own handle)))
-    (with_bound (passing t (from_link c own handle k) (option_map (origin_of (from_link c own handle k)) claimed) row n payload) t)))
+    (with_bound (binding_for t (from_link c own handle k) (option_map (origin_of (from_link c own handle k)) claimed) row n payload) t)))
     as_told
     (subst (λ (a : Attachment). TablesFit s (puts a.conn.0 (unbound_put t a.conn.0 a.channel a.handle claimed (consumer_of t (link_of t a)))
-    (with_bound (passing t a (option_map (origin_of a) claimed) row format payload) t)))
+    (with_bound (binding_for t a (option_map (origin_of a) claimed) row format payload) t)))
     (is stands) fit))))
   where
     is : Some from ≡ Some (from_link c own handle k) → from ≡ from_link c own handle k
@@ -105,10 +105,10 @@ anew_given s t c own handle d row payload anew fit =
 
 -- one for which no consumer is chosen is released
 pub released_given : (found left : State) (t : Trace) (from : Attachment) (claimed : Option ℕ) (row : Option RowNumber) (format : ℕ) (payload : List ℕ) (origin : Option Origin)
-    → is_some (consumer_of t (link_of t from)) ≡ false → TablesFit found (with_bound (passing t from origin row format payload) t)
+    → is_some (consumer_of t (link_of t from)) ≡ false → TablesFit found (with_bound (binding_for t from origin row format payload) t)
     → ((u : Trace) → TablesFit found u → TablesFit left (puts from.conn.0 (released u from.conn.0 from.channel from.handle claimed) u))
     → TablesFit left (puts from.conn.0 (unbound_put t from.conn.0 from.channel from.handle claimed (consumer_of t (link_of t from)))
-    (with_bound (passing t from (option_map (origin_of from) claimed) row format payload) t))
+    (with_bound (binding_for t from (option_map (origin_of from) claimed) row format payload) t))
 released_given found left t from claimed row format payload origin none fit release = by (consumer_of t (link_of t from)) none fit
   where
     by : (at : Option Attachment) → is_some at ≡ false → TablesFit found (with_bound (option_map (binding_to t origin row format payload) at) t)

@@ -23,7 +23,7 @@ use Rattle.router_trace.specs.DeliveryFrames.{outcome_item}
 use Rattle.router_trace.specs.Settling.{unbound, is_claimed_on}
 use Rattle.router_trace.specs.LinkFrames.{detach_item}
 use Rattle.router_trace.specs.Links.{Link, link, durable_key}
-use Rattle.state_messages.specs.Passing.{passing, consumer_of, with_bound}
+use Rattle.state_messages.specs.Messages.{binding_for, consumer_of, with_bound}
 
 -- The deliveries that a disposition decides without settling are answered, each settled, with the outcome as the router keeps it.
 abbrev pub settled_answers : ℕ → Option DeliveryState → List ℕ → List Item
@@ -69,7 +69,7 @@ abbrev pub fresh_bound : Trace → ℕ → ℕ → ℕ → Told → Option RowNu
 fresh_bound after c own handle d row payload None = None
 fresh_bound after c own handle d row payload (Some l) =
     if may_pass (lasts_on (link after c own handle)) (claimed_id after c own handle d.id) row
-    then passing after (from_link c own handle l) (option_map (origin_of (from_link c own handle l)) (claimed_id after c own handle d.id)) row (unwrap_or d.format 0) payload
+    then binding_for after (from_link c own handle l) (option_map (origin_of (from_link c own handle l)) (claimed_id after c own handle d.id)) row (unwrap_or d.format 0) payload
     else None
 
 abbrev pub whole_bound : Trace → ℕ → ℕ → ℕ → Told → Option RowNumber → List ℕ → Option Binding
@@ -114,5 +114,5 @@ part_bound after c own handle row (Some (part.Whole d payload)) = whole_bound af
 part_bound after c own handle row _ = None
 
 -- the trace after a transfer that is taken is handled, bound and answered; and all that an answer to an item does
-abbrev pub given_behind : Trace → ℕ → ℕ → ℕ → Option RowNumber → Option Part → Trace
-given_behind after c own handle row part = puts c (part_put after c own handle row part) (with_bound (part_bound after c own handle row part) after)
+abbrev pub given_after : Trace → ℕ → ℕ → ℕ → Option RowNumber → Option Part → Trace
+given_after after c own handle row part = puts c (part_put after c own handle row part) (with_bound (part_bound after c own handle row part) after)

@@ -1,6 +1,6 @@
 //! What a transfer that is taken makes of its delivery, and the answers to the deliveries that a disposition decides.
 #![tactic(auto)]
 
-mod passing;
+mod transfers;
 
-pub use passing::{UNBOUND, claimed_id, disposition_in, last_of, settle, take_part};
+pub use transfers::{UNBOUND, claimed_id, disposition_in, last_of, settle, take_part};

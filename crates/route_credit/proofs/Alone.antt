@@ -31,30 +31,30 @@ module _ {X : Type 0} (rank : X → Option ℕ) where
           let alike : Some n ≡ Some m = sym is ∙ h in
           inr (cc, omega (arith, same))
 
-  -- what is first of all is first of those behind a number that it is above
-  least_behind : (f : ℕ → Option ℕ) (after id : ℕ) (x : Option ℕ) → after < id → IsLeast f (option_map {U = ℕ} (λ n. id) x) → IsLeast (behind after f) (option_map {U = ℕ} (λ n. id) x)
-  least_behind f after id None above none = λ q. by_test (nat_lt after q) (λ e. rw e (none q)) (λ e. rw e refl)
-  least_behind f after id (Some n) above least =
+  -- what is first of all is first of those after a number that it is above
+  least_after : (f : ℕ → Option ℕ) (after id : ℕ) (x : Option ℕ) → after < id → IsLeast f (option_map {U = ℕ} (λ n. id) x) → IsLeast (behind after f) (option_map {U = ℕ} (λ n. id) x)
+  least_after f after id None above none = λ q. by_test (nat_lt after q) (λ e. rw e (none q)) (λ e. rw e refl)
+  least_after f after id (Some n) above least =
       (least.0, rw (lt-ltb after id above) least.1, λ other m h. by_test (nat_lt after other) (λ e. least.2 other m (rw e at h)) (λ e. none_some m (rw e at h)))
 
   pub one_first : (side : Side X) (id : ℕ) (link : X) (r : Option ℕ) → side ≡ One id link → r ≡ option_map {U = ℕ} (λ n. id) (rank link) → IsLeast (rank_at rank (links_of side)) r
   one_first side id link r is turn = subst (λ s. IsLeast (rank_at rank (links_of s)) r) (sym is) (subst (λ r. IsLeast (rank_at rank ((id, link) ∷ [])) r) (sym turn) (alone_first id link (rank link) refl))
 
-  pub one_first_behind : (side : Side X) (after id : ℕ) (link : X) (r : Option ℕ) → side ≡ One id link → r ≡ option_map {U = ℕ} (λ n. id) (rank link) → after < id → IsLeast (behind after (rank_at rank (links_of side))) r
-  one_first_behind side after id link r is turn above =
+  pub one_first_after : (side : Side X) (after id : ℕ) (link : X) (r : Option ℕ) → side ≡ One id link → r ≡ option_map {U = ℕ} (λ n. id) (rank link) → after < id → IsLeast (behind after (rank_at rank (links_of side))) r
+  one_first_after side after id link r is turn above =
       subst (λ s. IsLeast (behind after (rank_at rank (links_of s))) r) (sym is)
       (subst (λ r. IsLeast (behind after (rank_at rank ((id, link) ∷ []))) r) (sym turn)
-      (least_behind (rank_at rank ((id, link) ∷ [])) after id (rank link) above (alone_first id link (rank link) refl)))
+      (least_after (rank_at rank ((id, link) ∷ [])) after id (rank link) above (alone_first id link (rank link) refl)))
 
   -- where there are several, their index tells
   pub several_first : (amount : X → ℕ) (side : Side X) (links : Links X) (r : Option ℕ) → side ≡ Several links
       → (IsIndexed rank amount links → IsLeast (rank_at rank links.rows.entries) r) → IsWhole rank amount side → IsLeast (rank_at rank (links_of side)) r
   several_first amount side links r is first = subst (λ s. IsWhole rank amount s → IsLeast (rank_at rank (links_of s)) r) (sym is) first
 
-  pub several_first_behind : (amount : X → ℕ) (side : Side X) (links : Links X) (after : ℕ) (r : Option ℕ) → side ≡ Several links
+  pub several_first_after : (amount : X → ℕ) (side : Side X) (links : Links X) (after : ℕ) (r : Option ℕ) → side ≡ Several links
       → (IsIndexed rank amount links → ((other m : ℕ) → rank_at rank links.rows.entries other ≡ Some m → m ≡ 0) → IsLeast (behind after (rank_at rank links.rows.entries)) r)
       → IsWhole rank amount side → ((other m : ℕ) → rank_at rank (links_of side) other ≡ Some m → m ≡ 0) → IsLeast (behind after (rank_at rank (links_of side))) r
-  several_first_behind amount side links after r is first =
+  several_first_after amount side links after r is first =
       subst (λ s. IsWhole rank amount s → ((other m : ℕ) → rank_at rank (links_of s) other ≡ Some m → m ≡ 0) → IsLeast (behind after (rank_at rank (links_of s))) r) (sym is) first
 
   -- they stand in order

@@ -44,8 +44,8 @@ abbrev Flat : (ℕ → Option ℕ) → Type 0
 Flat f = (other m : ℕ) → f other ≡ Some m → m ≡ 0
 
 -- the first of those after the number is the first of all
-round_behind : (last : ℕ) (f : ℕ → Option ℕ) (id : ℕ) → Flat f → IsLeast (behind last f) (Some id) → IsLeast (round last f) (Some id)
-round_behind last f id flat least =
+round_after : (last : ℕ) (f : ℕ → Option ℕ) (id : ℕ) → Flat f → IsLeast (behind last f) (Some id) → IsLeast (round last f) (Some id)
+round_after last f id flat least =
     by_test (nat_lt last id)
     (λ e. let here : f id ≡ Some least.0 = rw e at least.1 in
     (0, rw (e, here) refl, λ other m h. against other m (map_some (f other) _ m h)))
@@ -65,14 +65,14 @@ round_behind last f id flat least =
 round_first : (last : ℕ) (f : ℕ → Option ℕ) (r : Option ℕ) → Flat f → IsLeast (behind last f) None → IsLeast f r → IsLeast (round last f) r
 round_first last f None flat none least = λ id. rw (least id) refl
 round_first last f (Some id) flat none least =
-    (1, rw (not_behind id least.0 least.1, least.1) refl, λ other m h. against other m (map_some (f other) _ m h))
+    (1, rw (not_after id least.0 least.1, least.1) refl, λ other m h. against other m (map_some (f other) _ m h))
   where
-    not_behind : (other n : ℕ) → f other ≡ Some n → nat_lt last other ≡ false
-    not_behind other n is = by_test (nat_lt last other) (λ e. none_some n (sym (rw e at (none other)) ∙ is)) (λ e. e)
+    not_after : (other n : ℕ) → f other ≡ Some n → nat_lt last other ≡ false
+    not_after other n is = by_test (nat_lt last other) (λ e. none_some n (sym (rw e at (none other)) ∙ is)) (λ e. e)
 
     against : (other m : ℕ) → (k : ℕ) × (f other ≡ Some k) × ((if nat_lt last other then 0 else 1) ≡ m) → (1 < m) ⊎ ((1 ≡ m) × (id ≤ other))
     against other m found =
-        let one_is : 1 ≡ m = rw (not_behind other found.0 found.1) at found.2 in
+        let one_is : 1 ≡ m = rw (not_after other found.0 found.1) at found.2 in
         ⊎_elim
         (λ below. let k : found.0 ≡ 0 = flat other found.0 found.1 in absurd (omega (arith, below, k)))
         (λ alike. inr (one_is, alike.1))
@@ -93,11 +93,11 @@ flat_rank (Some offer) m h = by_test (nat_lt 0 offer.free) (λ e. zero_of m (rw 
 pub flat_ranks : (distribution : Distribution) (links : List (ℕ × Offer)) → distribution ≡ Closest → (other m : ℕ) → rank_at (offer_rank distribution) links other ≡ Some m → m ≡ 0
 flat_ranks distribution links is other m h = flat_rank (link_at links other) m (rw is at h)
 
-pub choice_behind : (distribution : Distribution) (last : ℕ) (links : List (ℕ × Offer)) (id : ℕ) → distribution ≡ Closest
+pub choice_after : (distribution : Distribution) (last : ℕ) (links : List (ℕ × Offer)) (id : ℕ) → distribution ≡ Closest
     → IsLeast (behind last (rank_at (offer_rank distribution) links)) (Some id) → IsLeast (λ other. option_and_then (turn_of distribution last other) (link_at links other)) (Some id)
-choice_behind Closest last links id is least = least_agree _ _ (Some id) (λ other. in_turn (nat_lt last other) (link_at links other)) (round_behind last (rank_at (offer_rank Closest) links) id (flat_ranks Closest links refl) least)
-choice_behind Balanced last links id is least = absurd cc
-choice_behind Multicast last links id is least = absurd cc
+choice_after Closest last links id is least = least_agree _ _ (Some id) (λ other. in_turn (nat_lt last other) (link_at links other)) (round_after last (rank_at (offer_rank Closest) links) id (flat_ranks Closest links refl) least)
+choice_after Balanced last links id is least = absurd cc
+choice_after Multicast last links id is least = absurd cc
 
 pub choice_round : (distribution : Distribution) (last : ℕ) (links : List (ℕ × Offer)) (r : Option ℕ) → distribution ≡ Closest
     → IsLeast (behind last (rank_at (offer_rank distribution) links)) None → IsLeast (rank_at (offer_rank distribution) links) r → IsLeast (λ other. option_and_then (turn_of distribution last other) (link_at links other)) r

@@ -43,13 +43,13 @@ module _ {X : Type 0} where
   here e es = ap (λ b. cond b (Some e.1) (link_at es e.0)) (same_test e.0 e.0 ∙ eq-eqb e.0 e.0 refl)
 
   -- another one is found after it
-  pub behind_first : (e : ℕ × X) (es : List (ℕ × X)) (q : ℕ) → (q ≡ e.0 → ⊥) → link_at (e ∷ es) q ≡ link_at es q
-  behind_first e es q other = ap (λ b. cond b (Some e.1) (link_at es q)) (same_test q e.0 ∙ ne_eqb q e.0 other)
+  pub after_first : (e : ℕ × X) (es : List (ℕ × X)) (q : ℕ) → (q ≡ e.0 → ⊥) → link_at (e ∷ es) q ≡ link_at es q
+  after_first e es q other = ap (λ b. cond b (Some e.1) (link_at es q)) (same_test q e.0 ∙ ne_eqb q e.0 other)
 
   -- what is found in a list has a number of the list
   pub none_above : (es : List (ℕ × X)) (id : ℕ) → Above id (keys_of es) → link_at es id ≡ None
   none_above [] id all = refl
-  none_above (e ∷ es) id all = behind_first e es id (λ same. let l : id < e.0 = is_less id e.0 all.0 in absurd (omega (arith, l, same))) ∙ none_above es id all.1
+  none_above (e ∷ es) id all = after_first e es id (λ same. let l : id < e.0 = is_less id e.0 all.0 in absurd (omega (arith, l, same))) ∙ none_above es id all.1
 
   -- a number below the first
   pub none_below : (e : ℕ × X) (es : List (ℕ × X)) (id : ℕ) → InOrder (e ∷ es) → id < e.0 → link_at (e ∷ es) id ≡ None

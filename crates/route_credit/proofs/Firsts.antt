@@ -65,30 +65,30 @@ itself (Some found) = (rw (eq-eqb found.id found.id refl, eq-eqb found.rank foun
         none : 0 < 0 → ⊥
         none h = omega (arith, h)
 
--- the first of the places of the links behind one
-pub least_behind : (ranks : ℕ → Option ℕ) (id : ℕ) (ranking : Ranking) → Ranks ranking ranks → (place : Place)
+-- the first of the places of the links after one
+pub least_after : (ranks : ℕ → Option ℕ) (id : ℕ) (ranking : Ranking) → Ranks ranking ranks → (place : Place)
     → (if nat_lt id place.id then count ranking.few.places place else 0) + (if nat_lt id place.id then once (contains place_cmp ranking.more place) else 0) ≡ once (is_rank (behind id ranks place.id) place.rank)
-least_behind ranks id ranking fits place = by_test (nat_lt id place.id) (λ e. rw e (fits place)) (λ e. rw e refl)
+least_after ranks id ranking fits place = by_test (nat_lt id place.id) (λ e. rw e (fits place)) (λ e. rw e refl)
 
 -- a place of the ordered set has a link's rank
 pub ranked_there : (ranking : Ranking) (ranks : ℕ → Option ℕ) → Ranks ranking ranks → (place : Place) → contains place_cmp ranking.more place ≡ true → ranks place.id ≡ Some place.rank
 ranked_there ranking ranks fits place there = some_rank (ranks place.id) place.rank (let is = fits place in let one = ap once there in omega (arith, is, one))
 
-four_behind : (t : Bool) (a b c d : ℕ) → ((if t then a else 0) + (if t then b else 0)) + ((if t then c else 0) + (if t then d else 0)) ≡ (if t then (a + b) + (c + d) else 0)
-four_behind true a b c d = refl
-four_behind false a b c d = refl
+four_after : (t : Bool) (a b c d : ℕ) → ((if t then a else 0) + (if t then b else 0)) + ((if t then c else 0) + (if t then d else 0)) ≡ (if t then (a + b) + (c + d) else 0)
+four_after true a b c d = refl
+four_after false a b c d = refl
 
--- what four places count of the links behind one
-pub at_four_behind : (few : List (Option Place)) → length few ≡ 4 → (id : ℕ) (place : Place)
+-- what four places count of the links after one
+pub at_four_after : (few : List (Option Place)) → length few ≡ 4 → (id : ℕ) (place : Place)
     → ((if nat_lt id place.id then once (is_there (get_or few 0 None) place) else 0) + (if nat_lt id place.id then once (is_there (get_or few 1 None) place) else 0))
     + ((if nat_lt id place.id then once (is_there (get_or few 2 None) place) else 0) + (if nat_lt id place.id then once (is_there (get_or few 3 None) place) else 0))
     ≡ (if nat_lt id place.id then count few place else 0)
-at_four_behind few four id place =
-    four_behind (nat_lt id place.id) (once (is_there (get_or few 0 None) place)) (once (is_there (get_or few 1 None) place)) (once (is_there (get_or few 2 None) place)) (once (is_there (get_or few 3 None) place))
+at_four_after few four id place =
+    four_after (nat_lt id place.id) (once (is_there (get_or few 0 None) place)) (once (is_there (get_or few 1 None) place)) (once (is_there (get_or few 2 None) place)) (once (is_there (get_or few 3 None) place))
     ∙ ap (λ n. if nat_lt id place.id then n else 0) (at_four few four place)
 
-not_behind : (a b c d : ℕ) → is_gt (ordering_then (nat_cmp a b) (nat_cmp c d)) ≡ false → (a < b) ⊎ ((a ≡ b) × (c ≤ d))
-not_behind a b c d h =
+not_after : (a b c d : ℕ) → is_gt (ordering_then (nat_cmp a b) (nat_cmp c d)) ≡ false → (a < b) ⊎ ((a ≡ b) × (c ≤ d))
+not_after a b c d h =
     by_test (nat_lt a b)
     (λ e. inl (ltb-true a b e))
     (λ e. by_test (a == b)
@@ -123,4 +123,4 @@ module _ (places : BTreeSet Place) where
   -- the first key is the first place
   pub first_some : (first : Place) → contains place_cmp places first ≡ true → ((q : Place) → contains place_cmp places q ≡ true → is_gt (place_cmp first q) ≡ false)
       → IsFirst (λ place. once (contains place_cmp places place)) (Some first)
-  first_some first there least = (rw there (omega arith), λ q counted. not_behind first.rank q.rank first.id q.id (least q (is_in q counted)))
+  first_some first there least = (rw there (omega arith), λ q counted. not_after first.rank q.rank first.id q.id (least q (is_in q counted)))

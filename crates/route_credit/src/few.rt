@@ -68,7 +68,7 @@ impl Few {
     }
 
     /// The first in order of the links with a number above this one.
-    pub(crate) fn first_behind(&self, id: u64) -> Option<Place>
+    pub(crate) fn first_after(&self, id: u64) -> Option<Place>
         ensures { IsFirst (λ place. if nat_lt id place.id then count self.now.places place else 0) result }
     {
         let one = sooner(behind(self.places[0], id), behind(self.places[1], id));

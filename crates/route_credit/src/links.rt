@@ -140,10 +140,10 @@ impl<T: Weigh> Links<T> {
 
     /// The first link after this one, in the order of their numbers, where every rank is 0.
     #[inline]
-    pub(crate) fn first_behind(&self, id: u64) -> Option<u64>
+    pub(crate) fn first_after(&self, id: u64) -> Option<u64>
         ensures { (rank : T → Option ℕ) → IsIndexed rank T.amount self.now → ((other m : ℕ) → rank_at rank self.now.rows.entries other ≡ Some m → m ≡ 0) → IsLeast (behind id (rank_at rank self.now.rows.entries)) result }
     {
-        self.ranking.first_behind(id)
+        self.ranking.first_after(id)
     }
 }
 

@@ -179,7 +179,7 @@ impl Pool {
                 self.consumers.first(distribution)
             }
             Distribution::Closest => {
-                match self.consumers.first_behind(distribution, self.last) {
+                match self.consumers.first_after(distribution, self.last) {
                     None => self.consumers.first(distribution),
                     Some(id) => Some(id),
                 }

@@ -105,10 +105,10 @@ impl Ranking {
     }
 
     /// The first link after this one, in the order of their numbers, where all have the rank 0.
-    pub(crate) fn first_behind(&self, id: u64) -> Option<u64>
+    pub(crate) fn first_after(&self, id: u64) -> Option<u64>
         ensures { (ranks : ℕ → Option ℕ) → Ranks self.now ranks → ((other m : ℕ) → ranks other ≡ Some m → m ≡ 0) → IsLeast (behind id ranks) result }
     {
-        match sooner(self.few.first_behind(id), first_behind(&self.more, id)) {
+        match sooner(self.few.first_after(id), first_after(&self.more, id)) {
             None => None,
             Some(next) => Some(next.id),
         }
@@ -127,7 +127,7 @@ fn first(places: &BTreeSet<Place>) -> Option<Place>
 }
 
 /// The first place of an ordered set of the links with a number above this one, where all have the rank 0.
-fn first_behind(places: &BTreeSet<Place>, id: u64) -> Option<Place>
+fn first_after(places: &BTreeSet<Place>, id: u64) -> Option<Place>
     ensures { ((place : Place) → contains place_cmp places.now place ≡ true → place.rank ≡ 0) → IsFirst (λ place. if nat_lt id place.id then once (contains place_cmp places.now place) else 0) result }
 {
     if places.is_empty() {

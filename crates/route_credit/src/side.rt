@@ -151,7 +151,7 @@ impl<T: Weigh> Side<T> {
 
     /// The first link after this one, in the order of their numbers, where every rank is 0.
     #[inline]
-    pub(crate) fn first_behind(&self, distribution: Distribution, id: u64) -> Option<u64>
+    pub(crate) fn first_after(&self, distribution: Distribution, id: u64) -> Option<u64>
         ensures { IsWhole (T.rank distribution) T.amount self.now → ((other m : ℕ) → rank_at (T.rank distribution) (links_of self.now) other ≡ Some m → m ≡ 0) → IsLeast (behind id (rank_at (T.rank distribution) (links_of self.now))) result }
     {
         match self {
@@ -163,7 +163,7 @@ impl<T: Weigh> Side<T> {
                     None
                 }
             }
-            Side::Several(links) => links.first_behind(id),
+            Side::Several(links) => links.first_after(id),
         }
     }
 }

@@ -9,7 +9,7 @@ use Rattle.state_deliveries.specs.Finding.{IsFirst}
 use Rattle.state_deliveries.specs.Finding.{is_above}
 use Rattle.router_after.specs.declared.candidate.Candidate.{Candidate}
 use Rattle.router_after.specs.Soonest.{is_sooner, beats, sooner, Stands, IsSoonest, IsSoonestOn, IsSoonestUpTo}
-use Rattle.router_after.proofs.Orders.{is_soonest, is_sooner_too, not_before, behind_lower}
+use Rattle.router_after.proofs.Orders.{is_soonest, is_sooner_too, not_before, after_lower}
 
 -- a number that goes before the sooner of two goes before both
 beats_both : (n : ℕ) (a : Attachment) (b c : Option Candidate) → beats n a (sooner b c) ≡ true → (beats n a b ≡ true) × (beats n a c ≡ true)
@@ -127,7 +127,7 @@ one_below (suc b) place c l stands first = by_test (c.number == b) refl (λ k. o
         let x = found_placed b place q was in
         let l = x.below in
         ap (λ t. if t then Some (record { number = b; place = c.place }) else Some q)
-        (behind_lower q.number q.place c (first q.number q.place x.stands) (omega (arith, l, is)))
+        (after_lower q.number q.place c (first q.number q.place x.stands) (omega (arith, l, is)))
         ∙ ap (λ n. Some (record { number = n; place = c.place })) (sym is)
 
     by_test : (t : Bool) → (c.number == b) ≡ t → (c.number < b → first_placed b place ≡ Some (placed c)) → or_better (first_placed b place) b (place b) ≡ Some (placed c)

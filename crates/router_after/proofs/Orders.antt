@@ -44,8 +44,8 @@ not_before n a c e = by_parts (is_before a c.place) _ e
     by_parts true t e = e
     by_parts false t e = refl
 
-pub behind_lower : (n : ℕ) (a : Attachment) (c : Candidate) → is_sooner n a c ≡ false → n < c.number → is_before c.place a ≡ true
-behind_lower n a c e l = by_parts (is_before a c.place) (is_before c.place a) (nat_lt n c.number) (lower n c.number l) e
+pub after_lower : (n : ℕ) (a : Attachment) (c : Candidate) → is_sooner n a c ≡ false → n < c.number → is_before c.place a ≡ true
+after_lower n a c e l = by_parts (is_before a c.place) (is_before c.place a) (nat_lt n c.number) (lower n c.number l) e
   where
     lower : (n m : ℕ) → n < m → nat_lt n m ≡ true
     lower n m l = grind (arith, nat_tests)

@@ -3,7 +3,7 @@
 use Rattle.std.specs.Prelude.{List}
 use Rattle.router_trace.specs.Trace.{Trace, Put, goes}
 use Rattle.router_trace.specs.Following.{as_long_as_due, tells, sends_due, drains_due}
-use Rattle.state_messages.specs.Passing.{grants_due}
+use Rattle.state_messages.specs.Messages.{grants_due}
 use Rattle.state_sessions.specs.Windows.{windows}
 use Rattle.router_after.specs.declared.phase.Phase.{Phase}
 use Rattle.router_after.specs.declared.phase.Phase.TheVariants.{Outcomes, Deliveries, Drains, Grants}

@@ -32,7 +32,7 @@ fn soonest(state: &State) -> Result<Option<Candidate>, AllocError>
     let mut last = None;
     let mut best = None;
     for _turn in 0..u64::MAX {
-        let Some(link) = state.owing_behind(last)? else {
+        let Some(link) = state.owing_after(last)? else {
             return Ok(best);
         };
         best = sooner(best, drained_at(state, link));

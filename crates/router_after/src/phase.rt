@@ -3,7 +3,7 @@ ghost use Rattle.std.specs.Prelude.{◌≡◌, false, List, [], OnOk, IfOk};
 ghost use Rattle.router_trace.specs.Trace.{Entry, goes};
 ghost use Rattle.router_trace.specs.Following.{as_long_as_due};
 ghost use Rattle.router_state.specs.Tables.{TablesFit};
-ghost use Rattle.state_messages.specs.Passing.{grants_due};
+ghost use Rattle.state_messages.specs.Messages.{grants_due};
 ghost use Rattle.router_after.specs.After.{due_in};
 
 use crate::draining::answer_first;

@@ -37,7 +37,7 @@ fn soonest(state: &State) -> Result<Option<Candidate>, AllocError>
     let mut last = None;
     let mut best = None;
     for _turn in 0..u64::MAX {
-        let Some(link) = state.unsent_link_behind(last) else {
+        let Some(link) = state.unsent_link_after(last) else {
             return Ok(best);
         };
         let found = first_on(state, link)?;

@@ -29,7 +29,7 @@ fn first_to_tell(state: &State) -> Result<Option<u64>, AllocError>
 {
     let mut last = None;
     for _turn in 0..u64::MAX {
-        let Some(number) = state.to_tell_behind(last) else {
+        let Some(number) = state.to_tell_after(last) else {
             return Ok(None);
         };
         if is_to_be_told(state, number) {

@@ -77,7 +77,7 @@ fn first_waiting(state: &State, place: Attachment) -> Result<Option<u64>, AllocE
 {
     let mut last = None;
     for _turn in 0..u64::MAX {
-        let Some(number) = state.unsent_behind(place.number, last) else {
+        let Some(number) = state.unsent_after(place.number, last) else {
             return Ok(None);
         };
         if is_waiting(state, place, number) {

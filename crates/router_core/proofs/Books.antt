@@ -6,7 +6,7 @@ use Rattle.amqp_conn.specs.declared.conn.Conn.{Conn}
 use Rattle.book_model.specs.declared.act.Act.{Act}
 use Rattle.book_model.specs.Book.{BookView, effects}
 use Rattle.gate_journal.specs.Reserve.{reserve}
-use Rattle.journal_store.specs.Store.{OpensTo, book_of, count_of, used_of, kept_of, used_behind, batches_behind, exceeds}
+use Rattle.journal_store.specs.Store.{OpensTo, book_of, count_of, used_of, kept_of, used_after, batches_after, exceeds}
 use Rattle.router_trace.specs.declared.binding.Binding.{Binding}
 use Rattle.router_trace.specs.declared.event.Event.{Event}
 use Rattle.router_trace.specs.declared.event.Event.TheVariants as event
@@ -17,14 +17,14 @@ use Rattle.router_trace.specs.Sessions.{free_channel}
 use Rattle.router_trace.specs.Refusing.{refuses}
 use Rattle.router_trace.specs.declared.condition.Condition.TheVariants.{ResourceLimitExceeded}
 use Rattle.reply_rows.specs.Booking.{answer_at}
-use Rattle.router_reply.specs.Acts.{Journaled, live_answer, planned_acts, event_answer, finds_full, journaled, book_in, acts_of, book_behind, booked, answer_by, answer_to_event}
+use Rattle.router_reply.specs.Acts.{Journaled, live_answer, planned_acts, event_answer, finds_full, journaled, book_in, acts_of, book_after_event, booked, answer_by, answer_to_event}
 use Rattle.router_reply.specs.Admitting.{admits, event_admission}
 use Rattle.router_reply.specs.Replies.{closing_of, ends, heard, bound_by, own_row, replied}
-use Rattle.state_messages.specs.Passing.{with_bound}
+use Rattle.state_messages.specs.Messages.{with_bound}
 use Rattle.router_state.specs.Tables.{TablesFit}
 use Rattle.router_core.specs.Replies.{answered, handled}
 use Rattle.core_machine.specs.Turns.{is_start, is_started, is_out_of_turn, declines}
-use Rattle.router_core.specs.Handling.{Journals, Fits, with_admission, BeforeOrBehind, kept_book, state_of}
+use Rattle.router_core.specs.Handling.{Journals, Fits, with_admission, BeforeOrAfterEvent, kept_book, state_of}
 use Rattle.router_core.specs.declared.router.Core.{Core}
 use Rattle.router_core.proofs.Booking.{booked_same}
 use Rattle.router_core.proofs.Committing.{chosen}
@@ -138,10 +138,10 @@ acts_are core t e f =
     (admitted_of (journaled t) t e (exceeds (journaled t).used k (planned_acts false (book_in t) t e)))) f.journal.kept
     ∙ (chosen (journaled t).used (reserve (book_in t)) (book_in t) t e).acts
 
--- the answer to its item: it is the same behind its acts
-answer_behind : (full : Bool) (b : BookView) (t : List Entry) (e : Event) (c : ℕ) (p : Conn) (i : Item) → answer_at full b t c p i ≡ answer_at full b (booked t e) c p i
+-- the answer to its item: it is the same after its acts
+answer_after : (full : Bool) (b : BookView) (t : List Entry) (e : Event) (c : ℕ) (p : Conn) (i : Item) → answer_at full b t c p i ≡ answer_at full b (booked t e) c p i
 unfolding free_handle first_free_below free_channel
-answer_behind full b t e c p i = sym (booked_same (λ (u : List Entry). answer_at full b u c p i) t e (λ acts. refl))
+answer_after full b t e c p i = sym (booked_same (λ (u : List Entry). answer_at full b u c p i) t e (λ acts. refl))
 
 answer_found : (t : List Entry) (e : Event) → event_answer (finds_full (journaled t) t e) (book_in t) t e ≡ answer_to_event (booked t e) e
 answer_found t (event.Item c i) =
@@ -152,7 +152,7 @@ answer_found t (event.Item c i) =
 
     by : (v : Option Conn) → live_answer (finds_full (journaled t) t e) (book_in t) t c.0 i v ≡ answer_by (booked t e) c.0 i v
     by None = refl
-    by (Some p) = answer_behind (finds_full (journaled t) t e) (book_in t) t e c.0 p i
+    by (Some p) = answer_after (finds_full (journaled t) t e) (book_in t) t e c.0 p i
 answer_found t (event.Up c p) = refl
 answer_found t (event.Down c) = refl
 answer_found t (event.Tick ms) = refl
@@ -167,22 +167,22 @@ answer_is core t e f =
     ∙ answer_found t e
 
 -- the journal after an event's acts are written
-pub journals_behind : {D : Type 0} (old new : Core D) (t : List Entry) (e : Event) (acts : List Act) → Journals old t → acts ≡ acts_of t e
-    → kept_book new ≡ effects (kept_book old) acts → count_of new.store ≡ batches_behind (count_of old.store) acts → used_of new.store ≡ used_behind (used_of old.store) acts
+pub journals_after : {D : Type 0} (old new : Core D) (t : List Entry) (e : Event) (acts : List Act) → Journals old t → acts ≡ acts_of t e
+    → kept_book new ≡ effects (kept_book old) acts → count_of new.store ≡ batches_after (count_of old.store) acts → used_of new.store ≡ used_after (used_of old.store) acts
     → (kept_of old.store ≡ reserve (kept_book old) → kept_of new.store ≡ reserve (kept_book new)) → Journals new (booked t e)
-journals_behind old new t e acts j are book count used kept =
-    let now : kept_book new ≡ book_behind t e
+journals_after old new t e acts j are book count used kept =
+    let now : kept_book new ≡ book_after_event t e
     = book ∙ ap (λ (x : BookView). effects x acts) j.book ∙ ap (effects (book_in t)) are
     in record {
       book = now;
-      batches = count ∙ ap (λ (n : ℕ). batches_behind n acts) j.batches ∙ ap (batches_behind (journaled t).batches) are;
-      used = used ∙ ap (λ (u : ℕ). used_behind u acts) j.used ∙ ap (used_behind (journaled t).used) are;
+      batches = count ∙ ap (λ (n : ℕ). batches_after n acts) j.batches ∙ ap (batches_after (journaled t).batches) are;
+      used = used ∙ ap (λ (u : ℕ). used_after u acts) j.used ∙ ap (used_after (journaled t).used) are;
       kept = kept (j.kept ∙ ap reserve (sym j.book)) ∙ ap reserve now;
     }
 
 -- a file opens to the book before the event or after it
-pub before_or_behind : {D : Type 0} (core : Core D) (t : List Entry) (e : Event) (acts : List Act) (file : List ℕ) → Fits core t → acts ≡ acts_of t e
-    → OpensTo file (kept_book core) ⊎ OpensTo file (effects (kept_book core) acts) → BeforeOrBehind t e file
-before_or_behind core t e acts file f are (inl opens) = inl (subst (λ (b : BookView). OpensTo file b) f.journal.book opens)
-before_or_behind core t e acts file f are (inr opens) =
+pub before_or_after_event : {D : Type 0} (core : Core D) (t : List Entry) (e : Event) (acts : List Act) (file : List ℕ) → Fits core t → acts ≡ acts_of t e
+    → OpensTo file (kept_book core) ⊎ OpensTo file (effects (kept_book core) acts) → BeforeOrAfterEvent t e file
+before_or_after_event core t e acts file f are (inl opens) = inl (subst (λ (b : BookView). OpensTo file b) f.journal.book opens)
+before_or_after_event core t e acts file f are (inr opens) =
     inr (subst (λ (b : BookView). OpensTo file b) (ap (λ (x : BookView). effects x acts) f.journal.book ∙ ap (effects (book_in t)) are) opens)

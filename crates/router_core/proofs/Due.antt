@@ -16,14 +16,14 @@ use Rattle.router_trace.specs.declared.handle.Attachment.{Attachment}
 use Rattle.router_trace.specs.Trace.{Entry, Put, Out}
 use Rattle.router_trace.specs.Frames.{told_of}
 use Rattle.router_trace.specs.LinkFrames.{fits}
-use Rattle.router_trace.specs.Links.{Link, Happened, sends, receives, link, link_in, link_behind, key_at, numbered, attachments, asked}
+use Rattle.router_trace.specs.Links.{Link, Happened, sends, receives, link, link_in, link_after, key_at, numbered, attachments, asked}
 use Rattle.router_trace.specs.Peers.{largest_frame}
 use Rattle.router_trace.specs.Sessions.{session}
 use Rattle.router_trace.specs.Deliveries.{Delivery, has_row, delivery, bindings, sending, next_id, is_number}
 use Rattle.router_trace.specs.DeliveryFrames.{first_transfer, later_transfer, with_more, part_frame, filled, next_frame, largest_out, rest_of}
 use Rattle.router_trace.specs.Numbers.{or_other, if_passes, first_below, Placed, is_before, or_better, first_placed}
 use Rattle.router_trace.specs.Following.{link_of, is_still_attached, is_to_be_told, outcome_to, tell, tells_of, tells, goes_on_at, is_going, has_credit, takes_more, can_start, is_wide, is_there, can_go, place_to_go, transfer_of, send, send_of, sends_due, drain_of, drain_on, drain_by, place_drained, drains_due}
-use Rattle.state_messages.specs.Passing.{grants_due}
+use Rattle.state_messages.specs.Messages.{grants_due}
 use Rattle.state_connections.proofs.Lists.{by_test}
 use Rattle.router_core.proofs.Granting.{AllGrants, all_grants}
 use Rattle.router_core.proofs.Linked.{numbered_some}
@@ -90,13 +90,13 @@ stays_perf _ own o h n t c last v kind some = absurd cc
 pub link_stays : (t u : List Entry) (p : Put) → OnLink u p → (c o h : ℕ) → is_some (link t c o h) ≡ true → is_some (link (Out p.conn p.item ∷ t) c o h) ≡ true
 link_stays t u p on_link c o h some =
     by_test (p.conn == c)
-    (λ e. rw e (subst (λ (i : Item). is_some (link_behind i o h (attachments t + 1) (key_at t c) (asked t c) (link t c o h)) ≡ true) (sym on_link.frame)
+    (λ e. rw e (subst (λ (i : Item). is_some (link_after i o h (attachments t + 1) (key_at t c) (asked t c) (link t c o h)) ≡ true) (sym on_link.frame)
     (stays_perf on_link.body on_link.own o h (attachments t + 1) t c (asked t c) (link t c o h) on_link.kind some)))
     (λ e. rw e some)
 
-pub on_behind : (ps : List Put) (t u : List Entry) (p : Put) → OnLink u p → AllOnLinks t ps → AllOnLinks (Out p.conn p.item ∷ t) ps
-on_behind [] t u p on_link all = tt
-on_behind (q ∷ qs) t u p on_link all = (
+pub on_after : (ps : List Put) (t u : List Entry) (p : Put) → OnLink u p → AllOnLinks t ps → AllOnLinks (Out p.conn p.item ∷ t) ps
+on_after [] t u p on_link all = tt
+on_after (q ∷ qs) t u p on_link all = (
   record {
     own = all.0.own;
     handle = all.0.handle;
@@ -106,7 +106,7 @@ on_behind (q ∷ qs) t u p on_link all = (
     kind = all.0.kind;
     linked = link_stays t u p on_link q.conn all.0.own all.0.handle all.0.linked;
   },
-  on_behind qs t u p on_link all.1,
+  on_after qs t u p on_link all.1,
 )
 
 -- outcomes to producers

@@ -10,11 +10,11 @@ use Rattle.amqp_session.specs.declared.states.BeginState.{BeginState}
 use Rattle.amqp_session.specs.Session.{Session}
 use Rattle.router_trace.specs.declared.terms.Terms.{Terms}
 use Rattle.router_trace.specs.Trace.{Entry, Put, Out, goes, ups}
-use Rattle.router_trace.specs.Connection.{Connection, conn, behind_perf, is_live, has, live}
+use Rattle.router_trace.specs.Connection.{Connection, conn, after_perf, is_live, has, live}
 use Rattle.router_trace.specs.Frames.{flow_item, beat_item, told_of}
 use Rattle.router_trace.specs.Sessions.{session}
 use Rattle.router_trace.specs.Clocks.{terms, written, needs_beat}
-use Rattle.router_trace.specs.Order.{Written, unwritten, begun_behind_perf, written_behind, is_open, has_turn}
+use Rattle.router_trace.specs.Order.{Written, unwritten, begun_after_perf, written_after, is_open, has_turn}
 use Rattle.state_sessions.specs.Windows.{is_narrow, flow_due, flows_below, windows_over, windows}
 use Rattle.router_state.specs.Tables.{beat_if, beats_over}
 use Rattle.router_after.specs.After.{widened}
@@ -39,7 +39,7 @@ IsQuiet (item.Beat channel) = Unit {0}
 IsQuiet _ = ⊥
 
 quiet_perf : (body : Perf) (own : ℕ) (w : Written) → perf_is_quiet body
-    → written_of (behind_perf body w.phase) (begun_behind_perf body own w.begun) ≡ w
+    → written_of (after_perf body w.phase) (begun_after_perf body own w.begun) ≡ w
 quiet_perf (perf.Flow f) own w q = refl
 quiet_perf (perf.Attach a) own w q = refl
 quiet_perf (perf.Transfer x) own w q = refl
@@ -47,7 +47,7 @@ quiet_perf (perf.Disposition x) own w q = refl
 quiet_perf (perf.Detach x) own w q = refl
 quiet_perf _ own w q = absurd q
 
-quiet_same : (i : Item) (w : Written) → IsQuiet i → written_behind i w ≡ w
+quiet_same : (i : Item) (w : Written) → IsQuiet i → written_after i w ≡ w
 quiet_same (item.Frame sasl own body payload) w q = quiet_perf body own w q
 quiet_same (item.Beat channel) w q = refl
 quiet_same _ w q = absurd q

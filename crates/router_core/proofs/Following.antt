@@ -3,7 +3,7 @@ use Rattle.std.proofs.Common.{ℕ, zero, suc, List}
 use Rattle.router_trace.specs.Trace.{Entry, Put, goes}
 use Rattle.router_trace.specs.Following.{repeated, turns, as_long_as_due, tells, sends_due, drains_due}
 use Rattle.state_sessions.specs.Windows.{windows}
-use Rattle.state_messages.specs.Passing.{grants_due}
+use Rattle.state_messages.specs.Messages.{grants_due}
 use Rattle.router_after.specs.After.{told, sent, drained, granted, followed}
 
 repeated_keeps : (next : List Entry → List Put) (P : List Entry → Type 0) → ((t : List Entry) → P t → P (goes (next t) t))

@@ -14,7 +14,7 @@ use Rattle.router_trace.specs.Sessions.{session}
 use Rattle.router_trace.specs.Following.{link_of}
 use Rattle.state_messages.specs.declared.grant.LinkGrant.{LinkGrant}
 use Rattle.state_messages.specs.Figures.{figure}
-use Rattle.state_messages.specs.Passing.{pool_of, grant_by, grant_on, grant_at, grants_on, wants, lowest_below, grants_of_address, grants, grant_flow, grant_flows, grants_due}
+use Rattle.state_messages.specs.Messages.{pool_of, grant_by, grant_on, grant_at, grants_on, wants, lowest_below, grants_of_address, grants, grant_flow, grant_flows, grants_due}
 
 pub record IsGrant (t : List Entry) (p : Put) : Type 0 where
   pub own : ℕ

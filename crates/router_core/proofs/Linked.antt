@@ -13,10 +13,10 @@ use Rattle.router_trace.specs.declared.handle.Asked.{Asked}
 use Rattle.router_trace.specs.declared.handle.Attachment.{Attachment}
 use Rattle.router_trace.specs.declared.handle.PeerHandle.{PeerHandle}
 use Rattle.router_trace.specs.Trace.{Entry}
-use Rattle.router_trace.specs.Connection.{behind_perf}
+use Rattle.router_trace.specs.Connection.{after_perf}
 use Rattle.router_trace.specs.Sessions.{maps}
-use Rattle.router_trace.specs.Links.{Link, link, link_in, link_behind, heard_link, link_by, link_at, has_number, is_attached, if_attached, key_at}
-use Rattle.router_trace.specs.Order.{Written, begun_behind_perf, written_behind, is_open, of_session, perf_has_turn, has_turn}
+use Rattle.router_trace.specs.Links.{Link, link, link_in, link_after, heard_link, link_by, link_at, has_number, is_attached, if_attached, key_at}
+use Rattle.router_trace.specs.Order.{Written, begun_after_perf, written_after, is_open, of_session, perf_has_turn, has_turn}
 use Rattle.router_core.specs.Attaches.{is_attach_in, is_attach}
 use Rattle.state_connections.proofs.Lists.{by_test}
 use Rattle.router_core.proofs.RowOrder.{written_of}
@@ -46,7 +46,7 @@ was_perf (perf.Close x) own o h n t c last v none some = absurd cc
 was_perf _ own o h n t c last v none some = some
 
 pub link_was : (i : Item) (o h n : ℕ) (t : List Entry) (c : ℕ) (last : Option Asked) (v : Option Link)
-    → is_attach i ≡ false → is_some (link_behind i o h n (key_at t c) last v) ≡ true → is_some v ≡ true
+    → is_attach i ≡ false → is_some (link_after i o h n (key_at t c) last v) ≡ true → is_some v ≡ true
 link_was (item.Frame sasl own body payload) o h n t c last v none some = was_perf body own o h n t c last v none some
 link_was _ o h n t c last v none some = some
 
@@ -87,7 +87,7 @@ opened_still false c r h = absurd cc
 
 linked_perf : (body : Perf) (w : Written) (own o h n : ℕ) (t : List Entry) (c : ℕ) (last : Option Asked) (v : Option Link)
     → perf_has_turn w own body ≡ true → (is_some v ≡ true → of_session w o ≡ true) → is_some (link_in body own o h n (key_at t c) last v) ≡ true
-    → of_session (written_of (behind_perf body w.phase) (begun_behind_perf body own w.begun)) o ≡ true
+    → of_session (written_of (after_perf body w.phase) (begun_after_perf body own w.begun)) o ≡ true
 linked_perf (perf.Attach a) w own o h n t c last v turn was some =
     by_test (own == o) (λ e. subst (λ (m : ℕ). of_session w m ≡ true) (eqb-true own o e) turn) (λ e. was (rw e at some))
 linked_perf (perf.Flow f) w own o h n t c last v turn was some = was (mapped_was _ _ v some)
@@ -102,8 +102,8 @@ linked_perf (perf.Close x) w own o h n t c last v turn was some = absurd cc
 linked_perf _ w own o h n t c last v turn was some = was some
 
 pub linked_more : (i : Item) (w : Written) (o h n : ℕ) (t : List Entry) (c : ℕ) (last : Option Asked) (v : Option Link)
-    → has_turn w i ≡ true → (is_some v ≡ true → of_session w o ≡ true) → is_some (link_behind i o h n (key_at t c) last v) ≡ true
-    → of_session (written_behind i w) o ≡ true
+    → has_turn w i ≡ true → (is_some v ≡ true → of_session w o ≡ true) → is_some (link_after i o h n (key_at t c) last v) ≡ true
+    → of_session (written_after i w) o ≡ true
 linked_more (item.Frame sasl own body payload) w o h n t c last v turn was some = linked_perf body w own o h n t c last v turn was some
 linked_more _ w o h n t c last v turn was some = was some
 

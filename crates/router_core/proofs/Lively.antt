@@ -17,20 +17,20 @@ use Rattle.router_trace.specs.declared.event.Event.TheVariants as event
 use Rattle.router_trace.specs.declared.handle.Asked.{Asked}
 use Rattle.router_trace.specs.declared.handle.Attachment.{Attachment}
 use Rattle.router_trace.specs.Trace.{Entry, Out, Took, Put, did, goes, puts, each_to, ups, step_of}
-use Rattle.router_trace.specs.Connection.{Connection, conn, behind, with_item, took, drained, unless_empty, is_live, has, due, found, standing}
+use Rattle.router_trace.specs.Connection.{Connection, conn, phase_after, with_item, took, drained, unless_empty, is_live, has, due, found, standing}
 use Rattle.router_trace.specs.Refusing.{refuses}
 use Rattle.router_trace.specs.Frames.{close_item, open_item}
 use Rattle.router_trace.specs.Durable.{is_durable}
 use Rattle.router_trace.specs.LinkFrames.{attach_item, detach_item, answer_to, refusal_of, fits}
-use Rattle.router_trace.specs.Links.{Link, link, link_behind, key_at, their_handle, holder, free_handle}
+use Rattle.router_trace.specs.Links.{Link, link, link_after, key_at, their_handle, holder, free_handle}
 use Rattle.router_trace.specs.Peers.{largest_frame}
 use Rattle.router_trace.specs.Sessions.{theirs}
 use Rattle.router_trace.specs.Following.{tells, sends_due, drains_due}
 use Rattle.state_sessions.specs.Windows.{windows}
-use Rattle.state_messages.specs.Passing.{grants_due, with_bound}
+use Rattle.state_messages.specs.Messages.{grants_due, with_bound}
 use Rattle.reply_rows.specs.Rows.{said}
 use Rattle.router_reply.specs.Acts.{answer_of}
-use Rattle.router_reply.specs.Replies.{closing_of, ends, heard, stolen_by, attach_answer, taken_behind, taken, refused, bound_by, item_row, own_row, replied}
+use Rattle.router_reply.specs.Replies.{closing_of, ends, heard, stolen_by, attach_answer, taken_after, taken, refused, bound_by, item_row, own_row, replied}
 use Rattle.router_core.specs.Replies.{answered}
 use Rattle.router_core.specs.Attaches.{is_attach}
 use Rattle.state_connections.proofs.Lists.{by_test}
@@ -55,17 +55,17 @@ lives v e = rw e refl
 was_open : (v : Connection) → is_live (Some v) ≡ true → v.phase.closed ≡ false
 was_open v h = by_test v.phase.closed (λ e. absurd (true≢false (sym (rw e at h)))) (λ e. e)
 
-live_more : (i : Item) (k : Option Connection) → ((p : Conn) → (behind i p).closed ≡ p.closed) → is_live k ≡ true → is_live (option_map (with_item i) k) ≡ true
+live_more : (i : Item) (k : Option Connection) → ((p : Conn) → (phase_after i p).closed ≡ p.closed) → is_live k ≡ true → is_live (option_map (with_item i) k) ≡ true
 live_more i None same h = h
 live_more i (Some v) same h = lives (with_item i v) (same v.phase ∙ was_open v h)
 
 lively_item : (i : Item) (o h n : ℕ) (t : List Entry) (c : ℕ) (last : Option Asked) (v : Option Link) (k : Option Connection)
-    → (is_attach i ≡ true → is_live k ≡ true) → (is_some v ≡ true → is_live k ≡ true) → is_some (link_behind i o h n (key_at t c) last v) ≡ true
+    → (is_attach i ≡ true → is_live k ≡ true) → (is_some v ≡ true → is_live k ≡ true) → is_some (link_after i o h n (key_at t c) last v) ≡ true
     → is_live (option_map (with_item i) k) ≡ true
 lively_item (item.Frame sasl own body payload) o h n t c last v k new was some = by body new some
   where
     by : (body : Perf) → (is_attach (item.Frame sasl own body payload) ≡ true → is_live k ≡ true)
-        → is_some (link_behind (item.Frame sasl own body payload) o h n (key_at t c) last v) ≡ true → is_live (option_map (with_item (item.Frame sasl own body payload)) k) ≡ true
+        → is_some (link_after (item.Frame sasl own body payload) o h n (key_at t c) last v) ≡ true → is_live (option_map (with_item (item.Frame sasl own body payload)) k) ≡ true
     by (perf.Close x) new some = absurd cc
     by (perf.Attach a) new some = live_more (item.Frame sasl own (perf.Attach a) payload) k (λ p. refl) (new refl)
     by (perf.Open x) new some = live_more (item.Frame sasl own (perf.Open x) payload) k (λ p. refl) (was some)
@@ -105,13 +105,13 @@ answer_steady u c own largest (Some handle) a live =
     let answer : AnAttach = answer_to a handle
     in sized_steady u c own live (fits largest (attach_item own answer)) handle (not (is_durable answer.role answer)) FrameSizeTooSmall answer
 
-still_live : (u : List Entry) (d c : ℕ) (i : Item) → ((p : Conn) → (behind i p).closed ≡ p.closed) → is_live (conn u c) ≡ true → is_live (conn (Out d i ∷ u) c) ≡ true
+still_live : (u : List Entry) (d c : ℕ) (i : Item) → ((p : Conn) → (phase_after i p).closed ≡ p.closed) → is_live (conn u c) ≡ true → is_live (conn (Out d i ∷ u) c) ≡ true
 still_live u d c i same live = by_test (d == c) (λ e. rw e (live_more i (conn u c) same live)) (λ e. rw e live)
 
 taken_steady : (u v : List Entry) (c own : ℕ) (a : AnAttach) → is_live (conn v c) ≡ true → Steady (taken u c own a) v
 taken_steady u v c own a live = by (holder u (key_at u c (answer_to a 0)))
   where
-    by : (x : Option Attachment) → Steady (taken_behind u c own a (stolen_by x)) v
+    by : (x : Option Attachment) → Steady (taken_after u c own a (stolen_by x)) v
     by None = answer_steady v c own (largest_frame u c) (free_handle u c own) a live
     by (Some x) =
         let out : Item = detach_item x.channel x.handle false (Some Stolen)

@@ -5,15 +5,15 @@ use Rattle.book_model.specs.declared.act.Act.{Act}
 use Rattle.book_model.specs.Book.{BookView}
 use Rattle.book_model.specs.Made.{IsMade}
 use Rattle.gate_journal.specs.Journal.{batch_count}
-use Rattle.journal_store.specs.Store.{OpensTo, Stands, batches_behind, disk_of, journal_of}
+use Rattle.journal_store.specs.Store.{OpensTo, Stands, batches_after, disk_of, journal_of}
 use Rattle.journal_store.specs.declared.store.Store.{Store}
 use Rattle.journal_store.proofs.Makes.{made_by}
 use Rattle.router_trace.specs.declared.event.Event.{Event}
 use Rattle.router_trace.specs.Trace.{Entry, Trace, step_of}
-use Rattle.router_reply.specs.Acts.{Journaled, acts_of, book_behind, book_in, booked, journaled}
+use Rattle.router_reply.specs.Acts.{Journaled, acts_of, book_after_event, book_in, booked, journaled}
 use Rattle.core_machine.specs.Meaning.{BookAt}
 use Rattle.router_core.specs.declared.router.Core.{Core}
-use Rattle.router_core.specs.Handling.{BeforeOrBehind, Fits, id_of, kept_book, store_of}
+use Rattle.router_core.specs.Handling.{BeforeOrAfterEvent, Fits, id_of, kept_book, store_of}
 use Rattle.router_core.specs.Machine.{KeepsBook, LeavesBook, core_meaning}
 use Rattle.router_core.specs.Replies.{Replies, handled}
 use Rattle.router_core.proofs.Books.{view_answered}
@@ -40,7 +40,7 @@ pub fits_next : {D : Type 0} (new : Core D) (id : List ℕ) (t : List Entry) (e 
 fits_next new id t e more = subst (λ (u : List Entry). Fits new u) more.1.answers more.2
 
 -- the journal has one batch more exactly if there are acts
-one_more : (old new : ℕ) (acts : List Act) → new ≡ batches_behind old acts → (new ≡ old) ⊎ (new ≡ old + 1)
+one_more : (old new : ℕ) (acts : List Act) → new ≡ batches_after old acts → (new ≡ old) ⊎ (new ≡ old + 1)
 one_more old new [] is = inl is
 one_more old new (act ∷ acts) is = inr is
 
@@ -49,7 +49,7 @@ pub batches_next : {D : Type 0} (old new : Core D) (id : List ℕ) (t : List Ent
 batches_next old new id t e before after =
     one_more (batch_count (journal_of (store_of old))) (batch_count (journal_of (store_of new))) (acts_of t e)
     (after.journal.batches ∙ ap (λ (j : Journaled). j.batches) (view_answered journaled (λ c i u. refl) (λ b u. refl) id (booked t e) e)
-    ∙ ap (λ n. batches_behind n (acts_of t e)) (sym before.journal.batches))
+    ∙ ap (λ n. batches_after n (acts_of t e)) (sym before.journal.batches))
 
 -- acts made the book to which a file opens
 pub made_of : (file : List ℕ) (b : BookView) → OpensTo file b → IsMade b
@@ -69,8 +69,8 @@ module _ {D : Type 0} (seen : D → List ℕ) (may_leave : D → List ℕ → Ty
   -- a crash leaves the book before the event, or the book after it
   pub leaves_next : (moment : D → ℕ) (left_since : D → ℕ → List ℕ → Type 0) → ((disk : D) (t : ℕ) (c : List ℕ) → t ≤ moment disk → may_leave disk c → left_since disk t c)
       → (failures : D → ℕ) (old new : Core D) (t : List Entry) (e : Event)
-      → LeavesOnly moment left_since (disk_of (store_of old)) (disk_of (store_of new)) (BeforeOrBehind t e)
+      → LeavesOnly moment left_since (disk_of (store_of old)) (disk_of (store_of new)) (BeforeOrAfterEvent t e)
       → LeavesBook may_leave new (BookAt (core_meaning seen may_leave failures) t e)
   leaves_next moment left_since counts_now failures old new t e run file left =
-      ⊎_elim (λ opens. (book_in t, opens, inl refl)) (λ opens. (book_behind t e, opens, inr refl))
+      ⊎_elim (λ opens. (book_in t, opens, inl refl)) (λ opens. (book_after_event t e, opens, inr refl))
       (run.each file (counts_now (disk_of (store_of new)) (moment (disk_of (store_of old))) file run.later left))

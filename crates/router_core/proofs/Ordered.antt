@@ -15,17 +15,17 @@ use Rattle.router_trace.specs.declared.binding.Origin.{Origin}
 use Rattle.router_trace.specs.declared.condition.Condition.{Condition}
 use Rattle.router_trace.specs.declared.condition.Condition.TheVariants.{ResourceLimitExceeded}
 use Rattle.router_trace.specs.Trace.{Entry, Put, Out, goes, puts, each_to, ups, newest}
-use Rattle.router_trace.specs.Connection.{Connection, conn, behind, behind_perf, with_item, has}
+use Rattle.router_trace.specs.Connection.{Connection, conn, phase_after, after_perf, with_item, has}
 use Rattle.router_trace.specs.Refusing.{reaches}
 use Rattle.router_trace.specs.Frames.{closing}
-use Rattle.router_trace.specs.Sessions.{session, offered, begun, behind_item, unless_close}
-use Rattle.router_trace.specs.Sessions.{behind_perf as session_behind_perf}
+use Rattle.router_trace.specs.Sessions.{session, offered, begun, after_item, unless_close}
+use Rattle.router_trace.specs.Sessions.{after_perf as session_after_perf}
 use Rattle.router_trace.specs.Clocks.{terms}
 use Rattle.router_trace.specs.Links.{link}
 use Rattle.router_trace.specs.Deliveries.{named, stands_on}
 use Rattle.router_trace.specs.Claims.{Claim, bind_claim, bound_claim, claims}
-use Rattle.router_trace.specs.Order.{Written, unwritten, begun_behind_perf, begun_behind, written_behind, is_open, of_session, perf_has_turn, has_turn, have_turns}
-use Rattle.state_messages.specs.Passing.{with_bound}
+use Rattle.router_trace.specs.Order.{Written, unwritten, begun_after_perf, begun_after, written_after, is_open, of_session, perf_has_turn, has_turn, have_turns}
+use Rattle.state_messages.specs.Messages.{with_bound}
 use Rattle.router_reply.specs.Replies.{closing_of, ends}
 use Rattle.router_core.specs.Moves.{outs}
 use Rattle.state_connections.proofs.Lists.{by_test}
@@ -37,7 +37,7 @@ use Rattle.router_core.proofs.Once.{NoTwice, neither, has_first, has_rest}
 -- what was written, with more items after it
 abbrev pub written_all : List Item → Written → Written
 written_all [] w = w
-written_all (i ∷ is) w = written_all is (written_behind i w)
+written_all (i ∷ is) w = written_all is (written_after i w)
 
 -- what was written on a connection
 abbrev pub wrote : List Entry → ℕ → Written
@@ -59,11 +59,11 @@ pub record Ordered (t : List Entry) : Type 0 where
 turns_push : (is : List Item) (w : Written) (i : Item) → have_turns w is ≡ true → has_turn (written_all is w) i ≡ true → have_turns w (is ++ i ∷ []) ≡ true
 turns_push [] w i h k = ap (λ (b : Bool). if b then true else false) k
 turns_push (j ∷ js) w i h k =
-    by_test (has_turn w j) (λ e. rw e (turns_push js (written_behind j w) i (rw e at h) k)) (λ e. absurd (true≢false (sym (rw e at h))))
+    by_test (has_turn w j) (λ e. rw e (turns_push js (written_after j w) i (rw e at h) k)) (λ e. absurd (true≢false (sym (rw e at h))))
 
-pub wrote_push : (is : List Item) (w : Written) (i : Item) → written_all (is ++ i ∷ []) w ≡ written_behind i (written_all is w)
+pub wrote_push : (is : List Item) (w : Written) (i : Item) → written_all (is ++ i ∷ []) w ≡ written_after i (written_all is w)
 wrote_push [] w i = refl
-wrote_push (j ∷ js) w i = wrote_push js (written_behind j w) i
+wrote_push (j ∷ js) w i = wrote_push js (written_after j w) i
 
 pub with_inv : (i : Item) (o : Option Connection) (w : Connection) → option_map (with_item i) o ≡ Some w → (v : Connection) × (o ≡ Some v) × (with_item i v ≡ w)
 with_inv i None w e = absurd cc
@@ -80,8 +80,8 @@ map_some true f (Some h) = refl
 map_some false f v = refl
 
 begun_perf : (body : Perf) (p : Conn) (own o : ℕ) (b : ℕ → Bool) (asked : Option BeginState) (v : Option Session)
-    → perf_is_offered body asked → (behind_perf body p).closed ≡ false → b o ≡ is_some v
-    → begun_behind_perf body own b o ≡ is_some (session_behind_perf body own o asked v)
+    → perf_is_offered body asked → (after_perf body p).closed ≡ false → b o ≡ is_some v
+    → begun_after_perf body own b o ≡ is_some (session_after_perf body own o asked v)
 begun_perf (perf.Begin x) p own o b asked v offer live h = by_test (own == o) (λ e. rw e (begun_some asked x offer)) (λ e. rw e h)
 begun_perf (perf.Flow x) p own o b asked v offer live h = h ∙ map_some (own == o) _ v
 begun_perf (perf.Transfer x) p own o b asked v offer live h = h ∙ map_some (own == o) _ v
@@ -90,8 +90,8 @@ begun_perf (perf.Close x) p own o b asked v offer live h = absurd cc
 begun_perf _ p own o b asked v offer live h = h
 
 begun_more : (i : Item) (p : Conn) (o : ℕ) (b : ℕ → Bool) (asked : Option BeginState) (v : Option Session)
-    → IsOffered i asked → (behind i p).closed ≡ false → b o ≡ is_some v
-    → begun_behind i b o ≡ is_some (behind_item i o asked v)
+    → IsOffered i asked → (phase_after i p).closed ≡ false → b o ≡ is_some v
+    → begun_after i b o ≡ is_some (after_item i o asked v)
 begun_more (item.Frame sasl own body payload) p o b asked v offer live h = begun_perf body p own o b asked v offer live h
 begun_more _ p o b asked v offer live h = h
 
@@ -100,14 +100,14 @@ open_first : (p : Conn) (r : Bool) → (if is_open p then r else false) ≡ true
 open_first p r h = by_test p.opened (λ e. e) (λ e. absurd (true≢false (sym (rw e at h))))
 
 opened_perf : (body : Perf) (w : Written) (own o : ℕ) → perf_has_turn w own body ≡ true → (w.begun o ≡ true → w.phase.opened ≡ true)
-    → begun_behind_perf body own w.begun o ≡ true → (behind_perf body w.phase).opened ≡ true
+    → begun_after_perf body own w.begun o ≡ true → (after_perf body w.phase).opened ≡ true
 opened_perf (perf.Open x) w own o turn was h = refl
 opened_perf (perf.Begin x) w own o turn was h = open_first w.phase _ turn
 opened_perf (perf.End x) w own o turn was h = open_first w.phase _ turn
 opened_perf _ w own o turn was h = was h
 
 opened_more : (i : Item) (w : Written) (o : ℕ) → has_turn w i ≡ true → (w.begun o ≡ true → w.phase.opened ≡ true)
-    → (written_behind i w).begun o ≡ true → (written_behind i w).phase.opened ≡ true
+    → (written_after i w).begun o ≡ true → (written_after i w).phase.opened ≡ true
 opened_more (item.Frame sasl own body payload) w o turn was h = opened_perf body w own o turn was h
 opened_more _ w o turn was h = was h
 
@@ -120,12 +120,12 @@ out_turns t c i ord turn offer there = record {
   phases = λ k w. by_test (c == k)
       (λ e. rw e (λ is live. let v = with_inv i (conn t k) w is
       in ap (λ (x : Written). x.phase) (wrote_push (outs t k) unwritten i)
-      ∙ ap (behind i) (ord.phases k v.0 v.1 (stays i v.0.phase (ap (λ (u : Connection). u.phase.closed) v.2 ∙ live)))
+      ∙ ap (phase_after i) (ord.phases k v.0 v.1 (stays i v.0.phase (ap (λ (u : Connection). u.phase.closed) v.2 ∙ live)))
       ∙ ap (λ (u : Connection). u.phase) v.2))
       (λ e. rw e (ord.phases k w));
   begun = λ k w. by_test (c == k)
       (λ e. rw e (λ is live o. let v = with_inv i (conn t k) w is
-      in let over : (behind i v.0.phase).closed ≡ false = ap (λ (u : Connection). u.phase.closed) v.2 ∙ live
+      in let over : (phase_after i v.0.phase).closed ≡ false = ap (λ (u : Connection). u.phase.closed) v.2 ∙ live
       in ap (λ (x : Written). x.begun o) (wrote_push (outs t k) unwritten i)
       ∙ begun_more i v.0.phase o (wrote t k).begun (offered t k) (session t k o) (subst (λ (n : ℕ). IsOffered i (offered t n)) (eqb-true c k e) offer) over
       (ord.begun k v.0 v.1 (stays i v.0.phase over) o)))
@@ -180,7 +180,7 @@ turn_first false r h = absurd cc
 pub puts_turns : (is : List Item) (t : List Entry) (c : ℕ) → Ordered t → have_turns (wrote t c) is ≡ true → AreOffered is (offered t c) → has c (ups t) ≡ true → Ordered (puts c is t)
 puts_turns [] t c ord turns offers there = ord
 puts_turns (i ∷ is) t c ord turns offers there =
-    let both = turn_first (has_turn (wrote t c) i) (have_turns (written_behind i (wrote t c)) is) turns
+    let both = turn_first (has_turn (wrote t c) i) (have_turns (written_after i (wrote t c)) is) turns
     in puts_turns is (Out c i ∷ t) c (out_turns t c i ord both.0 offers.0 there)
     (subst (λ (w : Written). have_turns w is ≡ true) (sym (ap (λ js. written_all js unwritten) (outs_same t c i) ∙ wrote_push (outs t c) unwritten i)) both.1)
     (subst (λ (asked : Option BeginState). AreOffered is asked) (sym (offered_same t c i)) offers.1) there

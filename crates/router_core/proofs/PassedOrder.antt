@@ -6,7 +6,7 @@ use Rattle.amqp_model.specs.declared.item.Item.{Item}
 use Rattle.router_trace.specs.Trace.{Entry, Put}
 use Rattle.router_trace.specs.Order.{Written, of_session, perf_has_turn, has_turn}
 use Rattle.router_trace.specs.Following.{tells, sends_due, drains_due}
-use Rattle.state_messages.specs.Passing.{grants_due}
+use Rattle.state_messages.specs.Messages.{grants_due}
 use Rattle.router_after.specs.After.{followed}
 use Rattle.router_core.proofs.Attached.{session_known}
 use Rattle.router_core.proofs.Due.{goes_on_link, OnLink, AllOnLinks, tells_on, sends_on, drains_on, grants_on}

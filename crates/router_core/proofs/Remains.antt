@@ -7,10 +7,10 @@ use Rattle.journal_store.specs.Store.{Stands, disk_of}
 use Rattle.journal_store.proofs.Moments.{unmoved}
 use Rattle.router_trace.specs.declared.event.Event.{Event}
 use Rattle.router_trace.specs.Trace.{Entry}
-use Rattle.router_reply.specs.Acts.{book_in, book_behind}
+use Rattle.router_reply.specs.Acts.{book_in, book_after_event}
 use Rattle.router_core.specs.declared.driving.Sent.{Sent}
 use Rattle.router_core.specs.declared.router.Core.{Core}
-use Rattle.router_core.specs.Handling.{Fits, BeforeOrBehind, id_of, store_of, kept_book}
+use Rattle.router_core.specs.Handling.{Fits, BeforeOrAfterEvent, id_of, store_of, kept_book}
 use Rattle.router_core.specs.Leaving.{IsBookAt, LeftBy}
 use Rattle.router_core.specs.Runs.{Run}
 
@@ -29,9 +29,9 @@ module _ {D : Type 0} (seen : D → List ℕ) (may_leave : D → List ℕ → Ty
   -- one event more
   pub next_moment : (start mid new : D) (id : List ℕ) (t : List Entry) (es first : List Event) (taken : List Sent) (m : List Entry) (e : Event) (rest : List Event)
       → es ≡ first ++ e ∷ rest → Run id 0 t first taken m → LeavesOnly moment left_since start mid (LeftBy id t es)
-      → LeavesOnly moment left_since mid new (BeforeOrBehind m e) → LeavesOnly moment left_since start new (LeftBy id t es)
+      → LeavesOnly moment left_since mid new (BeforeOrAfterEvent m e) → LeavesOnly moment left_since start new (LeftBy id t es)
   next_moment start mid new id t es first taken m e rest events run so_far now =
       joined moment left_since start mid new (LeftBy id t es) so_far
-      (widened moment left_since mid new (BeforeOrBehind m e) (LeftBy id t es) now (λ file. ⊎_elim
+      (widened moment left_since mid new (BeforeOrAfterEvent m e) (LeftBy id t es) now (λ file. ⊎_elim
       (λ opens. (book_in m, opens, record { first = first; rest = e ∷ rest; events = events; taken = taken; mid = m; run = run; book = inl refl }))
-      (λ opens. (book_behind m e, opens, record { first = first; rest = e ∷ rest; events = events; taken = taken; mid = m; run = run; book = inr refl }))))
+      (λ opens. (book_after_event m e, opens, record { first = first; rest = e ∷ rest; events = events; taken = taken; mid = m; run = run; book = inr refl }))))

@@ -22,7 +22,7 @@ use Rattle.router_trace.specs.Sessions.{session, offered, offered_by, theirs}
 use Rattle.router_trace.specs.Clocks.{terms, terms_in, terms_by, channel_max_of}
 use Rattle.router_trace.specs.Order.{Written, unwritten, is_open, of_session, have_turns}
 use Rattle.router_state.specs.Tables.{beats}
-use Rattle.state_messages.specs.Passing.{with_bound}
+use Rattle.state_messages.specs.Messages.{with_bound}
 use Rattle.reply_rows.specs.declared.answer.Answer.{Answer}
 use Rattle.reply_rows.specs.Rows.{said}
 use Rattle.router_reply.specs.Acts.{answer_of}

@@ -12,13 +12,13 @@ use Rattle.router_trace.specs.declared.condition.Condition.{Condition}
 use Rattle.router_trace.specs.declared.condition.Condition.TheVariants.{ResourceLimitExceeded}
 use Rattle.router_trace.specs.declared.terms.Terms.{Terms}
 use Rattle.router_trace.specs.Trace.{Entry, Put, Out, goes, puts, each_to, ups}
-use Rattle.router_trace.specs.Connection.{Connection, conn, behind, behind_perf, has}
+use Rattle.router_trace.specs.Connection.{Connection, conn, phase_after, after_perf, has}
 use Rattle.router_trace.specs.Frames.{open_item, close_item}
 use Rattle.router_trace.specs.Sessions.{unless_close, unless_close_in}
 use Rattle.router_trace.specs.Clocks.{terms}
 use Rattle.reply_rows.specs.declared.answer.Answer.{Answer}
 use Rattle.reply_rows.specs.declared.answer.Answer.TheVariants as answer
-use Rattle.state_messages.specs.Passing.{with_bound}
+use Rattle.state_messages.specs.Messages.{with_bound}
 use Rattle.reply_rows.specs.Rows.{said}
 use Rattle.router_reply.specs.Replies.{closing_of, ends}
 use Rattle.state_connections.proofs.Lists.{by_test}
@@ -36,11 +36,11 @@ pub record Told (t : List Entry) : Type 0 where
   pub strange : (c : ℕ) → has c (ups t) ≡ false → terms t c ≡ None
 
 -- an item put out changes nothing of it
-opened_perf_stays : (body : Perf) (p : Conn) → p.opened ≡ true → (behind_perf body p).opened ≡ true
+opened_perf_stays : (body : Perf) (p : Conn) → p.opened ≡ true → (after_perf body p).opened ≡ true
 opened_perf_stays (perf.Open x) p h = refl
 opened_perf_stays _ p h = h
 
-opened_stays : (i : Item) (p : Conn) → p.opened ≡ true → (behind i p).opened ≡ true
+opened_stays : (i : Item) (p : Conn) → p.opened ≡ true → (phase_after i p).opened ≡ true
 opened_stays (item.Frame sasl own body payload) p h = opened_perf_stays body p h
 opened_stays _ p h = h
 

@@ -18,7 +18,7 @@ use Rattle.router_trace.specs.Trace.{Trace, did}
 use Rattle.router_trace.specs.Connection.{due, phase_before}
 use Rattle.router_state.specs.declared.tables.State.{State}
 use Rattle.router_state.specs.Tables.{TablesFit}
-use Rattle.router_reply.specs.Acts.{journaled, book_in, book_behind, answer_to_event}
+use Rattle.router_reply.specs.Acts.{journaled, book_in, book_after_event, answer_to_event}
 use Rattle.router_reply.specs.Heard.{IsHeard}
 use Rattle.router_core.specs.declared.router.Ready.{Ready}
 use Rattle.core_machine.specs.Turns.{is_started, declines}
@@ -92,9 +92,9 @@ abbrev pub counts_of : {D : Type 0} → Core D → Counts
 counts_of core = core.counts
 
 -- a file opens to the book before an event, or to the book after it
-abbrev pub BeforeOrBehind : Trace → Event → List ℕ → Type 0
-BeforeOrBehind t e file = OpensTo file (book_in t) ⊎ OpensTo file (book_behind t e)
+abbrev pub BeforeOrAfterEvent : Trace → Event → List ℕ → Type 0
+BeforeOrAfterEvent t e file = OpensTo file (book_in t) ⊎ OpensTo file (book_after_event t e)
 
 -- the book before an event, or the one after it: what a fault leaves
 abbrev pub LeftBook : Trace → Event → BookView → Type 0
-LeftBook t e book = (book ≡ book_in t) ⊎ (book ≡ book_behind t e)
+LeftBook t e book = (book ≡ book_in t) ⊎ (book ≡ book_after_event t e)

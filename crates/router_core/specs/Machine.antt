@@ -7,7 +7,7 @@ use Rattle.journal_store.specs.declared.store.Store.{Store}
 use Rattle.route_table.specs.Places.{routing_of}
 use Rattle.route_table.specs.Settings.{Settings}
 use Rattle.router_trace.specs.Trace.{Beginning}
-use Rattle.router_reply.specs.Acts.{book_in, book_behind}
+use Rattle.router_reply.specs.Acts.{book_in, book_after_event}
 use Rattle.core_machine.specs.Meaning.{Meaning}
 use Rattle.router_core.specs.declared.router.Core.{Core}
 use Rattle.router_core.specs.Handling.{Fits, id_of, is_failed, counts_of, store_of, kept_book}
@@ -35,7 +35,7 @@ core_meaning {D} seen may_leave failures = record {
   leaves = LeavesBook may_leave;
   next = handled;
   book = book_in;
-  next_book = book_behind;
+  next_book = book_after_event;
 }
 
 -- what a core was opened with: its configuration, and the book and the figures of the journal that it found

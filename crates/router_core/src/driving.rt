@@ -4,7 +4,7 @@ ghost use Rattle.router_trace.specs.Trace.{Entry};
 ghost use Rattle.router_trace.specs.Connection.{conn as known, is_ready};
 ghost use Rattle.disk_core.specs.Disk.{LeavesOnly};
 ghost use Rattle.journal_store.specs.Store.{Stands, disk_of};
-ghost use Rattle.router_core.specs.Handling.{Fits, BeforeOrBehind, id_of, is_failed, store_of};
+ghost use Rattle.router_core.specs.Handling.{Fits, BeforeOrAfterEvent, id_of, is_failed, store_of};
 ghost use Rattle.router_core.specs.Leaving.{LeftBy};
 ghost use Rattle.router_core.specs.Runs.{Emptied, Steps, Run, MayStep, InTurn, Broken, Stopped, Waits, as_sent, sent};
 ghost use Rattle.core_machine.specs.Moves.{Taking, taking, items_of, took_one};
@@ -128,7 +128,7 @@ fn step<D: Disk>(
 
     ensures stands { OnOk result (Stands D.seen D.may_leave (store_of core.old) → Stands D.seen D.may_leave (store_of core.new)) }
     ensures any_moment { (t : List Entry) → Fits core.old t → Stands D.seen D.may_leave (store_of core.old)
-        → LeavesOnly D.moment D.left_since (disk_of (store_of core.old)) (disk_of (store_of core.new)) (BeforeOrBehind t event) }
+        → LeavesOnly D.moment D.left_since (disk_of (store_of core.old)) (disk_of (store_of core.new)) (BeforeOrAfterEvent t event) }
 {
     hear(core, event)?;
     empty(core, place, taken)
@@ -150,7 +150,7 @@ fn hear<D: Disk>(core: &mut Core<D>, event: Event) -> Result<(), CoreFault>
 
     ensures stands { OnOk result (Stands D.seen D.may_leave (store_of core.old) → Stands D.seen D.may_leave (store_of core.new)) }
     ensures any_moment { (t : List Entry) → Fits core.old t → Stands D.seen D.may_leave (store_of core.old)
-        → LeavesOnly D.moment D.left_since (disk_of (store_of core.old)) (disk_of (store_of core.new)) (BeforeOrBehind t event) }
+        → LeavesOnly D.moment D.left_since (disk_of (store_of core.old)) (disk_of (store_of core.new)) (BeforeOrAfterEvent t event) }
 {
     match core.handle(event) {
         Ok(done) => {
@@ -183,8 +183,8 @@ pub fn drive<D: Disk>(alloc: Global, core: &mut Core<D>, events: Vec<Event>) -> 
     ensures cause { IfSome result.fault (λ f. f ≡ CoreFault.Disk → D.failures (disk_of (store_of core.old)) < D.failures (disk_of (store_of core.new))) }
     ensures no_other { result.fault ≢ Some CoreFault.Disk → D.failures (disk_of (store_of core.new)) ≡ D.failures (disk_of (store_of core.old)) }
 
-    // Whatever happens, a crash at any moment of the call leaves the book behind some first events, or that book after the acts of the
-    // event that comes next. Without a fault it leaves, at the end, the book behind all of them.
+    // Whatever happens, a crash at any moment of the call leaves the book after some first events, or that book after the acts of the
+    // event that comes next. Without a fault it leaves, at the end, the book after all of them.
     ensures any_moment { (t : List Entry) → Fits core.old t → Stands D.seen D.may_leave (store_of core.old)
         → LeavesOnly D.moment D.left_since (disk_of (store_of core.old)) (disk_of (store_of core.new)) (LeftBy (id_of core.old) t events.items) }
     ensures stands { result.fault ≡ None → Stands D.seen D.may_leave (store_of core.old) → Stands D.seen D.may_leave (store_of core.new) }

@@ -36,7 +36,7 @@ impl<D: Disk> Machine for Core<D> {
     }
 
     fn ready_after(&self, conn: ConnectionId) -> Option<ConnectionId> {
-        Core::ready_behind(self, conn)
+        Core::ready_after(self, conn)
     }
 
     fn counts(&self) -> Counts {

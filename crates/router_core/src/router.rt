@@ -3,14 +3,14 @@ ghost use Rattle.std.specs.Prelude.{◌≡◌, ◌≢◌, ◌⊎◌, ◌+◌, �
 ghost use Rattle.disk_core.specs.Disk.{LeavesOnly, NoMore};
 ghost use Rattle.gate_journal.specs.Journal.{batch_count};
 ghost use Rattle.gate_journal.specs.Opening.{Explains};
-ghost use Rattle.journal_store.specs.Store.{OpensTo, Stands, Writable, journal_of, disk_of, count_of, used_of, kept_of, used_behind, batches_behind, exceeds};
+ghost use Rattle.journal_store.specs.Store.{OpensTo, Stands, Writable, journal_of, disk_of, count_of, used_of, kept_of, used_after, batches_after, exceeds};
 ghost use Rattle.router_trace.specs.Configuration.{beginning};
 ghost use Rattle.router_trace.specs.Trace.{Entry, Took, did, step_of};
 ghost use Rattle.router_trace.specs.Connection.{conn as known, is_ready, is_live, due, phase_before, phase_found};
 ghost use Rattle.state_connections.specs.Fits.{IsLeast};
 ghost use Rattle.book_model.specs.Book.{effects};
 ghost use Rattle.gate_journal.specs.Reserve.{reserve};
-ghost use Rattle.router_reply.specs.Acts.{planned_acts, event_answer, acts_of, book_behind, booked};
+ghost use Rattle.router_reply.specs.Acts.{planned_acts, event_answer, acts_of, book_after_event, booked};
 ghost use Rattle.router_reply.specs.Admitting.{admits, event_admission, without_acts};
 ghost use Rattle.router_reply.specs.Heard.{IsHeard};
 ghost use Rattle.router_reply.specs.Replies.{row_found};
@@ -18,7 +18,7 @@ ghost use Rattle.core_machine.specs.Turns.{declines};
 ghost use Rattle.router_core.specs.Replies.{Replies, answered, handled};
 ghost use Rattle.router_state.specs.Tables.{TablesFit, TablesAt};
 ghost use Rattle.router_state.specs.Waiting.{NothingWaits};
-ghost use Rattle.router_core.specs.Handling.{Fits, IsTaken, IsReady, TakenIn, with_admission, is_failed, id_of, store_of, kept_book, state_of, counts_of, BeforeOrBehind, LeftBook};
+ghost use Rattle.router_core.specs.Handling.{Fits, IsTaken, IsReady, TakenIn, with_admission, is_failed, id_of, store_of, kept_book, state_of, counts_of, BeforeOrAfterEvent, LeftBook};
 ghost use Rattle.core_machine.specs.Meaning.{IsBatchOf, IsTakenOf};
 ghost use Rattle.core_machine.specs.Counting.{uncounted, with_event, with_batch};
 ghost use Rattle.core_machine.specs.Opened.{IsOpened};
@@ -212,7 +212,7 @@ impl<D: Disk> Core<D> {
 
         // The event's acts are done to the book, and written as one batch; where there are none, nothing is written.
         ensures stands { OnOk result (Stands D.seen D.may_leave (store_of self.old) → Stands D.seen D.may_leave (store_of self.new)) }
-        ensures book { OnOk result ((t : List Entry) → Fits self.old t → kept_book self.new ≡ book_behind t event) }
+        ensures book { OnOk result ((t : List Entry) → Fits self.old t → kept_book self.new ≡ book_after_event t event) }
         ensures written { IfOk result (λ done. (t : List Entry) → Fits self.old t → IfSome done.journal (λ batch.
             (batch.0 ≡ batch_count (journal_of (store_of self.old)) + 1) × (batch.1.items ≡ acts_of t event))) }
         ensures silent { IfOk result (λ done. (t : List Entry) → Fits self.old t → IfNone done.journal (acts_of t event ≡ [])) }
@@ -220,7 +220,7 @@ impl<D: Disk> Core<D> {
         // Whatever is answered, a crash at any moment of the call leaves the book before the event or the book after it; and after
         // a fault of the disk or of memory no item waits in any outbox.
         ensures any_moment { (t : List Entry) → Fits self.old t → Stands D.seen D.may_leave (store_of self.old)
-            → LeavesOnly D.moment D.left_since (disk_of (store_of self.old)) (disk_of (store_of self.new)) (BeforeOrBehind t event) }
+            → LeavesOnly D.moment D.left_since (disk_of (store_of self.old)) (disk_of (store_of self.new)) (BeforeOrAfterEvent t event) }
         ensures given_up { OnErr result (is_failed self.old ≡ false → is_failed self.new ≡ true → NothingWaits (state_of self.new)) }
 
         // One more event is counted exactly if the call answers Ok.
@@ -284,12 +284,12 @@ impl<D: Disk> Core<D> {
         ensures works { is_failed self.new ≡ is_failed self.old }
         ensures named { id_of self.new ≡ id_of self.old }
         ensures stands { OnOk result (Stands D.seen D.may_leave (store_of self.old) → Stands D.seen D.may_leave (store_of self.new)) }
-        ensures book { OnOk result ((t : List Entry) → Fits self.old t → IsTaken t event phase → kept_book self.new ≡ book_behind t event) }
+        ensures book { OnOk result ((t : List Entry) → Fits self.old t → IsTaken t event phase → kept_book self.new ≡ book_after_event t event) }
         ensures written { IfOk result (λ journal. (t : List Entry) → Fits self.old t → IsTaken t event phase → IfSome journal (λ batch.
             (batch.0 ≡ batch_count (journal_of (store_of self.old)) + 1) × (batch.1.items ≡ acts_of t event))) }
         ensures silent { IfOk result (λ journal. (t : List Entry) → Fits self.old t → IsTaken t event phase → IfNone journal (acts_of t event ≡ [])) }
         ensures any_moment { (t : List Entry) → Fits self.old t → IsTaken t event phase → Stands D.seen D.may_leave (store_of self.old)
-            → LeavesOnly D.moment D.left_since (disk_of (store_of self.old)) (disk_of (store_of self.new)) (BeforeOrBehind t event) }
+            → LeavesOnly D.moment D.left_since (disk_of (store_of self.old)) (disk_of (store_of self.new)) (BeforeOrAfterEvent t event) }
         ensures counted { OnOk result (counts_of self.new ≡ with_event event (counts_of self.old)) }
         ensures uncounted { OnErr result (counts_of self.new ≡ counts_of self.old) }
         ensures left { OnErr result ((t : List Entry) → Fits self.old t → IsTaken t event phase → LeftBook t event (kept_book self.new)) }
@@ -479,8 +479,8 @@ impl<D: Disk> Core<D> {
         ensures rest { self.new ≡ record self.old { store = store_of self.new } }
         ensures stands { OnOk result (Stands D.seen D.may_leave (store_of self.old) → Stands D.seen D.may_leave (store_of self.new)) }
         ensures book { OnOk result (kept_book self.new ≡ effects (kept_book self.old) acts.items) }
-        ensures count { OnOk result (count_of (store_of self.new) ≡ batches_behind (count_of (store_of self.old)) acts.items) }
-        ensures used { OnOk result (used_of (store_of self.new) ≡ used_behind (used_of (store_of self.old)) acts.items) }
+        ensures count { OnOk result (count_of (store_of self.new) ≡ batches_after (count_of (store_of self.old)) acts.items) }
+        ensures used { OnOk result (used_of (store_of self.new) ≡ used_after (used_of (store_of self.old)) acts.items) }
         ensures kept { OnOk result (kept_of (store_of self.old) ≡ reserve (kept_book self.old) → kept_of (store_of self.new) ≡ reserve (kept_book self.new)) }
         ensures written { IfOk result (λ w. IfSome w (λ batch. (batch.0 ≡ batch_count (journal_of (store_of self.old)) + 1) × (batch.1.items ≡ acts.items))) }
         ensures silent { IfOk result (λ w. IfNone w (acts.items ≡ [])) }
@@ -607,10 +607,10 @@ impl<D: Disk> Core<D> {
     }
 
     /// The lowest ready connection above another.
-    pub fn ready_behind(&self, conn: ConnectionId) -> Option<ConnectionId>
+    pub fn ready_after(&self, conn: ConnectionId) -> Option<ConnectionId>
         ensures { (t : List Entry) → Fits self.now t → IsLeast (λ c. nat_lt conn.0 c && is_ready (known t c)) (option_map (λ c. c.0) result) }
     {
-        match self.state.ready_behind(conn.0) {
+        match self.state.ready_after(conn.0) {
             None => None,
             Some(next) => Some(ConnectionId(next)),
         }

@@ -13,7 +13,7 @@ use Rattle.router_trace.specs.Refusing.{rises}
 use Rattle.core_player.specs.Listening.{door_for}
 use Rattle.router_reply.specs.Acts.{journaled}
 use Rattle.router_play.specs.Script.{Scene, opening, book_line, say, refused, hand, made, lose, Takes, Flushes, Plays, PlaysAll}
-use Rattle.router_play.specs.Carrying.{behind_up, role_in, door_in, bytes_of, bytes_in, door_says, passed, Carries, RunsCarry}
+use Rattle.router_play.specs.Carrying.{after_up, role_in, door_in, bytes_of, bytes_in, door_says, passed, Carries, RunsCarry}
 use Rattle.state_connections.proofs.Lists.{by_test}
 use Rattle.router_play.specs.Script.{new_router}
 use Rattle.router_play.proofs.Beginning.{began}
@@ -26,8 +26,8 @@ use Rattle.router_play.proofs.Losing.{opened_lost}
 use Rattle.router_play.proofs.Making.{made_lost, made_opened, made_unmade, new_number, unmade_made}
 use Rattle.router_play.proofs.Stages.{Lost, Opened, Unmade, bytes_quiet, closed_down, closed_in, lose_quiet, lost_flushed, lost_quiet, opened_flushed, opened_quiet, refused_quiet, tick_quiet, unmade_flushed, unmade_quiet}
 
-behind_flush : (s u : Scene) → Flushes s u → u.last ≡ s.last
-behind_flush s u f = ap (λ (w : Scene). w.last) f.scene ∙ take_all_last f.takes s
+after_flush : (s u : Scene) → Flushes s u → u.last ≡ s.last
+after_flush s u f = ap (λ (w : Scene). w.last) f.scene ∙ take_all_last f.takes s
 
 play_lost : (start : DoorState) (xs : List Step) (s u : Scene) (c : ℕ) (stream : List ℕ) → Flushed s → Lost start s c stream → Plays xs s u → Carries start stream u.trace u.lines c
 play_lost start [] s u c stream f h plays =
@@ -98,7 +98,7 @@ play_opened start (step.Fuse calls ∷ xs) s u c stream f h plays =
 
 -- it carries the bytes after its making, at the door of its role
 abbrev FromUp : Settings → Option ℕ → List Step → Scene → ℕ → Type 0
-FromUp config newest xs u c = Carries (door_for config (role_in c newest xs)) (bytes_of c (behind_up c newest xs)) u.trace u.lines c
+FromUp config newest xs u c = Carries (door_for config (role_in c newest xs)) (bytes_of c (after_up c newest xs)) u.trace u.lines c
 
 -- no step changes the configuration
 same_config : (x : Step) (s mid next : Scene) → Takes x s mid → Flushes mid next → next.config ≡ s.config
@@ -118,7 +118,7 @@ play_unmade (step.Up d role ∷ xs) s u c f h plays =
     let config : plays.1.config ≡ s.config = same_config (step.Up d role) s plays.0 plays.1 plays.2 plays.3
     in by_test (rises d.0 s.last)
     (λ r. let mid : plays.0 ≡ made d role s = plays.2 ∙ (rw r refl)
-    in let last : plays.1.last ≡ Some d.0 = behind_flush plays.0 plays.1 plays.3 ∙ ap (λ (w : Scene). w.last) mid
+    in let last : plays.1.last ≡ Some d.0 = after_flush plays.0 plays.1 plays.3 ∙ ap (λ (w : Scene). w.last) mid
     in by_test (d.0 == c)
     (λ e. let is : d.0 ≡ c = eqb-true d.0 c e
     in let start : DoorState = door_for s.config role
@@ -128,23 +128,23 @@ play_unmade (step.Up d role ∷ xs) s u c f h plays =
     (λ e. rw (r, e) (from_as s.config plays.1.config (Some d.0) plays.1.last xs u c config last
     (play_unmade xs plays.1 u c plays.3.empty (unmade_flushed plays.0 plays.1 c plays.3 (subst (λ (w : Scene). Unmade w c) (sym mid) (made_unmade d role s c e h))) plays.4))))
     (λ r. let mid : plays.0 ≡ say refused s = plays.2 ∙ (rw r refl)
-    in let last : plays.1.last ≡ s.last = behind_flush plays.0 plays.1 plays.3 ∙ ap (λ (w : Scene). w.last) mid
+    in let last : plays.1.last ≡ s.last = after_flush plays.0 plays.1 plays.3 ∙ ap (λ (w : Scene). w.last) mid
     in rw r (from_as s.config plays.1.config s.last plays.1.last xs u c config last
     (play_unmade xs plays.1 u c plays.3.empty (unmade_flushed plays.0 plays.1 c plays.3 (subst (λ (w : Scene). Unmade w c) (sym mid) (unmade_quiet s (say refused s) c (refused_quiet s c) h))) plays.4)))
 play_unmade (step.In d bytes ∷ xs) s u c f h plays =
     let q : Quiet s plays.0 c = closed_in d bytes s plays.0 c h.socket plays.2
-    in from_as s.config plays.1.config s.last plays.1.last xs u c (same_config (step.In d bytes) s plays.0 plays.1 plays.2 plays.3) (behind_flush plays.0 plays.1 plays.3 ∙ q.last)
+    in from_as s.config plays.1.config s.last plays.1.last xs u c (same_config (step.In d bytes) s plays.0 plays.1 plays.2 plays.3) (after_flush plays.0 plays.1 plays.3 ∙ q.last)
     (play_unmade xs plays.1 u c plays.3.empty (unmade_flushed plays.0 plays.1 c plays.3 (unmade_quiet s plays.0 c q h)) plays.4)
 play_unmade (step.Down d ∷ xs) s u c f h plays =
     let q : Quiet s plays.0 c = subst (λ (w : Scene). Quiet s w c) (sym plays.2) (closed_down d s c h.socket)
-    in from_as s.config plays.1.config s.last plays.1.last xs u c (same_config (step.Down d) s plays.0 plays.1 plays.2 plays.3) (behind_flush plays.0 plays.1 plays.3 ∙ q.last)
+    in from_as s.config plays.1.config s.last plays.1.last xs u c (same_config (step.Down d) s plays.0 plays.1 plays.2 plays.3) (after_flush plays.0 plays.1 plays.3 ∙ q.last)
     (play_unmade xs plays.1 u c plays.3.empty (unmade_flushed plays.0 plays.1 c plays.3 (unmade_quiet s plays.0 c q h)) plays.4)
 play_unmade (step.Tick ms ∷ xs) s u c f h plays =
     let q : Quiet s plays.0 c = subst (λ (w : Scene). Quiet s w c) (sym plays.2) (tick_quiet ms s c)
-    in from_as s.config plays.1.config s.last plays.1.last xs u c (same_config (step.Tick ms) s plays.0 plays.1 plays.2 plays.3) (behind_flush plays.0 plays.1 plays.3 ∙ q.last)
+    in from_as s.config plays.1.config s.last plays.1.last xs u c (same_config (step.Tick ms) s plays.0 plays.1 plays.2 plays.3) (after_flush plays.0 plays.1 plays.3 ∙ q.last)
     (play_unmade xs plays.1 u c plays.3.empty (unmade_flushed plays.0 plays.1 c plays.3 (unmade_quiet s plays.0 c q h)) plays.4)
 play_unmade (step.Fuse calls ∷ xs) s u c f h plays =
-    from_as s.config plays.1.config s.last plays.1.last xs u c (same_config (step.Fuse calls) s plays.0 plays.1 plays.2 plays.3) (behind_flush plays.0 plays.1 plays.3 ∙ ap (λ (w : Scene). w.last) plays.2)
+    from_as s.config plays.1.config s.last plays.1.last xs u c (same_config (step.Fuse calls) s plays.0 plays.1 plays.2 plays.3) (after_flush plays.0 plays.1 plays.3 ∙ ap (λ (w : Scene). w.last) plays.2)
     (play_unmade xs plays.1 u c plays.3.empty (unmade_flushed plays.0 plays.1 c plays.3 (subst (λ (w : Scene). Unmade w c) (sym plays.2) h)) plays.4)
 
 pub play_carries : (config : Settings) (steps : List Step) (u : Scene) (c : ℕ) → Plays steps (opening config) u → Carries (door_in config c steps) (bytes_in c steps) u.trace u.lines c

@@ -17,7 +17,7 @@ use Rattle.router_trace.specs.Connection.{Connection, conn, is_live}
 use Rattle.router_trace.specs.Refusing.{refuses}
 use Rattle.router_core.specs.Replies.{handled}
 use Rattle.core_machine.specs.Moves.{waiting_of}
-use Rattle.core_door.specs.Door.{Verdict, says, passes, ends, door, door_behind}
+use Rattle.core_door.specs.Door.{Verdict, says, passes, ends, door, door_after}
 use Rattle.router_play.specs.Script.{Scene, say_all, say, refused, out_line, with_socket, with_trace, hand, judged_by, enter_at, enter_by, enter, enter_all}
 use Rattle.router_core.specs.Moves.{with_came, ins, outs}
 use Rattle.router_play.specs.Carrying.{is_loss_of, was_lost, bytes_out, spelled, door_says, passed, Begins}
@@ -140,7 +140,7 @@ hand_quiet e s c still none =
 -- items of another connection
 judged_quiet : (d : ConnectionId) (i : Item) (k : Socket) (dd : DoorState) (s : Scene) (c : ℕ) → (d.0 == c) ≡ false → (v : Verdict) → Quiet s (judged_by d i k dd s v) c
 judged_quiet d i k dd s c apart (says items) =
-    let knows : Option Socket = Some (record { door = Some (door_behind dd i); reader = k.reader })
+    let knows : Option Socket = Some (record { door = Some (door_after dd i); reader = k.reader })
     in let stays : Scene = with_socket d knows s
     in quiet_trans s stays (judged_by d i k dd s (says items)) c (socket_quiet d knows s c apart)
     (say_quiet (map (out_line d) items) stays c (other_lines d c items apart))

@@ -25,7 +25,7 @@ use Rattle.router_trace.specs.Frames.{flow_item, told_of}
 use Rattle.router_trace.specs.Following.{tells, sends_due, drains_due}
 use Rattle.state_sessions.specs.Windows.{is_narrow, flow_due, flows_below, windows_over, windows}
 use Rattle.router_state.specs.Tables.{beat_if, beats_over, beats}
-use Rattle.state_messages.specs.Passing.{grants_due, with_bound}
+use Rattle.state_messages.specs.Messages.{grants_due, with_bound}
 use Rattle.reply_rows.specs.Rows.{said}
 use Rattle.reply_transfers.specs.Transfers.{part_put, settled_answers}
 use Rattle.router_reply.specs.Replies.{closing_of, ends, heard, stolen_by, refused, bound_by, item_row, own_row, replied}
@@ -320,8 +320,8 @@ row_even id t (event.Tick ms) c links =
 row_even id t event.Start c links = even_refl (heard id t (step_of event.Start)) c
 
 -- an event with its replies
-behind_even : (id : List ℕ) (g : Beginning) (t : List Entry) (e : Event) (c : ℕ) → IsTrace id g t → refuses t e ≡ false → Even (did e ∷ booked t e) (handled id t (step_of e)) c
-behind_even id g t e c real taken =
+after_even : (id : List ℕ) (g : Beginning) (t : List Entry) (e : Event) (c : ℕ) → IsTrace id g t → refuses t e ≡ false → Even (did e ∷ booked t e) (handled id t (step_of e)) c
+after_even id g t e c real taken =
     let b : List Entry = booked t e
     in let u : List Entry = heard id b (step_of e)
     in let v : List Entry = replied id b (step_of e)
@@ -338,7 +338,7 @@ batch_even t e c = booked_keeps (λ (u : List Entry). Even t u c) t e
 pub handled_even : (id : List ℕ) (g : Beginning) (t : List Entry) (e : Event) (c : ℕ) → IsTrace id g t → refuses t e ≡ false → moves e c ≡ false → Even t (handled id t (step_of e)) c
 handled_even id g t e c real taken h =
     even_trans t (booked t e) (handled id t (step_of e)) c (batch_even t e c)
-    (even_trans (booked t e) (did e ∷ booked t e) (handled id t (step_of e)) c (did_even (booked t e) e c h) (behind_even id g t e c real taken))
+    (even_trans (booked t e) (did e ∷ booked t e) (handled id t (step_of e)) c (did_even (booked t e) e c h) (after_even id g t e c real taken))
 
 pub same : (n : ℕ) → (n == n) ≡ true
 same n = eq-eqb n n refl
@@ -355,7 +355,7 @@ up_level id g t d p real taken none =
     in let here : (d.0 == d.0) ≡ true = same d.0
     in level_trans t (did e ∷ booked t e) (handled id t (step_of e)) d.0
     (record { added = []; written = sym (append-nil (outs t d.0)); waits = rw here (sym (ap (λ (o : Option Connection). waiting_of o ++ []) none)) })
-    (behind_even id g t e d.0 real taken).level
+    (after_even id g t e d.0 real taken).level
 
 -- a connection for which nothing is waiting is lost
 pub down_level : (id : List ℕ) (g : Beginning) (t : List Entry) (d : ConnectionId) → IsTrace id g t → refuses t (event.Down d) ≡ false → waiting_of (conn t d.0) ≡ []
@@ -365,13 +365,13 @@ down_level id g t d real taken none =
     in let here : (d.0 == d.0) ≡ true = same d.0
     in level_trans t (did e ∷ booked t e) (handled id t (step_of e)) d.0
     (record { added = []; written = sym (append-nil (outs t d.0)); waits = rw here (sym (ap (λ (xs : List Item). xs ++ []) none)) })
-    (behind_even id g t e d.0 real taken).level
+    (after_even id g t e d.0 real taken).level
 
 pub down_dead : (id : List ℕ) (g : Beginning) (t : List Entry) (d : ConnectionId) → IsTrace id g t → refuses t (event.Down d) ≡ false → conn (handled id t (step_of (event.Down d))) d.0 ≡ None
 down_dead id g t d real taken =
     let e : Event = event.Down d
     in let here : (d.0 == d.0) ≡ true = same d.0
-    in none_of (conn (handled id t (step_of e)) d.0) ((behind_even id g t e d.0 real taken).known ∙ (rw here refl))
+    in none_of (conn (handled id t (step_of e)) d.0) ((after_even id g t e d.0 real taken).known ∙ (rw here refl))
 
 -- the losses: those of the events
 

@@ -14,7 +14,7 @@ use Rattle.router_trace.specs.Trace.{Entry, Took, step_of}
 use Rattle.router_trace.specs.Connection.{Connection, conn, took, is_live}
 use Rattle.router_core.specs.Replies.{handled}
 use Rattle.core_machine.specs.Moves.{Taking, waiting_of, items_of, took_one}
-use Rattle.core_door.specs.Door.{Verdict, says, passes, ends, door, door_behind}
+use Rattle.core_door.specs.Door.{Verdict, says, passes, ends, door, door_after}
 use Rattle.router_play.specs.Script.{Scene, say_all, say, refused, out_line, with_socket, with_trace, hand, judged_by, enter_at, enter_by, enter, enter_all, is_last, close_if, take_one, take_all}
 use Rattle.router_core.specs.Moves.{ins, outs}
 use Rattle.router_play.specs.Carrying.{was_lost, bytes_out, spelled, said_by, door_says, passed_by, passed}
@@ -115,11 +115,11 @@ judged_own d i k dd s real said D P h balance (says items) is =
     in record {
       real = real;
       said = said ++ items;
-      balance = subst (λ (bs : List ℕ). Balances (said ++ items) s.trace d.0 bs) (sym (told_lines d items (with_socket d (Some (record { door = Some (door_behind dd i); reader = k.reader })) s)))
+      balance = subst (λ (bs : List ℕ). Balances (said ++ items) s.trace d.0 bs) (sym (told_lines d items (with_socket d (Some (record { door = Some (door_after dd i); reader = k.reader })) s)))
           (door_balance said items s.trace d.0 (bytes_out d.0 s.lines) h.unknown h.silent balance);
       stands = rw here (record {
-        speaks = λ m. h.speaks (i ∷ m) ∙ ap (λ (w : Verdict). said ++ said_by w (door_says (door_behind dd i) m)) is ∙ sym (append_assoc said items (door_says (door_behind dd i) m));
-        lets = λ m. h.lets (i ∷ m) ∙ ap (λ (w : Verdict). passed_by w (i ∷ m) (passed (door_behind dd i) m)) is;
+        speaks = λ m. h.speaks (i ∷ m) ∙ ap (λ (w : Verdict). said ++ said_by w (door_says (door_after dd i) m)) is ∙ sym (append_assoc said items (door_says (door_after dd i) m));
+        lets = λ m. h.lets (i ∷ m) ∙ ap (λ (w : Verdict). passed_by w (i ∷ m) (passed (door_after dd i) m)) is;
         unknown = h.unknown;
         none = h.none;
         silent = h.silent;
@@ -134,8 +134,8 @@ judged_own d i k dd s real said D P h balance (passes user) is =
     in let socket : (hand (event.Item d i) up).sockets d.0 ≡ Some (record { door = None; reader = k.reader })
     = hand_sockets (event.Item d i) up d.0 ∙ hand_sockets (event.Up d p) inside d.0 ∙ (rw here refl)
     in entered_as (hand (event.Item d i) up) d.0 (λ m. said) (λ m. i ∷ m) (λ m. D (i ∷ m)) (λ m. P (i ∷ m))
-    (λ m. h.speaks (i ∷ m) ∙ ap (λ (w : Verdict). said ++ said_by w (door_says (door_behind dd i) m)) is ∙ append-nil said)
-    (λ m. h.lets (i ∷ m) ∙ ap (λ (w : Verdict). passed_by w (i ∷ m) (passed (door_behind dd i) m)) is)
+    (λ m. h.speaks (i ∷ m) ∙ ap (λ (w : Verdict). said ++ said_by w (door_says (door_after dd i) m)) is ∙ append-nil said)
+    (λ m. h.lets (i ∷ m) ∙ ap (λ (w : Verdict). passed_by w (i ∷ m) (passed (door_after dd i) m)) is)
     (record {
       real = all.real;
       said = all.said;
@@ -153,7 +153,7 @@ judged_own d i k dd s real said D P h balance (ends items) is =
           (door_balance said items s.trace d.0 (bytes_out d.0 s.lines) h.unknown h.silent balance);
       stands = rw here (
         record {
-          silent = λ m. h.speaks (i ∷ m) ∙ ap (λ (w : Verdict). said ++ said_by w (door_says (door_behind dd i) m)) is;
+          silent = λ m. h.speaks (i ∷ m) ∙ ap (λ (w : Verdict). said ++ said_by w (door_says (door_after dd i) m)) is;
           begins = λ m. (P (i ∷ m), ap (λ xs. xs ++ P (i ∷ m)) h.none);
           whole = λ l m. absurd (true≢false (sym l ∙ ap is_live h.unknown));
         },

@@ -18,7 +18,7 @@ use Rattle.router_trace.specs.Trace.{Trace, Did, Out, Took, Bound, Booked, Began
 use Rattle.router_trace.specs.Connection.{conn, is_live}
 use Rattle.router_trace.specs.Refusing.{rises}
 use Rattle.router_reply.specs.Acts.{journaled}
-use Rattle.core_door.specs.Door.{Verdict, says, passes, ends, door, door_behind}
+use Rattle.core_door.specs.Door.{Verdict, says, passes, ends, door, door_after}
 use Rattle.router_core.specs.Moves.{IsTrace, ins, outs}
 use Rattle.core_player.specs.Listening.{door_for}
 
@@ -37,11 +37,11 @@ was_lost (Booked acts full ∷ t) c = was_lost t c
 was_lost (Began g ∷ t) c = was_lost t c
 
 -- the steps after a connection is made: its number is above that of each connection made before
-abbrev pub behind_up : ℕ → Option ℕ → List Step → List Step
-behind_up c last [] = []
-behind_up c last (step.Up d role ∷ xs) =
-    if rises d.0 last then (if d.0 == c then xs else behind_up c (Some d.0) xs) else behind_up c last xs
-behind_up c last (_ ∷ xs) = behind_up c last xs
+abbrev pub after_up : ℕ → Option ℕ → List Step → List Step
+after_up c last [] = []
+after_up c last (step.Up d role ∷ xs) =
+    if rises d.0 last then (if d.0 == c then xs else after_up c (Some d.0) xs) else after_up c last xs
+after_up c last (_ ∷ xs) = after_up c last xs
 
 -- the role in which a connection is made, if it is
 abbrev pub role_in : ℕ → Option ℕ → List Step → PeerRole
@@ -63,7 +63,7 @@ bytes_of c (_ ∷ xs) = bytes_of c xs
 
 -- the bytes received on a connection of a script, from its making to its loss
 abbrev pub bytes_in : ℕ → List Step → List ℕ
-bytes_in c steps = bytes_of c (behind_up c None steps)
+bytes_in c steps = bytes_of c (after_up c None steps)
 
 -- the bytes that lines send on a connection
 abbrev pub bytes_out : ℕ → List Line → List ℕ
@@ -84,7 +84,7 @@ said_by (ends xs) later = xs
 
 abbrev pub door_says : DoorState → List Item → List Item
 door_says d [] = []
-door_says d (i ∷ is) = said_by (door d i) (door_says (door_behind d i) is)
+door_says d (i ∷ is) = said_by (door d i) (door_says (door_after d i) is)
 
 -- the items of a stream that are past the door: beginning with the one that it lets pass
 abbrev pub passed_by : Verdict → List Item → List Item → List Item
@@ -94,7 +94,7 @@ passed_by (ends xs) here later = []
 
 abbrev pub passed : DoorState → List Item → List Item
 passed d [] = []
-passed d (i ∷ is) = passed_by (door d i) (i ∷ is) (passed (door_behind d i) is)
+passed d (i ∷ is) = passed_by (door d i) (i ∷ is) (passed (door_after d i) is)
 
 -- a list is the beginning of another
 abbrev pub Begins : List Item → List Item → Type 0
@@ -116,7 +116,7 @@ pub record Carries (start : DoorState) (stream : List ℕ) (t : Trace) (lines : 
   pub out : bytes_out c lines ≡ spelled (door_says start items) ++ spelled (outs t c)
 
 -- runs, one after another: each has a trace of its own, of a router opened with the configuration, and its lines carry every connection;
--- behind them is the line of the last run's book, or this one if there is no run
+-- after them is the line of the last run's book, or this one if there is no run
 abbrev pub RunsCarry : Settings → List (List Step) → Line → List Line → Type 0
 RunsCarry config [] last lines = lines ≡ last ∷ []
 RunsCarry config (steps ∷ runs) last lines = (t : Trace) × (mine : List Line) × (others : List Line)

@@ -5,7 +5,7 @@ use Rattle.core_machine.specs.declared.fault.CoreFault.TheVariants.{Memory}
 use Rattle.router_play.specs.declared.finish.Size.{Size}
 use Rattle.core_player.specs.declared.line.Line.{Line}
 use Rattle.core_player.specs.declared.line.Line.TheVariants as line
-pub use Rattle.core_player.specs.Telling.{TellsOf, fault_behind}
+pub use Rattle.core_player.specs.Telling.{TellsOf, fault_after}
 
 -- the line of what a router keeps
 abbrev pub size_line : Size → Line

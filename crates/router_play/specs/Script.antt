@@ -82,7 +82,7 @@ book_line j = line.Book (length j.book.rows) (length j.book.termini) j.batches
 abbrev pub no_book : Line
 no_book = line.Book 0 0 0
 
--- the lines of runs, each against a new router, and behind them the line of the last run's book, or this one if there is no run
+-- the lines of runs, each against a new router, and after them the line of the last run's book, or this one if there is no run
 abbrev pub PlaysAll : Settings → List (List Step) → Line → List Line → Type 0
 PlaysAll config [] last lines = lines ≡ last ∷ []
 PlaysAll config (steps ∷ runs) last lines =

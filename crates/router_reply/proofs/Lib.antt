@@ -1,5 +1,5 @@
 pub mod Puts
-pub mod Behind
+pub mod After
 mod Answering
 mod Planned
 mod Refused

@@ -7,7 +7,7 @@ use Rattle.book_model.specs.Book.{BookView, empty_book, effects}
 use Rattle.gate_journal.specs.Reserve.{reserve}
 use Rattle.journal_store.specs.Acting.{event_acts as settled_acts}
 use Rattle.journal_store.specs.Lost.{start_acts}
-use Rattle.journal_store.specs.Store.{used_behind, batches_behind, exceeds}
+use Rattle.journal_store.specs.Store.{used_after, batches_after, exceeds}
 use Rattle.router_trace.specs.declared.event.Event.{Event}
 use Rattle.router_trace.specs.declared.event.Event.TheVariants as event
 use Rattle.router_trace.specs.Trace.{Trace, Did, Out, Took, Bound, Booked, Began}
@@ -60,7 +60,7 @@ finds_full j t e = exceeds j.used (reserve j.book) (event_acts false j.book t e)
 
 -- the journal after acts: they are done to the book and written as one batch
 abbrev pub with_acts : Journaled → List Act → Journaled
-with_acts j acts = record { book = effects j.book acts; used = used_behind j.used acts; batches = batches_behind j.batches acts }
+with_acts j acts = record { book = effects j.book acts; used = used_after j.used acts; batches = batches_after j.batches acts }
 
 -- the journal in which a trace ends
 abbrev pub journaled : Trace → Journaled
@@ -79,13 +79,13 @@ book_in t = (journaled t).book
 abbrev pub acts_of : Trace → Event → List Act
 acts_of t e = event_acts (finds_full (journaled t) t e) (book_in t) t e
 
-abbrev pub book_behind : Trace → Event → BookView
-book_behind t e = effects (book_in t) (acts_of t e)
+abbrev pub book_after_event : Trace → Event → BookView
+book_after_event t e = effects (book_in t) (acts_of t e)
 
 abbrev pub booked : Trace → Event → Trace
 booked t e = Booked (acts_of t e) (due t e) ∷ t
 
--- The trace that an event finds, behind its own acts: that before them; and these acts.
+-- The trace that an event finds, after its own acts: that before them; and these acts.
 abbrev pub before_acts : Trace → Trace
 before_acts (Booked acts full ∷ t) = t
 before_acts t = t
@@ -101,7 +101,7 @@ found_journal t = journaled (before_acts t)
 abbrev pub full_at : Trace → Event → Bool
 full_at t e = finds_full (found_journal t) (before_acts t) e
 
--- the answer to an item on a live connection in this phase, and to an event's item, behind the event's acts
+-- the answer to an item on a live connection in this phase, and to an event's item, after the event's acts
 abbrev pub answer_of : Trace → ℕ → Conn → Item → Answer
 answer_of t c p i = answer_at (full_at t (event.Item (record { 0 = c }) i)) (found_journal t).book t c p i
 

@@ -21,7 +21,7 @@ use Rattle.router_trace.specs.Connection.{due}
 use Rattle.router_trace.specs.Following.{link_of}
 use Rattle.router_trace.specs.Links.{link, link_place, durable_key}
 use Rattle.router_trace.specs.Settling.{part_of}
-use Rattle.state_messages.specs.Passing.{consumer_of}
+use Rattle.state_messages.specs.Messages.{consumer_of}
 use Rattle.reply_rows.specs.declared.answer.Answer.{Answer}
 use Rattle.reply_rows.specs.declared.answer.Answer.TheVariants.{Taken}
 use Rattle.reply_transfers.specs.Transfers.{claimed_id}

@@ -26,7 +26,7 @@ use Rattle.router_trace.specs.LinkFrames.{attach_item, detach_item, answer_to, r
 use Rattle.router_trace.specs.Links.{link_place, free_handle, holder, key_at}
 use Rattle.router_trace.specs.Peers.{largest_frame}
 use Rattle.router_state.specs.Tables.{beats}
-use Rattle.state_messages.specs.Passing.{with_bound}
+use Rattle.state_messages.specs.Messages.{with_bound}
 use Rattle.reply_rows.specs.declared.answer.Answer.{Answer}
 use Rattle.reply_rows.specs.declared.answer.Answer.TheVariants.{Attach, Refuse, Taken, Settle}
 use Rattle.reply_rows.specs.Rows.{said, down_reply}
@@ -63,11 +63,11 @@ abbrev pub attach_answer : ℕ → ℕ → Option ℕ → AnAttach → List Item
 attach_answer largest own None a = []
 attach_answer largest own (Some handle) a = unless_too_large largest own handle (answer_to a handle)
 
-abbrev pub taken_behind : Trace → ℕ → ℕ → AnAttach → List Put → List Put
-taken_behind t c own a stolen = stolen ++ each_to c (attach_answer (largest_frame t c) own (free_handle (goes stolen t) c own) a)
+abbrev pub taken_after : Trace → ℕ → ℕ → AnAttach → List Put → List Put
+taken_after t c own a stolen = stolen ++ each_to c (attach_answer (largest_frame t c) own (free_handle (goes stolen t) c own) a)
 
 abbrev pub taken : Trace → ℕ → ℕ → AnAttach → List Put
-taken t c own a = taken_behind t c own a (stolen_by (holder t (key_at t c (answer_to a 0))))
+taken t c own a = taken_after t c own a (stolen_by (holder t (key_at t c (answer_to a 0))))
 
 -- An attach that is refused: an answer without a terminus at the router's side, and a detach; the detach alone if the answer doesn't fit.
 abbrev pub refused : ℕ → ℕ → ℕ → Condition → AnAttach → List Item
@@ -125,8 +125,8 @@ links_put t after c _ answer = []
 abbrev pub item_put : List ℕ → Trace → Trace → ℕ → Conn → Item → Answer → List Put
 item_put id t after c p i answer = each_to c (said id p answer) ++ links_put t (puts c (said id p answer) after) c i answer
 
-abbrev pub behind_answer : List ℕ → Trace → Trace → ℕ → Conn → Item → Answer → Trace
-behind_answer id t after c p i answer = goes (item_put id t after c p i answer) (with_bound (bound_for t after c i answer) after)
+abbrev pub after_answer : List ℕ → Trace → Trace → ℕ → Conn → Item → Answer → Trace
+after_answer id t after c p i answer = goes (item_put id t after c p i answer) (with_bound (bound_for t after c i answer) after)
 
 -- nothing if the connection isn't live
 abbrev pub item_row : List ℕ → Trace → Trace → ℕ → Item → Option Conn → List Put
@@ -150,8 +150,8 @@ own_row id t after (event.Tick ms) = beats t (event.Tick ms) ms
 own_row id t after _ = []
 
 -- the event with the effect of its rows: the closes, then the message that it binds, then what its own row puts
-abbrev pub replied_behind : List ℕ → Trace → Trace → Event → Trace
-replied_behind id t after e = goes (own_row id t after e) (with_bound (bound_by t after e) after)
+abbrev pub replied_after : List ℕ → Trace → Trace → Event → Trace
+replied_after id t after e = goes (own_row id t after e) (with_bound (bound_by t after e) after)
 
 abbrev pub replied : List ℕ → Trace → Step → Trace
-replied id t s = replied_behind id t (heard id t s) s.event
+replied id t s = replied_after id t (heard id t s) s.event

@@ -83,7 +83,7 @@ fn whole_admission(
     Ok(Some(admission))
 }
 
-/// The delivery that an event admits, behind the event, if it ends no connection for its full outbox: a whole delivery of a durable link, whose producer
+/// The delivery that an event admits, after the event, if it ends no connection for its full outbox: a whole delivery of a durable link, whose producer
 /// hasn't settled it and doesn't resume it, and for which a consumer of its address is chosen (AMQP 1.0 part 2, section 2.6.12).
 ///
 /// # Errors

@@ -9,8 +9,8 @@ ghost use Rattle.state_links.specs.Fits.{channel_of};
 ghost use Rattle.router_state.specs.Tables.{TablesFit, beats};
 ghost use Rattle.router_reply.specs.Acts.{answer_of, answer_to_event};
 ghost use Rattle.router_reply.specs.Heard.{ids_named, ItemHeard, IsHeard};
-ghost use Rattle.reply_transfers.specs.Transfers.{given_behind, disposition_in};
-ghost use Rattle.router_reply.specs.Replies.{replied, replied_behind, behind_answer, attach_put, settled_put, row_found};
+ghost use Rattle.reply_transfers.specs.Transfers.{given_after, disposition_in};
+ghost use Rattle.router_reply.specs.Replies.{replied, replied_after, after_answer, attach_put, settled_put, row_found};
 ghost use Rattle.router_trace.specs.declared.event.Event.TheVariants as event;
 
 use crate::attaching::answer_item;
@@ -44,7 +44,7 @@ fn on_settle(
     Ok(())
 }
 
-/// An item whose row gave this answer, behind the closes: puts the answer, except what an attach puts.
+/// An item whose row gave this answer, after the closes: puts the answer, except what an attach puts.
 fn begin_item(
     state: &mut State,
     id: &RouterId,
@@ -57,7 +57,7 @@ fn begin_item(
 ) -> Result<(), AllocError>
     ensures { OnOk result ((t after : List Entry) → TablesFit state.old after → ItemHeard t conn item.now answer.now heard.old → answer.now ≡ answer_of t conn.0 phase item.now
         → row ≡ row_found t → (u : List Entry) × TablesFit state.new u
-        × (goes (attach_put u conn.0 item.now answer.now) u ≡ behind_answer id.now t after conn.0 phase item.now answer.now)) }
+        × (goes (attach_put u conn.0 item.now answer.now) u ≡ after_answer id.now t after conn.0 phase item.now answer.now)) }
 {
     match answer {
         Answer::Taken { own, handle } => {
@@ -68,7 +68,7 @@ fn begin_item(
     }
 }
 
-/// An item that has this answer, behind the closes.
+/// An item that has this answer, after the closes.
 fn on_item(
     state: &mut State,
     id: &RouterId,
@@ -79,7 +79,7 @@ fn on_item(
     heard: &mut Heard,
 ) -> Result<(), AllocError>
     ensures { OnOk result ((t after : List Entry) → TablesFit state.old after → answer.now ≡ answer_to_event t (event.Item conn item) → row ≡ row_found t → ItemHeard t conn item answer.now heard.old
-        → TablesFit state.new (replied_behind id.now t after (event.Item conn item))) }
+        → TablesFit state.new (replied_after id.now t after (event.Item conn item))) }
 {
     let Some(phase) = heard.phase else {
         drop(item);
@@ -101,7 +101,7 @@ fn on_tick(state: &mut State, heard: &mut Heard) -> Result<(), AllocError>
     state.put_all(beats)
 }
 
-/// What an event's own row puts, behind the closes.
+/// What an event's own row puts, after the closes.
 fn own_row(
     state: &mut State,
     id: &RouterId,
@@ -111,7 +111,7 @@ fn own_row(
     heard: &mut Heard,
 ) -> Result<(), AllocError>
     ensures { OnOk result ((t after : List Entry) → TablesFit state.old after → answer.now ≡ answer_to_event t event → row ≡ row_found t
-        → IsHeard t event answer.now heard.old → TablesFit state.new (replied_behind id.now t after event)) }
+        → IsHeard t event answer.now heard.old → TablesFit state.new (replied_after id.now t after event)) }
 {
     match event {
         Event::Up(_, peer) => {

@@ -13,24 +13,24 @@ use Rattle.serve_streams.specs.declared.end.ReadEnd.TheVariants as end
 use Rattle.serve_streams.specs.Greeting.{Gives, Stops}
 use Rattle.serve_lock.specs.Adding.{with_items}
 use Rattle.router_serve.specs.Submitting.{CountsSome, ends_badly, HandsIn, Hinders, is_bad, is_whole}
-use Rattle.serve_streams.proofs.Streams.{at_end, Came, gives_more, gives_nothing, gives_the_same, none_behind}
+use Rattle.serve_streams.proofs.Streams.{at_end, Came, gives_more, gives_nothing, gives_the_same, none_after}
 use Rattle.router_serve.proofs.Submits.{items_added, none_counted}
 
 -- the last item of a list is that of its end
-last_behind : (xs ys : List Item) (y : Item) → slice_get (xs ++ y ∷ ys) (length (xs ++ y ∷ ys) - 1) ≡ slice_get (y ∷ ys) (length (y ∷ ys) - 1)
-last_behind [] ys y = refl
-last_behind (x ∷ xs) ys y =
+last_after : (xs ys : List Item) (y : Item) → slice_get (xs ++ y ∷ ys) (length (xs ++ y ∷ ys) - 1) ≡ slice_get (y ∷ ys) (length (y ∷ ys) - 1)
+last_after [] ys y = refl
+last_after (x ∷ xs) ys y =
     let n = length (xs ++ y ∷ ys) in
     let some : n ≡ length xs + suc (length ys) = length-append xs (y ∷ ys) in
     let more : (suc n) - 1 ≡ suc (n - 1) = omega (arith, some) in
-    ap (λ (i : ℕ). slice_get (x ∷ (xs ++ y ∷ ys)) i) more ∙ last_behind xs ys y
+    ap (λ (i : ℕ). slice_get (x ∷ (xs ++ y ∷ ys)) i) more ∙ last_after xs ys y
 
 ends_as : (xs ys : List Item) → ends_badly ys ≡ true → ends_badly (xs ++ ys) ≡ true
 ends_as xs [] bad = absurd cc
-ends_as xs (y ∷ ys) bad = ap is_bad (last_behind xs ys y) ∙ bad
+ends_as xs (y ∷ ys) bad = ap is_bad (last_after xs ys y) ∙ bad
 
 bad_at_end : (xs : List Item) (f : FrameFault) → ends_badly (xs ++ item.Bad f ∷ []) ≡ true
-bad_at_end xs f = ap is_bad (last_behind xs [] (item.Bad f))
+bad_at_end xs f = ap is_bad (last_after xs [] (item.Bad f))
 
 -- where the items don't end badly the reader hasn't met bytes that are no item
 still_reads : (old mid : Stream) (bs : List ℕ) (is : List Item) → Gives old bs is mid → ends_badly is ≡ false → mid.failed ≡ true → old.failed ≡ true
@@ -82,7 +82,7 @@ some_in : (first new : Counts) (over : List Item) (before behind : Stream) (sour
 some_in first new over before behind source left e bs is read gives some part other = record {
   bytes = bs;
   lost = [];
-  came = none_behind source left bs read;
+  came = none_after source left bs read;
   items = is;
   kept = behind;
   given = gives;
@@ -101,7 +101,7 @@ all_in : (first new : Counts) (over : List Item) (before behind : Stream) (sourc
 all_in first new over before behind source left e bs is read gives counted over_by = record {
   bytes = bs;
   lost = [];
-  came = none_behind source left bs read;
+  came = none_after source left bs read;
   items = is;
   kept = behind;
   given = gives;

@@ -79,7 +79,7 @@ handed_gone old new before behind h = record {
 pub refused_some : (old new : Counts) (before behind : List Item) → Handled 1 old new before behind → CountsSome old new (length before)
 refused_some old new before behind h = record { items = h.items; within = omega (arith, h.there); counted = h.counted }
 
--- items left a queue, and of those behind them some are counted
+-- items left a queue, and of those after them some are counted
 pub some_behind : (a b c : Counts) (xs ys : List Item) (n : ℕ) → length xs ≤ n → CountsGone a b xs ys → CountsSome b c (length ys) → CountsSome a c n
 some_behind a b c xs ys n most first more = record {
   items = first.items + more.items;

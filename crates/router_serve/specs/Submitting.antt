@@ -23,7 +23,7 @@ pub record CountsSome (old new : Counts) (most : ℕ) : Type 0 where
   pub within : items ≤ most
   pub counted : new ≡ with_items items old
 
--- the last of these items says that the bytes behind it begin none: their stream ends there
+-- the last of these items says that the bytes after it begin none: their stream ends there
 abbrev pub is_bad : Option Item → Bool
 is_bad (Some (item.Bad fault)) = true
 is_bad _ = false
@@ -31,7 +31,7 @@ is_bad _ = false
 abbrev pub ends_badly : List Item → Bool
 ends_badly items = is_bad (slice_get items (length items - 1))
 
--- why some of these items, or those behind them, aren't submitted: their stream ends with them, and all of them are counted; or memory
+-- why some of these items, or those after them, aren't submitted: their stream ends with them, and all of them are counted; or memory
 -- was refused, or the router answered a fault
 abbrev pub Hinders : ReadEnd → Counts → Counts → List Item → Type 0
 Hinders end.End old new items = (new ≡ with_items (length items) old) × (ends_badly items ≡ true)
@@ -80,7 +80,7 @@ pub record HandsIn (old new : Counts) (over : List Item) (before behind : Stream
   pub none_lost : e ≢ end.Memory → (lost ≡ []) × (behind ≡ kept)
   pub ended : e ≡ end.End → IsAtEnd left ⊎ (before.failed ≡ true) ⊎ (ends_badly (over ++ items) ≡ true)
 
--- the same, and behind it the loss of the connection at most once, and not if the router answered Failed or NoConnection
+-- the same, and after it the loss of the connection at most once, and not if the router answered Failed or NoConnection
 pub record Submitted (old new : Counts) (over : List Item) (before behind : Stream) (source left : Option (List ℕ)) (e : ReadEnd) : Type 0 where
   pub counts : Counts
   pub items : HandsIn old counts over before behind source left e

@@ -23,7 +23,7 @@ pub struct Server<M: Machine, G: Ledgers> {
 }
 
 impl<M: Machine, G: Ledgers> Server<M, G> {
-    /// A connection comes up, with the number behind that of the last one. Numbers are handed in as they rise, one connection at a time.
+    /// A connection comes up, with the number after that of the last one. Numbers are handed in as they rise, one connection at a time.
     ///
     /// # Errors
     ///

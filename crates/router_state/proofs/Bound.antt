@@ -1,4 +1,4 @@
--- A binding changes only the table `passing`, and a take from an outbox doesn't change that; a batch of the journal changes no table.
+-- A binding changes only the table `messages`, and a take from an outbox doesn't change that; a batch of the journal changes no table.
 use Rattle.std.proofs.Common.{◌≡◌, ◌∙◌, ℕ, Bool, true, false, ap, sym, refl, Option, Some, None, ◌∷◌, List}
 use Rattle.std.specs.Prelude.{if◌then◌else◌}
 use Rattle.std.proofs.lemmas.Bool.{eqb-true}
@@ -11,25 +11,25 @@ use Rattle.router_trace.specs.Connection.{has}
 use Rattle.router_trace.specs.Deliveries.{none_if_ended, ended_first, channels_found}
 use Rattle.router_trace.specs.Sessions.{is_channel, maps, theirs}
 use Rattle.router_trace.specs.Settling.{part_at, part_of}
-use Rattle.state_messages.specs.declared.passing.Passing.{Passing}
-use Rattle.state_messages.specs.Fits.{PassingFit}
-use Rattle.state_messages.specs.Passing.{with_bound}
-use Rattle.state_messages.proofs.Quiet.{taken_fits, booked_fits as passing_booked}
+use Rattle.state_messages.specs.declared.messages.Messages.{Messages}
+use Rattle.state_messages.specs.Fits.{MessagesFit}
+use Rattle.state_messages.specs.Messages.{with_bound}
+use Rattle.state_messages.proofs.Quiet.{taken_fits, booked_fits as messages_booked}
 use Rattle.router_state.specs.declared.tables.State.{State}
 use Rattle.router_state.specs.Tables.{TablesFit}
 
-pub passing_taken : (s : Passing) (d k : ℕ) (t : Trace) → PassingFit s t → PassingFit s (Took d k ∷ t)
-passing_taken s d k t old = taken_fits s d k t old
+pub messages_taken : (s : Messages) (d k : ℕ) (t : Trace) → MessagesFit s t → MessagesFit s (Took d k ∷ t)
+messages_taken s d k t old = taken_fits s d k t old
 
-pub bound_fits : (s : State) (new : Passing) (t : Trace) (b : Option Binding) → TablesFit s t → PassingFit new (with_bound b t)
-    → TablesFit (record s { passing = new }) (with_bound b t)
+pub bound_fits : (s : State) (new : Messages) (t : Trace) (b : Option Binding) → TablesFit s t → MessagesFit new (with_bound b t)
+    → TablesFit (record s { messages = new }) (with_bound b t)
 bound_fits s new t None fit p = record {
   connections = fit.connections;
   ready = fit.ready;
   clocks = fit.clocks;
   peers = fit.peers;
   sessions = fit.sessions;
-  passing = p;
+  messages = p;
 }
 bound_fits s new t (Some b) fit p = record {
   connections = record { rows = fit.connections.rows; live = fit.connections.live; last = fit.connections.last; rise = fit.connections.rise; roomy = fit.connections.roomy };
@@ -40,7 +40,7 @@ bound_fits s new t (Some b) fit p = record {
     rows = record { offered = fit.sessions.rows.offered; answered = fit.sessions.rows.answered; theirs = fit.sessions.rows.theirs; windows = fit.sessions.rows.windows };
     marks = fit.sessions.marks;
   };
-  passing = p;
+  messages = p;
 }
 
 pub booked_fits : (s : State) (acts : List Act) (full : List ℕ) (t : Trace) → TablesFit s t → TablesFit s (Booked acts full ∷ t)
@@ -53,7 +53,7 @@ booked_fits s acts full t fit = record {
     rows = record { offered = fit.sessions.rows.offered; answered = fit.sessions.rows.answered; theirs = fit.sessions.rows.theirs; windows = fit.sessions.rows.windows };
     marks = fit.sessions.marks;
   };
-  passing = passing_booked s.passing acts full t fit.passing;
+  messages = messages_booked s.messages acts full t fit.messages;
 }
 
 -- what a transfer makes of its delivery, on the session of this channel

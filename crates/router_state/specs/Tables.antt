@@ -11,7 +11,7 @@ use Rattle.state_connections.specs.Fits.{ConnectionsFit, ConnectionsAt}
 use Rattle.state_connections.specs.Noting.{is_noted}
 use Rattle.state_connections.specs.Peering.{PeersFit}
 use Rattle.state_connections.specs.Timing.{ClocksFit}
-use Rattle.state_messages.specs.Fits.{PassingFit}
+use Rattle.state_messages.specs.Fits.{MessagesFit}
 use Rattle.state_sessions.specs.Fits.{SessionsFit}
 
 -- all tables agree with the trace
@@ -21,17 +21,17 @@ pub record TablesFit (s : State) (t : Trace) : Type 0 where
   pub clocks : ClocksFit s.clocks t
   pub peers : PeersFit s.peers t
   pub sessions : SessionsFit s.sessions t
-  pub passing : PassingFit s.passing t
+  pub messages : MessagesFit s.messages t
 
 -- the tables by which an item is answered agree with the trace: all but those of the connections
 pub record TablesFind (s : State) (t : Trace) : Type 0 where
   pub clocks : ClocksFit s.clocks t
   pub peers : PeersFit s.peers t
   pub sessions : SessionsFit s.sessions t
-  pub passing : PassingFit s.passing t
+  pub messages : MessagesFit s.messages t
 
 abbrev pub fit_finds : {s : State} {t : Trace} → TablesFit s t → TablesFind s t
-fit_finds f = record { clocks = f.clocks; peers = f.peers; sessions = f.sessions; passing = f.passing }
+fit_finds f = record { clocks = f.clocks; peers = f.peers; sessions = f.sessions; messages = f.messages }
 
 -- all tables are what an event finds after the trace; it ends these connections first
 pub record TablesAt (s : State) (t : Trace) (e : Event) (ends : List ℕ) : Type 0 where
@@ -40,11 +40,11 @@ pub record TablesAt (s : State) (t : Trace) (e : Event) (ends : List ℕ) : Type
   pub clocks : ClocksFit s.clocks t
   pub peers : PeersFit s.peers t
   pub sessions : SessionsFit s.sessions t
-  pub passing : PassingFit s.passing t
+  pub messages : MessagesFit s.messages t
   pub are_due : ends ≡ due t e
 
 abbrev pub at_finds : {s : State} {t : Trace} {e : Event} {ends : List ℕ} → TablesAt s t e ends → TablesFind s t
-at_finds f = record { clocks = f.clocks; peers = f.peers; sessions = f.sessions; passing = f.passing }
+at_finds f = record { clocks = f.clocks; peers = f.peers; sessions = f.sessions; messages = f.messages }
 
 -- the heartbeats that are due at a moment on these connections, by number
 abbrev pub beat_if : Bool → ℕ → List Put

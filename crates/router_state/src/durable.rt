@@ -6,7 +6,7 @@ ghost use Rattle.router_trace.specs.Sessions.{session_on};
 ghost use Rattle.router_trace.specs.Links.{durable_key, link};
 ghost use Rattle.router_trace.specs.Settling.{uses_tag};
 ghost use Rattle.state_deliveries.specs.Deciding.{decided_rows, rows_from};
-ghost use Rattle.state_messages.specs.Passing.{consumer_of};
+ghost use Rattle.state_messages.specs.Messages.{consumer_of};
 ghost use Rattle.router_state.specs.Tables.{TablesFit, TablesFind};
 ghost use Rattle.router_state.specs.Waiting.{NothingWaits};
 
@@ -35,7 +35,7 @@ impl State {
     pub fn is_durable(&self, conn: u64, own: u16, handle: u32) -> bool
         ensures { (t : List Entry) → TablesFit self.now t → result ≡ is_some (durable_key (link t conn own handle)) }
     {
-        self.passing.is_durable(conn, own, handle)
+        self.messages.is_durable(conn, own, handle)
     }
 
     /// The consumer that [`State::pass`] would choose now for a message of the producer's link on a handle of the router; nothing is noted, so
@@ -49,7 +49,7 @@ impl State {
         ensures consumer { IfOk result (λ at. (t : List Entry) → TablesFit self.old t → at ≡ consumer_of t (link t conn own handle)) }
         ensures fits { OnOk result ((t : List Entry) → TablesFit self.old t → TablesFit self.new t) }
     {
-        let consumer = self.passing.consumer_for(conn, own, handle)?;
+        let consumer = self.messages.consumer_for(conn, own, handle)?;
         Ok(consumer)
     }
 
@@ -57,14 +57,14 @@ impl State {
     pub fn uses_tag(&self, conn: u64, own: u16, handle: u32, tag: &[u8]) -> bool
         ensures { (t : List Entry) → TablesFind self.now t → result ≡ uses_tag t conn own handle tag.now }
     {
-        self.passing.claims().uses_tag(conn, own, handle, tag)
+        self.messages.incoming().uses_tag(conn, own, handle, tag)
     }
 
     /// The rows that these changes of deliveries would decide, one after another, each with its outcome, in order of the deliveries' numbers.
     pub fn decided_rows(&self, changes: &[Change]) -> Result<Vec<Decision>, AllocError>
         ensures { IfOk result (λ rows. (t : List Entry) → TablesFind self.now t → rows.items ≡ decided_rows t changes.now) }
     {
-        self.passing.deliveries().decided_rows(changes)
+        self.messages.deliveries().decided_rows(changes)
     }
 
     /// The rows of the deliveries to which a producer gave an id in this range, on a session, in order of the deliveries' numbers.
@@ -77,7 +77,7 @@ impl State {
     ) -> Result<Vec<RowNumber>, AllocError>
         ensures { IfOk result (λ rows. (t : List Entry) → TablesFind self.now t → rows.items ≡ rows_from t conn own first last) }
     {
-        self.passing.deliveries().rows_from(conn, own, first, last)
+        self.messages.deliveries().rows_from(conn, own, first, last)
     }
 
     /// Forgets the items that wait in outboxes, so that none is put out. It takes no memory. The tables need not agree with any trace then.

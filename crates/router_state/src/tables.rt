@@ -12,7 +12,7 @@ ghost use Rattle.router_trace.specs.Deliveries.{delivery, ended_first, is_to_tel
 ghost use Rattle.router_trace.specs.Following.{link_of, first_delivery, is_unsent_on, is_wide, is_busy, is_used, takes_more};
 ghost use Rattle.state_deliveries.specs.Calling.{Knows};
 ghost use Rattle.state_deliveries.specs.Finding.{IsFirst, is_above};
-ghost use Rattle.state_messages.specs.Passing.{attachment_at, consumer_of, passing, with_bound, grants_due, grant_flow};
+ghost use Rattle.state_messages.specs.Messages.{attachment_at, consumer_of, binding_for, with_bound, grants_due, grant_flow};
 ghost use Rattle.state_messages.specs.Asking.{has_unsent, goes_on, owes_drain, drained_state};
 ghost use Rattle.router_trace.specs.Trace.{Entry, Out, Took, did, newest, goes, puts_of};
 ghost use Rattle.router_trace.specs.Sessions.{place, free_channel};
@@ -26,7 +26,7 @@ ghost use Rattle.amqp_session.specs.Session.{Session};
 ghost use Rattle.state_sessions.specs.Fits.{SessionsFit, found_of, window_by};
 ghost use Rattle.state_sessions.specs.Windows.{windows};
 ghost use Rattle.router_trace.specs.Connection.{conn as known, standing, phase_before, is_ready, has};
-ghost use Rattle.state_connections.specs.Fits.{in_slots, IsLeast, IsBatch, count};
+ghost use Rattle.state_connections.specs.Fits.{at_number, IsLeast, IsBatch, count};
 ghost use Rattle.state_connections.specs.Noting.{is_noted};
 ghost use Rattle.router_trace.specs.Refusing.{rises, refuses};
 ghost use Rattle.router_state.specs.Tables.{TablesFit, TablesAt, TablesFind, beat_if, beats_over, beats};
@@ -47,7 +47,7 @@ use router_trace::{
 };
 use state_connections::{Clocks, Connections, Peers, Ready, Refused, Taken};
 use state_deliveries::Delivery as Bound;
-use state_messages::{LinkGrant, Passing};
+use state_messages::{LinkGrant, Messages};
 use state_sessions::{Place, Sessions};
 use std::alloc::{AllocError, Global};
 
@@ -60,7 +60,7 @@ pub struct State {
     clocks: Clocks,
     peers: Peers,
     pub(crate) sessions: Sessions,
-    pub(crate) passing: Passing,
+    pub(crate) messages: Messages,
 }
 
 impl State {
@@ -75,7 +75,7 @@ impl State {
             clocks: Clocks::new(alloc),
             peers: Peers::new(alloc),
             sessions: Sessions::new(alloc),
-            passing: Passing::new(alloc, table),
+            messages: Messages::new(alloc, table),
         }
     }
 
@@ -126,7 +126,7 @@ impl State {
     pub fn link_place(&self, conn: u64, own: u16, handle: u32) -> LinkAt
         ensures { (t : List Entry) → TablesFind self.now t → result ≡ found_link (link_place t conn own handle) }
     {
-        self.passing.links().place(conn, own, handle)
+        self.messages.links().place(conn, own, handle)
     }
 
     /// The router's lowest handle, of 64, that the session's peer accepts too and on which nothing is attached.
@@ -134,7 +134,7 @@ impl State {
         ensures now { (t : List Entry) → TablesFit self.now t → result ≡ free_handle t conn own }
         ensures found { (t : List Entry) → TablesFind self.now t → result ≡ free_handle t conn own }
     {
-        self.passing.links().free_handle(conn, own)
+        self.messages.links().free_handle(conn, own)
     }
 
     /// Whether each message of an address goes to every consumer.
@@ -142,7 +142,7 @@ impl State {
         ensures now { (t : List Entry) → TablesFit self.now t → result ≡ is_multicast (distribution t address.now) }
         ensures found { (t : List Entry) → TablesFind self.now t → result ≡ is_multicast (distribution t address.now) }
     {
-        self.passing.is_multicast(address)
+        self.messages.is_multicast(address)
     }
 
     /// The attachment with a key.
@@ -150,7 +150,7 @@ impl State {
         ensures now { (t : List Entry) → TablesFit self.now t → result ≡ holder t key.now }
         ensures found { (t : List Entry) → TablesFind self.now t → result ≡ holder t key.now }
     {
-        self.passing.links().holder(key)
+        self.messages.links().holder(key)
     }
 
     /// Whether a durable link is attached with a key.
@@ -158,7 +158,7 @@ impl State {
         ensures now { (t : List Entry) → TablesFit self.now t → result ≡ holds_durable t key.now }
         ensures found { (t : List Entry) → TablesFind self.now t → result ≡ holds_durable t key.now }
     {
-        self.passing.links().holds_durable(key)
+        self.messages.links().holds_durable(key)
     }
 
     /// The key of the durable link on a handle of the router.
@@ -166,7 +166,7 @@ impl State {
         ensures now { (t : List Entry) → TablesFit self.now t → option_map (λ k. k.now) result ≡ durable_key (link t conn own handle) }
         ensures found { (t : List Entry) → TablesFind self.now t → option_map (λ k. k.now) result ≡ durable_key (link t conn own handle) }
     {
-        self.passing.links().durable_key(conn, own, handle)
+        self.messages.links().durable_key(conn, own, handle)
     }
 
     /// The key of the link that an attach names on a connection. Fails if memory is refused.
@@ -221,7 +221,7 @@ impl State {
     pub fn settle_drains(&mut self)
         ensures { (t : List Entry) → TablesFit self.old t → TablesFit self.new t }
     {
-        self.passing.settle_owed();
+        self.messages.settle_owed();
     }
 
     /// Ends the connections that an event ends because their outboxes are full, and returns them by number. The caller has to put
@@ -260,7 +260,7 @@ impl State {
         let found = none_if_ended(ends, conn.0, own);
         self.clocks.hear(conn, item)?;
         self.peers.hear(conn, item)?;
-        let part = self.passing.hear(conn, own, found, item)?;
+        let part = self.messages.hear(conn, own, found, item)?;
         self.sessions.hear(conn, item)?;
         Ok(part)
     }
@@ -285,7 +285,7 @@ impl State {
         self.clocks.down(conn);
         self.peers.down(conn);
         self.sessions.down(conn);
-        self.passing.down(conn)?;
+        self.messages.down(conn)?;
         note(&mut self.ready, &self.connections, conn.0)
     }
 
@@ -300,7 +300,7 @@ impl State {
             return Err(let_go(item));
         };
         self.peers.put(conn, &item);
-        let Ok(()) = self.passing.put(conn, &item, key) else {
+        let Ok(()) = self.messages.put(conn, &item, key) else {
             return Err(let_go(item));
         };
         let Ok(()) = self.sessions.put(conn, &item) else {
@@ -322,7 +322,7 @@ impl State {
     }
 
     /// Takes up to `most` items out of an outbox; none if the connection is unknown.
-    #[tactic(auto, using(crate::proofs::Bound::passing_taken))]
+    #[tactic(auto, using(crate::proofs::Bound::messages_taken))]
     pub fn take(&mut self, conn: u64, most: usize) -> Result<Option<Taken>, AllocError>
         ensures batched { IfOk result (λ taken. (t : List Entry) → TablesFit self.old t → IsBatch most (known t conn) taken) }
         ensures fits { IfOk result (λ taken. (t : List Entry) → TablesFit self.old t → TablesFit self.new (Took conn (count taken) ∷ t)) }
@@ -341,10 +341,10 @@ impl State {
     }
 
     /// The lowest ready connection above a number.
-    pub fn ready_behind(&self, conn: u64) -> Option<u64>
+    pub fn ready_after(&self, conn: u64) -> Option<u64>
         ensures { (t : List Entry) → TablesFit self.now t → IsLeast (λ c. nat_lt conn c && is_ready (known t c)) result }
     {
-        self.ready.behind(conn)
+        self.ready.after(conn)
     }
 
     /// The lowest ready connection: an item is waiting in its outbox, or it is over.
@@ -358,7 +358,7 @@ impl State {
     pub fn middle(&self, conn: u64, own: u16, handle: u32) -> Option<&Delivery>
         ensures { (t : List Entry) → TablesFind self.now t → option_map (λ d. d.now) result ≡ middle_on (link_place t conn own handle) }
     {
-        self.passing.links().middle(conn, own, handle)
+        self.messages.links().middle(conn, own, handle)
     }
 
     /// Whether a peer has not settled the delivery with this id of its own.
@@ -366,14 +366,14 @@ impl State {
         ensures now { (t : List Entry) → TablesFit self.now t → result ≡ is_claimed t conn own id }
         ensures found { (t : List Entry) → TablesFind self.now t → result ≡ is_claimed t conn own id }
     {
-        self.passing.claims().is_claimed(conn, own, id)
+        self.messages.incoming().is_claimed(conn, own, id)
     }
 
     /// Whether a peer has not settled the delivery with this id of its own, on the link at a handle of the router.
     pub fn is_claimed_on(&self, conn: u64, own: u16, handle: u32, id: u32) -> bool
         ensures { (t : List Entry) → TablesFit self.now t → result ≡ is_claimed_on t conn own handle id }
     {
-        self.passing.claims().is_claimed_on(conn, own, handle, id)
+        self.messages.incoming().is_claimed_on(conn, own, handle, id)
     }
 
     /// The ids in a range that name undecided deliveries of a session, in order, as an event finds them.
@@ -386,21 +386,21 @@ impl State {
     ) -> Result<Vec<u32>, AllocError>
         ensures { IfOk result (λ ids. (t : List Entry) → TablesFind self.now t → ids.items ≡ open_ids t conn own first last) }
     {
-        self.passing.deliveries().open_ids(conn, own, first, last)
+        self.messages.deliveries().open_ids(conn, own, first, last)
     }
 
     /// How many unsettled deliveries of a link came whole and are bound to no consumer.
     pub fn unbound(&self, conn: u64, own: u16, handle: u32) -> usize
         ensures { (t : List Entry) → TablesFit self.now t → result ≡ unbound t conn own handle }
     {
-        self.passing.claims().unbound(conn, own, handle)
+        self.messages.incoming().unbound(conn, own, handle)
     }
 
     /// The attachment on a handle of the router.
     pub fn attachment(&self, conn: u64, own: u16, handle: u32) -> Option<Attachment>
         ensures { (t : List Entry) → TablesFit self.now t → result ≡ attachment_at t conn own handle }
     {
-        self.passing.links().attachment(conn, own, handle)
+        self.messages.links().attachment(conn, own, handle)
     }
 
     /// Binds a message of a producer's link to the chosen consumer of its address; returns whether there is one. A durable message comes with
@@ -414,59 +414,59 @@ impl State {
         payload: Bytes,
     ) -> Result<bool, AllocError>
         ensures chosen { IfOk result (λ chosen. (t : List Entry) → TablesFit self.old t → chosen ≡ is_some (consumer_of t (link_of t from))) }
-        ensures bound { OnOk result ((t : List Entry) → TablesFit self.old t → TablesFit self.new (with_bound (passing t from origin row format payload) t)) }
+        ensures bound { OnOk result ((t : List Entry) → TablesFit self.old t → TablesFit self.new (with_bound (binding_for t from origin row format payload) t)) }
     {
-        let chosen = self.passing.pass(from, origin, row, format, payload)?;
+        let chosen = self.messages.pass(from, origin, row, format, payload)?;
         Ok(chosen)
     }
 
     /// The lowest number, above another, of a delivery that is decided and whose outcome must be reported to its producer.
-    pub fn to_tell_behind(&self, number: Option<u64>) -> Option<u64>
+    pub fn to_tell_after(&self, number: Option<u64>) -> Option<u64>
         ensures { (t : List Entry) → TablesFit self.now t → IsFirst (λ n. is_above number n && is_to_tell (delivery t n)) result }
     {
-        self.passing.deliveries().to_tell_behind(number)
+        self.messages.deliveries().to_tell_after(number)
     }
 
     /// Whether an attachment still has its link.
     pub fn is_attached(&self, at: Attachment) -> bool
         ensures { (t : List Entry) → TablesFit self.now t → result ≡ is_attached t at }
     {
-        self.passing.is_attached(at)
+        self.messages.is_attached(at)
     }
 
     /// The delivery with a number.
     pub fn delivery(&self, number: u64) -> Option<&Bound>
         ensures { (t : List Entry) → TablesFit self.now t → option_map (λ d. d.now) result ≡ delivery t number }
     {
-        self.passing.deliveries().delivery(number)
+        self.messages.deliveries().delivery(number)
     }
 
     /// The lowest number, above another, of a link on which frames of deliveries remain to be sent.
-    pub fn unsent_link_behind(&self, link: Option<u64>) -> Option<u64>
+    pub fn unsent_link_after(&self, link: Option<u64>) -> Option<u64>
         ensures { (t : List Entry) → TablesFit self.now t → IsFirst (λ k. is_above link k && has_unsent t k) result }
     {
-        self.passing.deliveries().unsent_link_behind(link)
+        self.messages.deliveries().unsent_link_after(link)
     }
 
     /// The lowest number, above another, of a link's delivery of which frames remain to be sent.
-    pub fn unsent_behind(&self, link: u64, number: Option<u64>) -> Option<u64>
+    pub fn unsent_after(&self, link: u64, number: Option<u64>) -> Option<u64>
         ensures { (t : List Entry) → TablesFit self.now t → IsFirst (λ n. is_above number n && is_unsent_on link (delivery t n)) result }
     {
-        self.passing.deliveries().unsent_behind(link, number)
+        self.messages.deliveries().unsent_after(link, number)
     }
 
     /// Whether frames of deliveries remain to be sent on a link.
     pub fn has_unsent(&self, link: u64) -> bool
         ensures { (t : List Entry) → TablesFit self.now t → result ≡ has_unsent t link }
     {
-        self.passing.deliveries().has_unsent(link)
+        self.messages.deliveries().has_unsent(link)
     }
 
     /// The place of an attachment, while it is attached.
     pub fn place_of(&self, number: u64) -> Option<Attachment>
         ensures { (t : List Entry) → TablesFit self.now t → result ≡ place_of t number }
     {
-        self.passing.links().place_of(number)
+        self.messages.links().place_of(number)
     }
 
     /// Whether the window of a session is open.
@@ -487,56 +487,56 @@ impl State {
     pub fn sending(&self, conn: u64, own: u16, handle: u32) -> Option<u64>
         ensures { (t : List Entry) → TablesFit self.now t → Knows (delivery t) result (sending t conn own handle) }
     {
-        self.passing.deliveries().sending(conn, own, handle)
+        self.messages.deliveries().sending(conn, own, handle)
     }
 
     /// Whether a delivery has begun on a session of which more frames remain to be sent.
     pub fn is_busy(&self, conn: u64, own: u16) -> Result<bool, AllocError>
         ensures { IfOk result (λ busy. (t : List Entry) → TablesFit self.now t → busy ≡ is_busy t conn own) }
     {
-        self.passing.is_busy(conn, own)
+        self.messages.is_busy(conn, own)
     }
 
     /// Whether an id that the router gave on a session names an undecided delivery.
     pub fn is_used(&self, conn: u64, own: u16, id: u32) -> bool
         ensures { (t : List Entry) → TablesFit self.now t → result ≡ is_used t (named t conn own id) }
     {
-        self.passing.deliveries().is_used(conn, own, id)
+        self.messages.deliveries().is_used(conn, own, id)
     }
 
     /// The next delivery-id that the router gives on a session.
     pub fn next_id(&self, conn: u64, own: u16) -> u32
         ensures { (t : List Entry) → TablesFit self.now t → result ≡ next_id t conn own }
     {
-        self.passing.deliveries().next_id(conn, own)
+        self.messages.deliveries().next_id(conn, own)
     }
 
     /// Whether an attachment's link has credit left and no delivery in progress.
     pub fn takes_more(&self, at: Attachment) -> bool
         ensures { (t : List Entry) → TablesFit self.now t → result ≡ takes_more (link_of t at) at.number }
     {
-        self.passing.takes_more(at)
+        self.messages.takes_more(at)
     }
 
     /// Whether the router has begun a delivery on an attachment's link of which more frames remain to be sent.
     pub fn goes_on(&self, at: Attachment) -> bool
         ensures { (t : List Entry) → TablesFit self.now t → result ≡ goes_on (link_of t at) at.number }
     {
-        self.passing.goes_on(at)
+        self.messages.goes_on(at)
     }
 
     /// The lowest number, above another, of an attachment whose link owes a drain.
-    pub fn owing_behind(&self, number: Option<u64>) -> Result<Option<u64>, AllocError>
+    pub fn owing_after(&self, number: Option<u64>) -> Result<Option<u64>, AllocError>
         ensures { IfOk result (λ owing. (t : List Entry) → TablesFit self.now t → IsFirst (λ n. is_above number n && owes_drain t n) owing) }
     {
-        self.passing.owing_behind(number)
+        self.messages.owing_after(number)
     }
 
     /// The link state of the flow that answers the drain of an attachment's link.
     pub fn drained(&self, at: Attachment) -> Option<LinkState>
         ensures { (t : List Entry) → TablesFit self.now t → result ≡ drained_state at.handle (link_of t at) }
     {
-        self.passing.drained(at)
+        self.messages.drained(at)
     }
 
     /// The grants that are due.
@@ -544,7 +544,7 @@ impl State {
         ensures due { IfOk result (λ flows. (t : List Entry) → TablesFit self.old t → puts_of flows.items ≡ grants_due t) }
         ensures fits { OnOk result ((t : List Entry) → TablesFit self.old t → TablesFit self.new t) }
     {
-        let grants = self.passing.grants()?;
+        let grants = self.messages.grants()?;
         let mut flows = Vec::new(self.alloc);
         for grant in &grants {
             self.add_grant(&mut flows, *grant)?;
@@ -674,14 +674,14 @@ fn settle_all(sessions: &mut Sessions, conns: &[u64])
 
 /// Notes whether a connection is ready.
 fn note(ready: &mut Ready, connections: &Connections, conn: u64) -> Result<(), AllocError>
-    ensures { OnOk result ((c : ℕ) → is_noted ready.new c ≡ (if conn == c then is_ready (in_slots connections.now.rows c) else is_noted ready.old c)) }
+    ensures { OnOk result ((c : ℕ) → is_noted ready.new c ≡ (if conn == c then is_ready (at_number connections.now.rows c) else is_noted ready.old c)) }
 {
     ready.note(conn, connections.is_ready(conn))
 }
 
 /// Notes whether each of these connections is ready.
 fn note_all(ready: &mut Ready, connections: &Connections, ends: &[u64]) -> Result<(), AllocError>
-    ensures { OnOk result ((c : ℕ) → is_noted ready.new c ≡ (if has c ends.now then is_ready (in_slots connections.now.rows c) else is_noted ready.old c)) }
+    ensures { OnOk result ((c : ℕ) → is_noted ready.new c ≡ (if has c ends.now then is_ready (at_number connections.now.rows c) else is_noted ready.old c)) }
 {
     for conn in ends {
         note(ready, connections, *conn)?;

@@ -9,7 +9,7 @@ use Rattle.std.proofs.lemmas.Bool.{eqb-true}
 use Rattle.std.proofs.lemmas.Bool.Decides.{nat_tests}
 use Rattle.amqp_session.specs.Ranges.{has}
 use Rattle.router_trace.specs.Counting.{IsCount}
-use Rattle.router_trace.proofs.Numbers.{not_behind}
+use Rattle.router_trace.proofs.Numbers.{not_after}
 
 pub no_rise : IsStrictlySortedBy nat_cmp []
 unfolding IsStrictlySortedBy
@@ -122,7 +122,7 @@ has_without m n (x ∷ xs) rise = by_test (m == x) refl (has_without m n xs rise
     other m n x e f = grind (arith, nat_tests, e, f)
 
     here : (b : Bool) → (m == n) ≡ b → m ≡ x → has n xs ≡ (if b then false else has n (x ∷ xs))
-    here true e is = not_behind n xs (subst (λ y. AllByRecursion (λ z. nat_cmp y z ≡ Less) xs) (sym is ∙ eqb-true m n e) rise.0)
+    here true e is = not_after n xs (subst (λ y. AllByRecursion (λ z. nat_cmp y z ≡ Less) xs) (sym is ∙ eqb-true m n e) rise.0)
     here false e is = sym (ap (λ t. t || has n xs) (turned n x ∙ ap (λ y. y == n) (sym is) ∙ e))
 
     rest : (b : Bool) → (m == n) ≡ b → (m == x) ≡ false → ((n == x) || (if m == n then false else has n xs)) ≡ (if b then false else has n (x ∷ xs))

@@ -78,9 +78,9 @@ count_more (suc b) x p q l yes_x no_x same = by_test (x == b) refl (λ k. count_
 differ : (a b : ℕ) → nat_cmp a b ≡ Less → (a == b) ≡ false
 differ a b h = grind (arith, nat_tests, h)
 
-pub not_behind : (x : ℕ) (xs : List ℕ) → AllByRecursion (λ y. nat_cmp x y ≡ Less) xs → has x xs ≡ false
-not_behind x [] above = refl
-not_behind x (y ∷ ys) above = rw (differ x y above.0) (not_behind x ys above.1)
+pub not_after : (x : ℕ) (xs : List ℕ) → AllByRecursion (λ y. nat_cmp x y ≡ Less) xs → has x xs ≡ false
+not_after x [] above = refl
+not_after x (y ∷ ys) above = rw (differ x y above.0) (not_after x ys above.1)
 
 same_number : (n : ℕ) → (n == n) ≡ true
 same_number n = grind (arith, nat_tests)
@@ -96,7 +96,7 @@ count_list : (most : ℕ) (xs : List ℕ) → IsStrictlySortedBy nat_cmp xs → 
 unfolding IsStrictlySortedBy
 count_list most [] sorted low = count_none most
 count_list most (x ∷ xs) sorted low =
-    count_more most x (λ n. has n (x ∷ xs)) (λ n. has n xs) (low x (ap (λ t. t || has x xs) (same_number x))) (ap (λ t. t || has x xs) (same_number x)) (not_behind x xs sorted.0)
+    count_more most x (λ n. has n (x ∷ xs)) (λ n. has n xs) (low x (ap (λ t. t || has x xs) (same_number x))) (ap (λ t. t || has x xs) (same_number x)) (not_after x xs sorted.0)
     (λ n e. ap (λ t. t || has n xs) e)
     ∙ ap (λ k. k + 1) (count_list most xs sorted.1 (λ n e. low n (either_true (n == x) (has n xs) e)))
     ∙ length_more x xs

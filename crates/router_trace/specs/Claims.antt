@@ -99,13 +99,13 @@ abbrev pub unless_ended : Perf → ℕ → ℕ → Option Claim → Option Claim
 unless_ended body own o None = None
 unless_ended body own o (Some v) = if ends_handle_in body own o v.handle then None else Some v
 
-abbrev pub claim_behind_in : Perf → ℕ → ℕ → ℕ → Option Claim → Option Claim
-claim_behind_in (perf.Disposition x) own o id v = if own == o then answered_by x.role x id v else v
-claim_behind_in body own o id v = unless_ended body own o v
+abbrev pub claim_after_in : Perf → ℕ → ℕ → ℕ → Option Claim → Option Claim
+claim_after_in (perf.Disposition x) own o id v = if own == o then answered_by x.role x id v else v
+claim_after_in body own o id v = unless_ended body own o v
 
-abbrev pub claim_behind : Item → ℕ → ℕ → Option Claim → Option Claim
-claim_behind (item.Frame sasl own body payload) o id v = claim_behind_in body own o id v
-claim_behind _ o id v = v
+abbrev pub claim_after : Item → ℕ → ℕ → Option Claim → Option Claim
+claim_after (item.Frame sasl own body payload) o id v = claim_after_in body own o id v
+claim_after _ o id v = v
 
 -- the delivery's message is bound to a consumer
 abbrev pub bound_claim : Claim → Claim
@@ -119,7 +119,7 @@ bind_claim (Some p) c o id v = if stands_on p.link c o && (p.id == id) then opti
 abbrev pub claims : Trace → ℕ → ℕ → ℕ → Option Claim
 claims [] c o id = None
 claims (Did s ∷ t) c o id = claim_at s.event c o (theirs t c) (their_handle t c o) (link t c o) id (claims t c o id)
-claims (Out d i ∷ t) c o id = if d == c then claim_behind i o id (claims t c o id) else claims t c o id
+claims (Out d i ∷ t) c o id = if d == c then claim_after i o id (claims t c o id) else claims t c o id
 claims (Took d n ∷ t) c o id = claims t c o id
 claims (Bound b ∷ t) c o id = bind_claim b.origin c o id (claims t c o id)
 claims (Booked acts full ∷ t) c o id = claims t c o id

@@ -19,19 +19,19 @@ pub record Connection : Type 0 where
   pub taken : ℕ
 
 -- the phase after a performative, and after an item, that the router wrote
-abbrev pub behind_perf : Perf → Conn → Conn
-behind_perf (perf.Open o) p = with_open p
-behind_perf (perf.Close c) p = over p
-behind_perf _ p = p
+abbrev pub after_perf : Perf → Conn → Conn
+after_perf (perf.Open o) p = with_open p
+after_perf (perf.Close c) p = over p
+after_perf _ p = p
 
-abbrev pub behind : Item → Conn → Conn
-behind (item.Header id major minor revision) p = with_header p
-behind (item.Frame sasl channel body payload) p = behind_perf body p
-behind _ p = p
+abbrev pub phase_after : Item → Conn → Conn
+phase_after (item.Header id major minor revision) p = with_header p
+phase_after (item.Frame sasl channel body payload) p = after_perf body p
+phase_after _ p = p
 
 -- one more item in the outbox
 abbrev pub with_item : Item → Connection → Connection
-with_item i v = record { phase = behind i v.phase; waiting = v.waiting ++ i ∷ []; taken = v.taken }
+with_item i v = record { phase = phase_after i v.phase; waiting = v.waiting ++ i ∷ []; taken = v.taken }
 
 -- the connection is over; the items in its outbox stay
 abbrev pub ended : Connection → Connection

@@ -218,8 +218,8 @@ named (Booked acts full ∷ t) c o id = named t c o id
 named (Began g ∷ t) c o id = named t c o id
 
 -- A transfer that carries the delivery: the id is that of its first frame; a delivery that was settled before is decided with its last frame.
-abbrev pub behind_frame : Transfer → ℕ → Delivery → Delivery
-behind_frame x count d = record d {
+abbrev pub after_frame : Transfer → ℕ → Delivery → Delivery
+after_frame x count d = record d {
   id = (if is_none d.id then x.delivery_id else d.id);
   sent = d.sent + count;
   going_on = x.more;
@@ -298,11 +298,11 @@ is_gone_with gone (Some p) = gone p.link
 abbrev pub forsaken : Delivery → Delivery
 forsaken d = record d { origin = None; told = None; early = None }
 
-abbrev pub behind_origin : (Attachment → Bool) → Delivery → Delivery
-behind_origin gone d = if is_gone_with gone (sender d) then forsaken d else d
+abbrev pub after_origin : (Attachment → Bool) → Delivery → Delivery
+after_origin gone d = if is_gone_with gone (sender d) then forsaken d else d
 
-abbrev pub behind_ends : Bool → (Attachment → Bool) → Delivery → Delivery
-behind_ends closed gone d = behind_origin gone (if gone d.link then ended closed d else d)
+abbrev pub after_ends : Bool → (Attachment → Bool) → Delivery → Delivery
+after_ends closed gone d = after_origin gone (if gone d.link then ended closed d else d)
 
 -- what an item that the router puts on a connection does to a delivery
 abbrev pub ended_by : Item → ℕ → Attachment → Bool
@@ -314,14 +314,14 @@ closes (perf.Detach x) = x.closed
 closes _ = false
 
 abbrev pub put_in : (DeliveryName → Option ℕ) → Perf → ℕ → ℕ → ℕ → (ℕ → ℕ → Option ℕ) → ℕ → Delivery → Delivery
-put_in numbers (perf.Transfer x) c own n sent count d = if is_number (carried numbers (tag_in x) (sent own x.handle)) n then behind_frame x count d else d
+put_in numbers (perf.Transfer x) c own n sent count d = if is_number (carried numbers (tag_in x) (sent own x.handle)) n then after_frame x count d else d
 put_in numbers (perf.Disposition x) c own n sent count d = told x.role x c own d
 put_in numbers _ c own n sent count d = d
 
-abbrev pub behind_put : (DeliveryName → Option ℕ) → Item → ℕ → ℕ → (ℕ → ℕ → Option ℕ) → Delivery → Delivery
-behind_put numbers (item.Frame sasl own body payload) c n sent d =
-    behind_ends (closes body) (ended_by (item.Frame sasl own body payload) c) (put_in numbers body c own n sent (length payload) d)
-behind_put numbers i c n sent d = d
+abbrev pub after_put : (DeliveryName → Option ℕ) → Item → ℕ → ℕ → (ℕ → ℕ → Option ℕ) → Delivery → Delivery
+after_put numbers (item.Frame sasl own body payload) c n sent d =
+    after_ends (closes body) (ended_by (item.Frame sasl own body payload) c) (put_in numbers body c own n sent (length payload) d)
+after_put numbers i c n sent d = d
 
 -- what an item received on a connection does to a delivery, given what its channel stands for
 abbrev pub is_on : Attachment → ℕ → Option PeerChannel → Bool
@@ -346,10 +346,10 @@ heard _ c known names n d = d
 abbrev pub lost_with : ℕ → Attachment → Bool
 lost_with c a = a.conn.0 == c
 
-abbrev pub behind_event : Event → (ℕ → ℕ → Option PeerChannel) → (ℕ → ℕ → ℕ → Option ℕ) → ℕ → Delivery → Delivery
-behind_event (event.Item c i) known names n d = heard i c.0 (known c.0) (names c.0) n d
-behind_event (event.Down c) known names n d = behind_ends false (lost_with c.0) d
-behind_event _ known names n d = d
+abbrev pub after_event : Event → (ℕ → ℕ → Option PeerChannel) → (ℕ → ℕ → ℕ → Option ℕ) → ℕ → Delivery → Delivery
+after_event (event.Item c i) known names n d = heard i c.0 (known c.0) (names c.0) n d
+after_event (event.Down c) known names n d = after_ends false (lost_with c.0) d
+after_event _ known names n d = d
 
 -- The connections that the event to come ends first, because their outboxes are full. It finds that their channels stand for nothing, so its
 -- item says nothing of deliveries if it came on one of them.
@@ -375,8 +375,8 @@ unless_called name (Some d) = if same_name d.name name then None else Some d
 
 abbrev pub delivery : Trace → ℕ → Option Delivery
 delivery [] n = None
-delivery (Did s ∷ t) n = option_and_then (λ d. unless_over (behind_event s.event (channels_found t) (named t) n d)) (delivery t n)
-delivery (Out c i ∷ t) n = option_and_then (λ d. unless_over (behind_put (number_named t) i c n (sending t c) d)) (delivery t n)
+delivery (Did s ∷ t) n = option_and_then (λ d. unless_over (after_event s.event (channels_found t) (named t) n d)) (delivery t n)
+delivery (Out c i ∷ t) n = option_and_then (λ d. unless_over (after_put (number_named t) i c n (sending t c) d)) (delivery t n)
 delivery (Took c k ∷ t) n = delivery t n
 delivery (Bound b ∷ t) n = if bindings t + 1 == n then Some (bound (name_in t b) b) else unless_called (name_in t b) (delivery t n)
 delivery (Booked acts full ∷ t) n = delivery t n

@@ -121,17 +121,17 @@ their_handle_in (perf.End x) own o p known last v = if own == o then None else v
 their_handle_in (perf.Close x) own o p known last v = None
 their_handle_in _ own o p known last v = v
 
-abbrev pub their_handle_behind : Item → ℕ → ℕ → (ℕ → Option ℕ) → Option Asked → Option PeerHandle → Option PeerHandle
-their_handle_behind (item.Frame sasl own body payload) o p known last v = their_handle_in body own o p known last v
-their_handle_behind _ o p known last v = v
+abbrev pub their_handle_after : Item → ℕ → ℕ → (ℕ → Option ℕ) → Option Asked → Option PeerHandle → Option PeerHandle
+their_handle_after (item.Frame sasl own body payload) o p known last v = their_handle_in body own o p known last v
+their_handle_after _ o p known last v = v
 
-abbrev pub behind_their_detach : Perf → ℕ → Option PeerHandle → Option PeerHandle
-behind_their_detach (perf.Detach x) p v = if x.handle == p then None else v
-behind_their_detach _ p v = v
+abbrev pub after_their_detach : Perf → ℕ → Option PeerHandle → Option PeerHandle
+after_their_detach (perf.Detach x) p v = if x.handle == p then None else v
+after_their_detach _ p v = v
 
 abbrev pub their_handle_by : Item → ℕ → ℕ → (ℕ → Option PeerChannel) → Option PeerHandle → Option PeerHandle
 their_handle_by (item.Frame sasl channel body payload) o p known v =
-    if sasl then v else (if maps (known channel) o then behind_their_detach body p v else v)
+    if sasl then v else (if maps (known channel) o then after_their_detach body p v else v)
 their_handle_by _ o p known v = v
 
 abbrev pub their_handle_at : Event → ℕ → ℕ → ℕ → (ℕ → Option PeerChannel) → Option PeerHandle → Option PeerHandle
@@ -143,7 +143,7 @@ abbrev pub their_handle : Trace → ℕ → ℕ → ℕ → Option PeerHandle
 their_handle [] c o p = None
 their_handle (Did s ∷ t) c o p = their_handle_at s.event c o p (theirs t c) (their_handle t c o p)
 their_handle (Out d i ∷ t) c o p =
-    if d == c then their_handle_behind i o p (answered_handle t c o) (asked t c) (their_handle t c o p) else their_handle t c o p
+    if d == c then their_handle_after i o p (answered_handle t c o) (asked t c) (their_handle t c o p) else their_handle t c o p
 their_handle (Took d n ∷ t) c o p = their_handle t c o p
 their_handle (Bound b ∷ t) c o p = their_handle t c o p
 their_handle (Booked acts full ∷ t) c o p = their_handle t c o p
@@ -244,16 +244,16 @@ abbrev pub flowed_to : Flow → Happened → Happened
 flowed_to f (sends h) = sends (with_grant f f.link_credit h)
 flowed_to f (receives h) = receives (with_count f.delivery_count h)
 
-abbrev pub behind_their_flow : Flow → Link → Link
-behind_their_flow f l = record l { happened = flowed_to f l.happened; drains = f.drain; owes_drain = f.drain }
+abbrev pub after_their_flow : Flow → Link → Link
+after_their_flow f l = record l { happened = flowed_to f l.happened; drains = f.drain; owes_drain = f.drain }
 
 -- a transfer of the peer, with its payload
 abbrev pub came_to : Transfer → List ℕ → Happened → Happened
 came_to x payload (sends h) = sends h
 came_to x payload (receives h) = receives (receiving.behind (frame x payload) h)
 
-abbrev pub behind_their_transfer : Transfer → List ℕ → Link → Link
-behind_their_transfer x payload l = record l { happened = came_to x payload l.happened }
+abbrev pub after_their_transfer : Transfer → List ℕ → Link → Link
+after_their_transfer x payload l = record l { happened = came_to x payload l.happened }
 
 -- a flow of the router: as a sender its delivery-count, as a receiver the credit that it grants
 abbrev pub with_our_count : Option ℕ → credit.Link → credit.Link
@@ -268,16 +268,16 @@ abbrev pub flowed_from : Flow → Happened → Happened
 flowed_from f (sends h) = sends (with_our_count f.delivery_count h)
 flowed_from f (receives h) = receives (with_our_grant f.delivery_count f.link_credit h)
 
-abbrev pub behind_our_flow : Flow → Link → Link
-behind_our_flow f l = record l { happened = flowed_from f l.happened; owes_drain = l.owes_drain && not f.drain }
+abbrev pub after_our_flow : Flow → Link → Link
+after_our_flow f l = record l { happened = flowed_from f l.happened; owes_drain = l.owes_drain && not f.drain }
 
 -- a transfer of the router; it starts a delivery unless one is going on
 abbrev pub started : Bool → Happened → Happened
 started going_on (sends h) = sends (if going_on then h else credit.Started ∷ h)
 started going_on (receives h) = receives h
 
-abbrev pub behind_our_transfer : Transfer → Link → Link
-behind_our_transfer x l = record l { happened = started l.going_on l.happened; going_on = x.more && not x.aborted }
+abbrev pub after_our_transfer : Transfer → Link → Link
+after_our_transfer x l = record l { happened = started l.going_on l.happened; going_on = x.more && not x.aborted }
 
 -- The link on a router's handle, of the session with this router's channel; none if none is attached.
 abbrev pub attached : ℕ → LinkKey → Attach → Option Asked → Option (List ℕ) → Option Link
@@ -287,13 +287,13 @@ attached number key a last (Some address) = Some (begun_link number key a last a
 abbrev pub link_in : Perf → ℕ → ℕ → ℕ → ℕ → (Attach → LinkKey) → Option Asked → Option Link → Option Link
 link_in (perf.Attach a) own o h number key last v =
     if (own == o) && (a.handle == h) then attached number (key a) a last (address_by a.role a) else v
-link_in (perf.Flow f) own o h number key last v = if (own == o) && is_handle f.handle h then option_map (behind_our_flow f) v else v
-link_in (perf.Transfer x) own o h number key last v = if (own == o) && (x.handle == h) then option_map (behind_our_transfer x) v else v
+link_in (perf.Flow f) own o h number key last v = if (own == o) && is_handle f.handle h then option_map (after_our_flow f) v else v
+link_in (perf.Transfer x) own o h number key last v = if (own == o) && (x.handle == h) then option_map (after_our_transfer x) v else v
 link_in body own o h number key last v = if ends_handle_in body own o h then None else v
 
-abbrev pub link_behind : Item → ℕ → ℕ → ℕ → (Attach → LinkKey) → Option Asked → Option Link → Option Link
-link_behind (item.Frame sasl own body payload) o h number key last v = link_in body own o h number key last v
-link_behind _ o h number key last v = v
+abbrev pub link_after : Item → ℕ → ℕ → ℕ → (Attach → LinkKey) → Option Asked → Option Link → Option Link
+link_after (item.Frame sasl own body payload) o h number key last v = link_in body own o h number key last v
+link_after _ o h number key last v = v
 
 -- a frame of the peer names this handle of the router
 abbrev pub names : Option PeerHandle → ℕ → Bool
@@ -305,8 +305,8 @@ names_by None known h = false
 names_by (Some p) known h = names (known p) h
 
 abbrev pub heard_link : Perf → List ℕ → ℕ → (ℕ → Option PeerHandle) → Option Link → Option Link
-heard_link (perf.Flow f) payload h known v = if names_by f.handle known h then option_map (behind_their_flow f) v else v
-heard_link (perf.Transfer x) payload h known v = if names (known x.handle) h then option_map (behind_their_transfer x payload) v else v
+heard_link (perf.Flow f) payload h known v = if names_by f.handle known h then option_map (after_their_flow f) v else v
+heard_link (perf.Transfer x) payload h known v = if names (known x.handle) h then option_map (after_their_transfer x payload) v else v
 heard_link _ payload h known v = v
 
 abbrev pub link_by : Item → ℕ → ℕ → (ℕ → Option PeerChannel) → (ℕ → Option PeerHandle) → Option Link → Option Link
@@ -327,7 +327,7 @@ abbrev pub link : Trace → ℕ → ℕ → ℕ → Option Link
 link [] c o h = None
 link (Did s ∷ t) c o h = link_at s.event c o h (theirs t c) (their_handle t c o) (link t c o h)
 link (Out d i ∷ t) c o h =
-    if d == c then link_behind i o h (attachments t + 1) (key_at t c) (asked t c) (link t c o h) else link t c o h
+    if d == c then link_after i o h (attachments t + 1) (key_at t c) (asked t c) (link t c o h) else link t c o h
 link (Took d n ∷ t) c o h = link t c o h
 link (Bound b ∷ t) c o h = link t c o h
 link (Booked acts full ∷ t) c o h = link t c o h
@@ -452,14 +452,14 @@ most_in (perf.End x) own o told most = if own == o then None else most
 most_in (perf.Close x) own o told most = None
 most_in _ own o told most = most
 
-abbrev pub most_behind : Item → ℕ → Option ℕ → Option ℕ → Option ℕ
-most_behind (item.Frame sasl own body payload) o told most = most_in body own o told most
-most_behind _ o told most = most
+abbrev pub most_after : Item → ℕ → Option ℕ → Option ℕ → Option ℕ
+most_after (item.Frame sasl own body payload) o told most = most_in body own o told most
+most_after _ o told most = most
 
 abbrev pub highest_handle : Trace → ℕ → ℕ → Option ℕ
 highest_handle [] c o = None
 highest_handle (Did s ∷ t) c o = if is_lost s.event c then None else highest_handle t c o
-highest_handle (Out d i ∷ t) c o = if d == c then most_behind i o (told_handle_max t c) (highest_handle t c o) else highest_handle t c o
+highest_handle (Out d i ∷ t) c o = if d == c then most_after i o (told_handle_max t c) (highest_handle t c o) else highest_handle t c o
 highest_handle (Took d n ∷ t) c o = highest_handle t c o
 highest_handle (Bound b ∷ t) c o = highest_handle t c o
 highest_handle (Booked acts full ∷ t) c o = highest_handle t c o

@@ -5,7 +5,7 @@ use Rattle.amqp_model.specs.declared.perf.Perf.TheVariants as perf
 use Rattle.amqp_model.specs.declared.item.Item.{Item}
 use Rattle.amqp_model.specs.declared.item.Item.TheVariants as item
 use Rattle.amqp_conn.specs.declared.conn.Conn.{Conn}
-use Rattle.router_trace.specs.Connection.{behind}
+use Rattle.router_trace.specs.Connection.{phase_after}
 
 -- what was written on a connection: its phase, and the channels with a session that is begun and not ended
 pub record Written : Type 0 where
@@ -17,17 +17,17 @@ abbrev pub unwritten : Written
 unwritten = record { phase = record { header = false; opened = false; closed = false }; begun = λ o. false }
 
 -- what was written, with one more item after it
-abbrev pub begun_behind_perf : Perf → ℕ → (ℕ → Bool) → ℕ → Bool
-begun_behind_perf (perf.Begin b) own begun o = if own == o then true else begun o
-begun_behind_perf (perf.End x) own begun o = if own == o then false else begun o
-begun_behind_perf _ own begun o = begun o
+abbrev pub begun_after_perf : Perf → ℕ → (ℕ → Bool) → ℕ → Bool
+begun_after_perf (perf.Begin b) own begun o = if own == o then true else begun o
+begun_after_perf (perf.End x) own begun o = if own == o then false else begun o
+begun_after_perf _ own begun o = begun o
 
-abbrev pub begun_behind : Item → (ℕ → Bool) → ℕ → Bool
-begun_behind (item.Frame sasl own body payload) begun o = begun_behind_perf body own begun o
-begun_behind _ begun o = begun o
+abbrev pub begun_after : Item → (ℕ → Bool) → ℕ → Bool
+begun_after (item.Frame sasl own body payload) begun o = begun_after_perf body own begun o
+begun_after _ begun o = begun o
 
-abbrev pub written_behind : Item → Written → Written
-written_behind i w = record { phase = behind i w.phase; begun = begun_behind i w.begun }
+abbrev pub written_after : Item → Written → Written
+written_after i w = record { phase = phase_after i w.phase; begun = begun_after i w.begun }
 
 -- the connection is open: its open is written, its close is not
 abbrev pub is_open : Conn → Bool
@@ -60,4 +60,4 @@ has_turn w (item.Bad f) = false
 -- all of these items may be written, one after another
 abbrev pub have_turns : Written → List Item → Bool
 have_turns w [] = true
-have_turns w (i ∷ is) = if has_turn w i then have_turns (written_behind i w) is else false
+have_turns w (i ∷ is) = if has_turn w i then have_turns (written_after i w) is else false

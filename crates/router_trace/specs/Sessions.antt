@@ -58,12 +58,12 @@ offered (Began g ∷ t) c = offered t c
 
 -- What a peer's channel stands for: a session, on a channel of the router; one that the router ended, until the peer's
 -- end; or nothing.
-abbrev pub behind_their_end : Perf → ℕ → ℕ → Option PeerChannel → Option PeerChannel
-behind_their_end (perf.End x) channel p v = if channel == p then None else v
-behind_their_end _ channel p v = v
+abbrev pub after_their_end : Perf → ℕ → ℕ → Option PeerChannel → Option PeerChannel
+after_their_end (perf.End x) channel p v = if channel == p then None else v
+after_their_end _ channel p v = v
 
 abbrev pub theirs_by : Item → ℕ → Option PeerChannel → Option PeerChannel
-theirs_by (item.Frame sasl channel body payload) p v = if sasl then v else behind_their_end body channel p v
+theirs_by (item.Frame sasl channel body payload) p v = if sasl then v else after_their_end body channel p v
 theirs_by _ p v = v
 
 abbrev pub theirs_at : Event → ℕ → ℕ → Option PeerChannel → Option PeerChannel
@@ -110,20 +110,20 @@ abbrev pub is_channel : Option ℕ → ℕ → Bool
 is_channel None p = false
 is_channel (Some channel) p = channel == p
 
-abbrev pub theirs_behind_perf : Perf → ℕ → ℕ → (ℕ → Option ℕ) → Option PeerChannel → Option PeerChannel
-theirs_behind_perf (perf.Begin b) own p known v = if is_channel b.remote_channel p then Some (Mapped own) else v
-theirs_behind_perf (perf.End x) own p known v = if is_channel (known own) p then option_map (λ w. Ending) v else v
-theirs_behind_perf (perf.Close x) own p known v = None
-theirs_behind_perf _ own p known v = v
+abbrev pub theirs_after_perf : Perf → ℕ → ℕ → (ℕ → Option ℕ) → Option PeerChannel → Option PeerChannel
+theirs_after_perf (perf.Begin b) own p known v = if is_channel b.remote_channel p then Some (Mapped own) else v
+theirs_after_perf (perf.End x) own p known v = if is_channel (known own) p then option_map (λ w. Ending) v else v
+theirs_after_perf (perf.Close x) own p known v = None
+theirs_after_perf _ own p known v = v
 
-abbrev pub theirs_behind : Item → ℕ → (ℕ → Option ℕ) → Option PeerChannel → Option PeerChannel
-theirs_behind (item.Frame sasl own body payload) p known v = theirs_behind_perf body own p known v
-theirs_behind _ p known v = v
+abbrev pub theirs_after : Item → ℕ → (ℕ → Option ℕ) → Option PeerChannel → Option PeerChannel
+theirs_after (item.Frame sasl own body payload) p known v = theirs_after_perf body own p known v
+theirs_after _ p known v = v
 
 abbrev pub theirs : Trace → ℕ → ℕ → Option PeerChannel
 theirs [] c p = None
 theirs (Did s ∷ t) c p = theirs_at s.event c p (theirs t c p)
-theirs (Out d i ∷ t) c p = if d == c then theirs_behind i p (answered_channel t c) (theirs t c p) else theirs t c p
+theirs (Out d i ∷ t) c p = if d == c then theirs_after i p (answered_channel t c) (theirs t c p) else theirs t c p
 theirs (Took d n ∷ t) c p = theirs t c p
 theirs (Bound b ∷ t) c p = theirs t c p
 theirs (Booked acts full ∷ t) c p = theirs t c p
@@ -157,22 +157,22 @@ abbrev pub begun : Option BeginState → Begin → Option Session
 begun None ours = None
 begun (Some asked) ours = Some (OurBegin (begin_state ours) ∷ TheirBegin asked ∷ [])
 
-abbrev pub behind_perf : Perf → ℕ → ℕ → Option BeginState → Option Session → Option Session
-behind_perf (perf.Begin b) own o asked v = if own == o then begun asked b else v
-behind_perf (perf.Flow f) own o asked v = if own == o then option_map (λ h. OurFlow (flow_state f) ∷ h) v else v
-behind_perf (perf.Transfer x) own o asked v = if own == o then option_map (λ h. OurTransfer ∷ h) v else v
-behind_perf (perf.End x) own o asked v = if own == o then None else v
-behind_perf (perf.Close x) own o asked v = None
-behind_perf _ own o asked v = v
+abbrev pub after_perf : Perf → ℕ → ℕ → Option BeginState → Option Session → Option Session
+after_perf (perf.Begin b) own o asked v = if own == o then begun asked b else v
+after_perf (perf.Flow f) own o asked v = if own == o then option_map (λ h. OurFlow (flow_state f) ∷ h) v else v
+after_perf (perf.Transfer x) own o asked v = if own == o then option_map (λ h. OurTransfer ∷ h) v else v
+after_perf (perf.End x) own o asked v = if own == o then None else v
+after_perf (perf.Close x) own o asked v = None
+after_perf _ own o asked v = v
 
-abbrev pub behind_item : Item → ℕ → Option BeginState → Option Session → Option Session
-behind_item (item.Frame sasl own body payload) o asked v = behind_perf body own o asked v
-behind_item _ o asked v = v
+abbrev pub after_item : Item → ℕ → Option BeginState → Option Session → Option Session
+after_item (item.Frame sasl own body payload) o asked v = after_perf body own o asked v
+after_item _ o asked v = v
 
 abbrev pub session : Trace → ℕ → ℕ → Option Session
 session [] c o = None
 session (Did s ∷ t) c o = session_at s.event c o (theirs t c) (session t c o)
-session (Out d i ∷ t) c o = if d == c then behind_item i o (offered t c) (session t c o) else session t c o
+session (Out d i ∷ t) c o = if d == c then after_item i o (offered t c) (session t c o) else session t c o
 session (Took d n ∷ t) c o = session t c o
 session (Bound b ∷ t) c o = session t c o
 session (Booked acts full ∷ t) c o = session t c o

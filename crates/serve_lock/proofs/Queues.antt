@@ -77,8 +77,8 @@ module _ {M : Type 0} (m : Meaning M) (conn : ConnectionId) (before behind : Lis
     batches = λ t f. omega (arith, far.batches t f, written (handed (m.next (m.id old)) conn far.items t) (far.fits t f), fewer);
   }
 
-  gone_behind : (n : ℕ) → n ≡ turn → behind ≡ drop n before
-  gone_behind n is = sym (ap (λ k. drop k before) (is ∙ sym far.turns) ∙ ap (drop (length far.items)) far.queue ∙ drop-append_seam far.items behind)
+  gone_after : (n : ℕ) → n ≡ turn → behind ≡ drop n before
+  gone_after n is = sym (ap (λ k. drop k before) (is ∙ sym far.turns) ∙ ap (drop (length far.items)) far.queue ∙ drop-append_seam far.items behind)
 
   lengths : length before ≡ turn + length behind
   lengths = ap length far.queue ∙ length-append far.items behind ∙ ap (λ n. n + length behind) far.turns
@@ -94,7 +94,7 @@ module _ {M : Type 0} (m : Meaning M) (conn : ConnectionId) (before behind : Lis
     most = omega (arith, most);
     there = omega (arith, lengths);
     counted = far.counted;
-    left = gone_behind (turn + 0) (omega arith);
+    left = gone_after (turn + 0) (omega arith);
   }
 
   -- the next one is refused

@@ -122,7 +122,7 @@ impl<M: Machine, L: Log, G: Ledgers> Locked<M, L, G> {
         Ok(self.router.batch() != before)
     }
 
-    /// Handles the items at the front of a queue, in order, each as an event of its own: all of them, but at most 64, and none behind
+    /// Handles the items at the front of a queue, in order, each as an event of its own: all of them, but at most 64, and none after
     /// one that is refused or the eighth that wrote to the journal. One that is refused is dropped.
     pub fn handle_items(
         &mut self,

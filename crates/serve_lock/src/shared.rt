@@ -88,7 +88,7 @@ impl<M: Machine, L: Log, G: Ledgers> Shared<M, L, G> {
     }
 
     /// Submits the items at the front of a queue, in order, each as an event of its own, while the lock is taken once: up to 64 of them, and
-    /// none behind one that is refused or the eighth that wrote to the journal. Then it wakes the writers that have something to take.
+    /// none after one that is refused or the eighth that wrote to the journal. Then it wakes the writers that have something to take.
     /// The seat counts exactly the items that left the queue, but for one that is refused, which is dropped.
     pub fn submit_items<R: Wait>(
         &self,

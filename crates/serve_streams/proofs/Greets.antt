@@ -15,7 +15,7 @@ use Rattle.serve_streams.specs.Spelled.{spelled}
 use Rattle.serve_streams.specs.Greeting.{door_says, Fate, waits, passed, closed, fate, fate_of, door_past, Gives, IsTold, Greets, Stops, Breaks}
 use Rattle.serve_streams.proofs.Appending.{appends_on}
 use Rattle.serve_streams.proofs.Doors.{written_more, fate_more, past_more, fate_bad}
-use Rattle.serve_streams.proofs.Streams.{at_end, Came, gives_more, gives_nothing, gives_the_same, none_behind}
+use Rattle.serve_streams.proofs.Streams.{at_end, Came, gives_more, gives_nothing, gives_the_same, none_after}
 
 pub appends_none : (a : Option (List ℕ)) → Appends a a []
 appends_none None = tt
@@ -131,7 +131,7 @@ refused d old source held =
 pub tires : (d : Door) (old : Stream) (source held : Option (List ℕ)) (now : Door) (mid : Stream) (left holds : Option (List ℕ))
     → IsFar d old source held now mid left holds → Greets d old mid source left held holds (greeted.Ended end.ReadFailed)
 tires d old source held now mid left holds far =
-    greeted_by d old mid mid source left held holds (greeted.Ended end.ReadFailed) far.0 [] far.1 (none_behind source left far.0 far.2) far.3 far.4 far.5 read_unbroken
+    greeted_by d old mid mid source left held holds (greeted.Ended end.ReadFailed) far.0 [] far.1 (none_after source left far.0 far.2) far.3 far.4 far.5 read_unbroken
     (λ _. (refl, refl)) (λ same. absurd (failed_only end.ReadFailed end.End (λ e. absurd (let bad : end.ReadFailed ≡ end.End = e in cc)) same))
 
 -- a read gives no items
@@ -140,12 +140,12 @@ pub stops : (d : Door) (old : Stream) (source held : Option (List ℕ)) (now : D
     → Greets d old new source less held holds (greeted.Ended e)
 stops d old source held now mid new left less holds end.End room roomy far read =
     let bs = far.0 ++ read.0 in
-    greeted_by d old new new source less held holds (greeted.Ended end.End) bs [] far.1 (none_behind source less bs (Consumes-trans source left less far.0 read.0 far.2 read.1))
+    greeted_by d old new new source less held holds (greeted.Ended end.End) bs [] far.1 (none_after source less bs (Consumes-trans source left less far.0 read.0 far.2 read.1))
     (gives_the_same old new bs far.1 (read_on d old source held now mid new left less holds [] far (read.0, read.1, read.2.0))) far.4 far.5 end_unbroken
     (λ _. (refl, refl)) (λ _. at_end (IsAtEnd less) room old.failed mid.failed (still_reads d old mid far.0 far.1 far.3 far.5) roomy read.2.1)
 stops d old source held now mid new left less holds end.ReadFailed room roomy far read =
     let bs = far.0 ++ read.0 in
-    greeted_by d old new new source less held holds (greeted.Ended end.ReadFailed) bs [] far.1 (none_behind source less bs (Consumes-trans source left less far.0 read.0 far.2 read.1))
+    greeted_by d old new new source less held holds (greeted.Ended end.ReadFailed) bs [] far.1 (none_after source less bs (Consumes-trans source left less far.0 read.0 far.2 read.1))
     (gives_the_same old new bs far.1 (read_on d old source held now mid new left less holds [] far (read.0, read.1, read.2))) far.4 far.5 read_unbroken
     (λ _. (refl, refl)) (λ same. absurd (failed_only end.ReadFailed end.End (λ e. absurd (let bad : end.ReadFailed ≡ end.End = e in cc)) same))
 stops d old source held now mid new left less holds end.Memory room roomy far read =
@@ -172,7 +172,7 @@ breaks d old source held now mid new left less holds more items end.WriteFailed 
     = ap (λ (w : List ℕ). take (length xs + some.0) w) all ∙ take-append-add xs ys some.0 in record {
       bytes = bs;
       lost = [];
-      came = none_behind source less bs (Consumes-trans source left less far.0 read.0 far.2 read.1);
+      came = none_after source less bs (Consumes-trans source left less far.0 read.0 far.2 read.1);
       items = far.1 ++ items;
       kept = new;
       given = read_on d old source held now mid new left less holds items far read;
@@ -196,7 +196,7 @@ comes : (d : Door) (old : Stream) (source held : Option (List ℕ)) (now : Door)
     → g ≢ greeted.Ended end.WriteFailed → g ≢ greeted.Ended end.End → Greets d old new source less held more g
 comes d old source held now mid new left less holds more items g far read wrote told unbroken goes_on =
     let bs = far.0 ++ read.0 in
-    greeted_by d old new new source less held more g bs [] (far.1 ++ items) (none_behind source less bs (Consumes-trans source left less far.0 read.0 far.2 read.1))
+    greeted_by d old new new source less held more g bs [] (far.1 ++ items) (none_after source less bs (Consumes-trans source left less far.0 read.0 far.2 read.1))
     (read_on d old source held now mid new left less holds items far read) (written_on d old source held now mid left holds more items far wrote)
     (subst (λ (f : Fate). IsTold g f) (sym (all_fated d old source held now mid left holds items far)) told)
     unbroken (λ _. (refl, refl)) (λ same. absurd (goes_on same))

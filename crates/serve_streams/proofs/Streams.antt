@@ -50,8 +50,8 @@ gives_the_same old new bs is given = subst (λ (xs : List Item). Gives old bs xs
 abbrev pub Came : Option (List ℕ) → Option (List ℕ) → Stream → List Item → Stream → Type 0
 Came left less mid items new = (bytes : List ℕ) × Consumes left less bytes × Gives mid bytes items new
 
-pub none_behind : (source left : Option (List ℕ)) (bs : List ℕ) → Consumes source left bs → Consumes source left (bs ++ [])
-none_behind source left bs read = subst (λ (w : List ℕ). Consumes source left w) (sym (append-nil bs)) read
+pub none_after : (source left : Option (List ℕ)) (bs : List ℕ) → Consumes source left bs → Consumes source left (bs ++ [])
+none_after source left bs read = subst (λ (w : List ℕ). Consumes source left w) (sym (append-nil bs)) read
 
 -- no read finds more
 pub at_end : (ended : Type 0) (room : ℕ) (f g : Bool) → (g ≡ true → f ≡ true) → 0 < room → (0 < room → ended) ⊎ (g ≡ true) → ended ⊎ (f ≡ true)

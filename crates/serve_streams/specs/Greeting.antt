@@ -4,7 +4,7 @@ use Rattle.std.specs.Io.KnownBytes.{Appends, Consumes, IsAtEnd}
 use Rattle.amqp_model.specs.declared.item.Item.{Item}
 use Rattle.amqp_frames.specs.Cuts.{Cuts, Stream}
 use Rattle.core_door.specs.declared.door.Door.{Door}
-use Rattle.core_door.specs.Door.{Verdict, says, passes, ends, door, door_behind}
+use Rattle.core_door.specs.Door.{Verdict, says, passes, ends, door, door_after}
 use Rattle.serve_streams.specs.declared.end.ReadEnd.{ReadEnd}
 use Rattle.serve_streams.specs.declared.end.ReadEnd.TheVariants as end
 use Rattle.serve_streams.specs.declared.greeting.Greeted.{Greeted}
@@ -21,7 +21,7 @@ said_by (ends items) later = items
 
 abbrev pub door_says : Door → List Item → List Item
 door_says d [] = []
-door_says d (i ∷ is) = said_by (door d i) (door_says (door_behind d i) is)
+door_says d (i ∷ is) = said_by (door d i) (door_says (door_after d i) is)
 
 -- what becomes of a greeting by these items: the door waits for more; it lets the peer in as this user, and these items, from the
 -- one that passed on, are the router's; or it ends the connection
@@ -37,12 +37,12 @@ fate_by (ends items) here later = closed
 
 abbrev pub fate : Door → List Item → Fate
 fate d [] = waits
-fate d (i ∷ is) = fate_by (door d i) (i ∷ is) (fate (door_behind d i) is)
+fate d (i ∷ is) = fate_by (door d i) (i ∷ is) (fate (door_after d i) is)
 
 -- the door after items for which it waits
 abbrev pub door_past : Door → List Item → Door
 door_past d [] = d
-door_past d (i ∷ is) = door_past (door_behind d i) is
+door_past d (i ∷ is) = door_past (door_after d i) is
 
 -- the items that a frame reader gives for these bytes: those of what it kept and of these, and it keeps the rest; none where
 -- nothing came, or where it had failed before

@@ -42,7 +42,7 @@ enum Passing {
 /// Runs a connection's door on what its peer sends, and writes its answers, until it lets the peer in or ends the connection.
 /// After 1,024 reads the connection is over, as it is after a failed read. What is written is a beginning of the door's answers,
 /// in order, and all of them unless a write fails. Where the peer is let in, the items that go on are all from the one that
-/// passed, and the frame reader keeps the bytes behind them.
+/// passed, and the frame reader keeps the bytes after them.
 pub fn greet<I: Read, W: Write>(
     alloc: Global,
     input: &mut I,

@@ -34,7 +34,7 @@ pub trait Service: Send + Sync {
     /// The router's fault.
     fn tick<R: Wait>(&self, rt: &R, seat: &mut Self::Seat, moment: u64) -> Result<(), CoreFault>;
 
-    /// A connection comes up, with the number behind that of the last one.
+    /// A connection comes up, with the number after that of the last one.
     ///
     /// # Errors
     ///

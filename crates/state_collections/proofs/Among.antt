@@ -33,8 +33,8 @@ is_other a b other = by_test (eqb_tells a b)
     by_test (inl (e, same)) = absurd (other same)
     by_test (inr (e, _)) = e
 
-one_behind : (n : ℕ) → n + 1 ≡ suc n
-one_behind n = omega arith
+one_after : (n : ℕ) → n + 1 ≡ suc n
+one_after n = omega arith
 
 -- no number is among no places
 pub none_so_far : (few : List ℕ) (n : ℕ) → is_among 0 few n ≡ false
@@ -50,7 +50,7 @@ next (suc place) (x ∷ few) n below =
 
 -- a place more has one number more
 pub one_more : (place : ℕ) (few : List ℕ) (n : ℕ) → place < length few → is_among (place + 1) few n ≡ (is_among place few n || get_or few place 0 == n)
-one_more place few n below = ap (λ places. is_among places few n) (one_behind place) ∙ next place few n below
+one_more place few n below = ap (λ places. is_among places few n) (one_after place) ∙ next place few n below
 
 -- a place that hasn't the number adds nothing
 pub not_there : (place : ℕ) (few : List ℕ) (n : ℕ) → place < length few → is_among place few n ≡ false → get_or few place 0 ≢ n → is_among (place + 1) few n ≡ false
@@ -70,9 +70,9 @@ put_next count [] k n below = absurd (omega (arith, below))
 put_next zero (x ∷ few) k n below = refl
 put_next (suc count) (x ∷ few) k n below = ap (λ b. x == n || b) (put_next count few k n (omega (arith, below))) ∙ or_swap (k == n) (x == n) (is_among count few n)
 
--- a number is put behind the others
+-- a number is put after the others
 pub placed : (count : ℕ) (few : List ℕ) (k n : ℕ) → count < length few → is_among (count + 1) (set few count k) n ≡ (k == n || is_among count few n)
-placed count few k n below = ap (λ places. is_among places (set few count k) n) (one_behind count) ∙ put_next count few k n below
+placed count few k n below = ap (λ places. is_among places (set few count k) n) (one_after count) ∙ put_next count few k n below
 
 -- what is put at a place changes none before it
 pub before_it : (count place : ℕ) (few : List ℕ) (x n : ℕ) → count ≤ place → is_among count (set few place x) n ≡ is_among count few n
@@ -95,7 +95,7 @@ moved (suc last) (suc place) (x ∷ few) n within below other = ap (λ b. x == n
 -- where the last number closes a gap, all but the one that stood there stay
 pub closed : (last place : ℕ) (few : List ℕ) (n : ℕ) → place ≤ last → last < length few → (get_or few place 0 == n) ≡ false
     → is_among last (set few place (get_or few last 0)) n ≡ is_among (last + 1) few n
-closed last place few n within below other = moved last place few n within below other ∙ sym (ap (λ places. is_among places few n) (one_behind last))
+closed last place few n within below other = moved last place few n within below other ∙ sym (ap (λ places. is_among places few n) (one_after last))
 
 -- the same as a call tells it
 pub closed_at : (place last count : ℕ) (few new : List ℕ) (k n : ℕ) → place < count → count ≤ length few → last + 1 ≡ count

@@ -3,8 +3,8 @@ use Rattle.std.proofs.Common.{◌≡◌, ◌∙◌, ℕ, zero, suc, Bool, true, 
 use Rattle.std.specs.Prelude.{◌==◌, if◌then◌else◌, slice_get, map, bit_and}
 use Rattle.std.specs.Option.{option_map}
 use Rattle.std.specs.List.Retain.{RetainsInTurn}
-use Rattle.state_collections.specs.declared.slots.Entry.{Entry}
-use Rattle.state_collections.specs.Slots.{at_place, or_else}
+use Rattle.state_collections.specs.declared.number_map.Entry.{Entry}
+use Rattle.state_collections.specs.NumberMap.{at_place, or_else}
 use Rattle.state_collections.specs.Emptying.{with_rest}
 
 -- a walk that keeps each element and changes it in one way is a map

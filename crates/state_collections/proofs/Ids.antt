@@ -15,8 +15,8 @@ use Rattle.std.specs.BTreeMap.{get}
 use Rattle.std.specs.BTreeMap.Range.{range_contains}
 use Rattle.std.specs.Ordering.{nat_cmp, is_le, is_lt}
 use Rattle.std.specs.declared.ops.Bound.TheVariants.{Included}
-use Rattle.state_collections.specs.Slots.{in_slots, in_places, is_listed, or_else}
-use Rattle.state_collections.specs.declared.slots.Slots.{Slots}
+use Rattle.state_collections.specs.NumberMap.{at_number, in_places, is_listed, or_else}
+use Rattle.state_collections.specs.declared.number_map.NumberMap.{NumberMap}
 use Rattle.state_collections.proofs.Placed.{by_test}
 
 -- a list of one id
@@ -49,15 +49,15 @@ nearer : (first step : ℕ) (ids : List ℕ) → AllByRecursion (λ id. distance
 nearer first step [] near = tt
 nearer first step (id ∷ ids) near = (let l = near.0 in omega (arith, l), nearer first step ids near.1)
 
-all_behind : (P : ℕ → Type 0) (ids : List ℕ) (id : ℕ) → AllByRecursion P ids → P id → AllByRecursion P (ids ++ id ∷ [])
-all_behind P [] id all one = (one, tt)
-all_behind P (x ∷ ids) id all one = (all.0, all_behind P ids id all.1 one)
+all_after : (P : ℕ → Type 0) (ids : List ℕ) (id : ℕ) → AllByRecursion P ids → P id → AllByRecursion P (ids ++ id ∷ [])
+all_after P [] id all one = (one, tt)
+all_after P (x ∷ ids) id all one = (all.0, all_after P ids id all.1 one)
 
 rises : (first : ℕ) (ids : List ℕ) (id : ℕ) → IsRising first ids → AllByRecursion (λ x. distance first x < distance first id) ids → IsRising first (ids ++ id ∷ [])
 unfolding IsStrictlySortedBy
 rises first [] id rising near = (tt, tt)
 rises first (x ∷ ids) id rising near =
-    (all_behind (λ y. by_distance first x y ≡ Less) ids id rising.0 (sym (nat_cmp_is (distance first x) (distance first id) Less near.0)), rises first ids id rising.1 near.1)
+    (all_after (λ y. by_distance first x y ≡ Less) ids id rising.0 (sym (nat_cmp_is (distance first x) (distance first id) Less near.0)), rises first ids id rising.1 near.1)
 
 -- ... and one more, which isn't there, ...
 pub one_lacks : (first step id : ℕ) (there : ℕ → Bool) (ids : List ℕ) → first < 2 ^ 32 → id ≡ (first + step) % 2 ^ 32 → there id ≡ false
@@ -88,7 +88,7 @@ one_there first step id there ids more f s is here added asked = record {
       (λ e. rw e (or_false (nat_lt (distance first q) step && there q)
       ∙ ap (λ b. b && there q) (sym (more_steps (distance first q) step (λ d. eqb-false q id e (at_step first step q f low d ∙ sym is))))));
   rising = subst (IsRising first) (sym added) (rises first ids id asked.rising (subst (λ d. AllByRecursion (λ x. distance first x < d) ids) (sym at) asked.near));
-  near = subst (λ xs. AllByRecursion (λ x. distance first x < step + 1) xs) (sym added) (all_behind (λ x. distance first x < step + 1) ids id (nearer first step ids asked.near) (omega (arith, at)));
+  near = subst (λ xs. AllByRecursion (λ x. distance first x < step + 1) xs) (sym added) (all_after (λ x. distance first x < step + 1) ids id (nearer first step ids asked.near) (omega (arith, at)));
 }
   where
     at : distance first id ≡ step
@@ -140,8 +140,8 @@ found : {V : Type 0} (x y : Option V) → (is_some x || (true && is_some y)) ≡
 found None y = refl
 found (Some v) y = refl
 
-pub straight_listed : {V : Type 0} (first last q : ℕ) (ids : Slots V) (before now : List ℕ) → before ≡ [] → first ≤ last → last < 2 ^ 32 → q < 2 ^ 32 → in_range first last q ≡ true
-    → has q now ≡ (has q before || is_listed ids first last q) → has q now ≡ is_some (in_slots ids q)
+pub straight_listed : {V : Type 0} (first last q : ℕ) (ids : NumberMap V) (before now : List ℕ) → before ≡ [] → first ≤ last → last < 2 ^ 32 → q < 2 ^ 32 → in_range first last q ≡ true
+    → has q now ≡ (has q before || is_listed ids first last q) → has q now ≡ is_some (at_number ids q)
 straight_listed first last q ids before now none order small low is listed =
     let at = inside first last q order small low (near_enough first last q is) in
     listed ∙ ap (λ xs. has q xs || is_listed ids first last q) none
@@ -161,8 +161,8 @@ either_part false false true o h = refl
 either_part false false false o (inl h) = absurd cc
 either_part false false false o (inr h) = absurd cc
 
-pub wrapped_listed : {V : Type 0} (first last q : ℕ) (ids : Slots V) (before between now : List ℕ) → before ≡ [] → last < first → first < 2 ^ 32 → q < 2 ^ 32 → in_range first last q ≡ true
-    → has q between ≡ (has q before || is_listed ids first 4294967295 q) → has q now ≡ (has q between || is_listed ids 0 last q) → has q now ≡ is_some (in_slots ids q)
+pub wrapped_listed : {V : Type 0} (first last q : ℕ) (ids : NumberMap V) (before between now : List ℕ) → before ≡ [] → last < first → first < 2 ^ 32 → q < 2 ^ 32 → in_range first last q ≡ true
+    → has q between ≡ (has q before || is_listed ids first 4294967295 q) → has q now ≡ (has q between || is_listed ids 0 last q) → has q now ≡ is_some (at_number ids q)
 wrapped_listed first last q ids before between now none wraps small low is one two =
     two ∙ ap (λ b. b || is_listed ids 0 last q) (one ∙ ap (λ xs. has q xs || is_listed ids first 4294967295 q) none)
     ∙ either_part (is_some (in_places ids.placed q)) (range_contains nat_cmp (Included first) (Included 4294967295) q) (range_contains nat_cmp (Included 0) (Included last) q) (is_some (get nat_cmp ids.others q)) part

@@ -13,8 +13,8 @@ use Rattle.std.proofs.lemmas.List.Folds.{list_any-append}
 use Rattle.std.proofs.lemmas.Map.Made.{is_some-lookup}
 use Rattle.amqp_session.specs.Ranges.{has}
 use Rattle.amqp_session.proofs.Ranges.{ids_within, has_within}
-use Rattle.state_collections.specs.Slots.{at_place, or_else, no_entry, tells}
-use Rattle.state_collections.specs.declared.slots.Entry.{Entry}
+use Rattle.state_collections.specs.NumberMap.{at_place, or_else, no_entry, tells}
+use Rattle.state_collections.specs.declared.number_map.Entry.{Entry}
 use Rattle.state_collections.proofs.Placed.{by_test, same_test}
 
 pub or_none : (a : Bool) → a ≡ (a || false)

@@ -5,18 +5,18 @@ use Rattle.std.specs.Borrow.{LendsSo, MutBor, Fml, RattleType}
 use Rattle.std.specs.List.{AllByRecursion}
 use Rattle.amqp_session.specs.Serials.{distance}
 use Rattle.amqp_session.specs.Ranges.{has, IsRising}
-use Rattle.state_collections.specs.Slots.{in_slots}
-use Rattle.state_collections.specs.declared.slots.Slots.{Slots}
+use Rattle.state_collections.specs.NumberMap.{at_number}
+use Rattle.state_collections.specs.declared.number_map.NumberMap.{NumberMap}
 use Rattle.state_collections.specs.declared.by_session.BySession.{BySession}
 use Rattle.state_collections.specs.contracts.by_session.BySession.{the_row}
 
-abbrev pub in_ids : {V : Type 0} → Option (Slots V) → ℕ → Option V
+abbrev pub in_ids : {V : Type 0} → Option (NumberMap V) → ℕ → Option V
 in_ids None id = None
-in_ids (Some m) id = in_slots m id
+in_ids (Some m) id = at_number m id
 
 -- of the session on a channel of the router, of a connection
 abbrev pub at_id : {V : Type 0} → BySession V → ℕ → ℕ → ℕ → Option V
-at_id s c o id = in_ids (in_ids (in_slots s.rows c) o) id
+at_id s c o id = in_ids (in_ids (at_number s.rows c) o) id
 
 -- These ids are those of the first so many of a range that are there.
 pub record IsAsked (first : ℕ) (there : ℕ → Bool) (steps : ℕ) (ids : List ℕ) : Type 0 where

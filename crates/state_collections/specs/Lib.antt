@@ -1,6 +1,6 @@
 pub mod Places
 pub mod Among
-pub mod Marks
+pub mod NumberSet
 pub mod Ids
-pub mod Slots
+pub mod NumberMap
 pub mod Emptying

@@ -4,7 +4,7 @@ use Rattle.std.specs.Option.{option_map}
 use Rattle.std.specs.Borrow.{LendsSo, MutBor, Fml, RattleType}
 use Rattle.std.specs.Ordering.{nat_cmp}
 use Rattle.std.specs.BTreeMap.{BTreeMap, get}
-use Rattle.state_collections.specs.Slots.{in_slots}
+use Rattle.state_collections.specs.NumberMap.{at_number}
 use Rattle.state_collections.specs.declared.by_handle.ByHandle.{ByHandle}
 use Rattle.state_collections.specs.contracts.by_handle.ByHandle.{the_row}
 
@@ -14,7 +14,7 @@ in_map (Some m) k = get nat_cmp m k
 
 -- at a handle of the session on a channel of the router, of a connection
 abbrev pub at : {V : Type 0} → ByHandle V → ℕ → ℕ → ℕ → Option V
-at s c o h = in_map (in_map (in_slots s.rows c) o) h
+at s c o h = in_map (in_map (at_number s.rows c) o) h
 
 -- What was written last is at this place, if a value was there, and at all others what was there before.
 abbrev pub LendsPlace : (V : RattleType) → MutBor (ByHandle V.Denot) → ℕ → ℕ → ℕ → Option (MutBor V.Denot) → Fml

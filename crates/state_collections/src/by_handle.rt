@@ -5,9 +5,9 @@ ghost use Rattle.std.specs.Ordering.{nat_cmp};
 ghost use Rattle.std.specs.BTreeMap.{get};
 ghost use Rattle.std.specs.Borrow.{sem};
 ghost use Rattle.state_collections.specs.Places.{in_map, at, LendsPlace};
-ghost use Rattle.state_collections.specs.Slots.{in_slots};
+ghost use Rattle.state_collections.specs.NumberMap.{at_number};
 
-use crate::slots::Slots;
+use crate::number_map::NumberMap;
 use std::alloc::{AllocError, Global};
 use std::collections::BTreeMap;
 
@@ -24,7 +24,7 @@ pub type InConnection<V> = BTreeMap<u16, InSession<V>>;
 #[derive(Drop)]
 pub struct ByHandle<V> {
     alloc: Global,
-    rows: Slots<InConnection<V>>,
+    rows: NumberMap<InConnection<V>>,
 }
 
 impl<V: Drop> ByHandle<V> {
@@ -34,7 +34,7 @@ impl<V: Drop> ByHandle<V> {
     {
         ByHandle {
             alloc,
-            rows: Slots::new(alloc, PLACES),
+            rows: NumberMap::new(alloc, PLACES),
         }
     }
 
@@ -63,7 +63,7 @@ impl<V: Drop> ByHandle<V> {
 
     /// The values of a session.
     pub fn session(&self, conn: u64, own: u16) -> Option<&InSession<V>>
-        ensures { option_map (λ m. m.now) result ≡ in_map (in_slots self.now.rows conn) own }
+        ensures { option_map (λ m. m.now) result ≡ in_map (at_number self.now.rows conn) own }
     {
         match self.rows.get(conn) {
             None => None,
@@ -73,7 +73,7 @@ impl<V: Drop> ByHandle<V> {
 
     /// The values of a connection.
     pub fn connection(&self, conn: u64) -> Option<&InConnection<V>>
-        ensures { option_map (λ m. m.now) result ≡ in_slots self.now.rows conn }
+        ensures { option_map (λ m. m.now) result ≡ at_number self.now.rows conn }
     {
         self.rows.get(conn)
     }
@@ -107,7 +107,7 @@ impl<V: Drop> ByHandle<V> {
 
     /// Removes all values of a session.
     pub fn end(&mut self, conn: u64, own: u16) -> Option<InSession<V>>
-        ensures gives { result ≡ in_map (in_slots self.old.rows conn) own }
+        ensures gives { result ≡ in_map (at_number self.old.rows conn) own }
         ensures gone { (c o h : ℕ) → at self.new c o h ≡ (if conn == c then (if own == o then None else at self.old c o h) else at self.old c o h) }
     {
         match self.rows.get_mut(conn) {
@@ -118,7 +118,7 @@ impl<V: Drop> ByHandle<V> {
 
     /// Removes all values of a connection.
     pub fn forget(&mut self, conn: u64) -> Option<InConnection<V>>
-        ensures gives { result ≡ in_slots self.old.rows conn }
+        ensures gives { result ≡ at_number self.old.rows conn }
         ensures gone { (c o h : ℕ) → at self.new c o h ≡ (if conn == c then None else at self.old c o h) }
     {
         self.rows.remove(conn)

@@ -6,10 +6,10 @@ ghost use Rattle.std.specs.Ordering.{nat_cmp};
 ghost use Rattle.std.specs.BTreeMap.{get};
 ghost use Rattle.amqp_session.specs.Serials.{distance};
 ghost use Rattle.amqp_session.specs.Ranges.{in_range, has, IsRising};
-ghost use Rattle.state_collections.specs.Slots.{in_slots};
+ghost use Rattle.state_collections.specs.NumberMap.{at_number};
 ghost use Rattle.state_collections.specs.Ids.{in_ids, at_id, IsAsked, LendsId};
 
-use crate::slots::Slots;
+use crate::number_map::NumberMap;
 use amqp_session::{DeliveryIds, Serial};
 use std::alloc::{AllocError, Global};
 
@@ -25,13 +25,13 @@ const CONNECTIONS: usize = 64;
 const SESSIONS: usize = 16;
 
 /// Values by the router's channel of a session, and the delivery-id on it.
-type Sessions<V> = Slots<Slots<V>>;
+type Sessions<V> = NumberMap<NumberMap<V>>;
 
 /// Values by connection, the router's channel of a session, and the delivery-id on it.
 #[derive(Drop)]
 pub struct BySession<V> {
     alloc: Global,
-    rows: Slots<Sessions<V>>,
+    rows: NumberMap<Sessions<V>>,
 }
 
 impl<V: Drop> BySession<V> {
@@ -41,13 +41,13 @@ impl<V: Drop> BySession<V> {
     {
         BySession {
             alloc,
-            rows: Slots::new(alloc, CONNECTIONS),
+            rows: NumberMap::new(alloc, CONNECTIONS),
         }
     }
 
     /// The values of a session.
-    fn session(&self, conn: u64, own: u16) -> Option<&Slots<V>>
-        ensures { option_copied result ≡ in_ids (in_slots self.now.rows conn) own }
+    fn session(&self, conn: u64, own: u16) -> Option<&NumberMap<V>>
+        ensures { option_copied result ≡ in_ids (at_number self.now.rows conn) own }
     {
         self.rows.get(conn)?.get(u64::from(own))
     }
@@ -115,7 +115,7 @@ impl<V: Drop> BySession<V> {
         if let Some(sessions) = self.rows.get_mut(conn) {
             return insert_in(alloc, sessions, own, id, value);
         }
-        let mut sessions = Slots::new(alloc, SESSIONS);
+        let mut sessions = NumberMap::new(alloc, SESSIONS);
         insert_in(alloc, &mut sessions, own, id, value)?;
         self.rows.insert(conn, sessions)?;
         Ok(())
@@ -156,21 +156,21 @@ fn insert_in<V: Drop>(
     id: u32,
     value: V,
 ) -> Result<(), AllocError>
-    ensures { OnOk result ((o q : ℕ) → in_ids (in_slots sessions.new o) q
-        ≡ (if own == o then (if id == q then Some value else in_ids (in_slots sessions.old o) q) else in_ids (in_slots sessions.old o) q)) }
+    ensures { OnOk result ((o q : ℕ) → in_ids (at_number sessions.new o) q
+        ≡ (if own == o then (if id == q then Some value else in_ids (at_number sessions.old o) q) else in_ids (at_number sessions.old o) q)) }
 {
     if let Some(ids) = sessions.get_mut(u64::from(own)) {
         return put(ids, id, value);
     }
-    let mut ids = Slots::new(alloc, PLACES);
+    let mut ids = NumberMap::new(alloc, PLACES);
     put(&mut ids, id, value)?;
     sessions.insert(u64::from(own), ids)?;
     Ok(())
 }
 
 /// Gives an id this value, instead of any that it had.
-fn put<V: Drop>(ids: &mut Slots<V>, id: u32, value: V) -> Result<(), AllocError>
-    ensures { OnOk result ((q : ℕ) → in_slots ids.new q ≡ (if id == q then Some value else in_slots ids.old q)) }
+fn put<V: Drop>(ids: &mut NumberMap<V>, id: u32, value: V) -> Result<(), AllocError>
+    ensures { OnOk result ((q : ℕ) → at_number ids.new q ≡ (if id == q then Some value else at_number ids.old q)) }
 {
     let _ = ids.insert(u64::from(id), value)?;
     Ok(())
@@ -178,8 +178,8 @@ fn put<V: Drop>(ids: &mut Slots<V>, id: u32, value: V) -> Result<(), AllocError>
 
 /// Removes the value of an id of a session.
 fn remove_in<V: Drop>(sessions: &mut Sessions<V>, own: u16, id: u32)
-    ensures { (o q : ℕ) → in_ids (in_slots sessions.new o) q
-        ≡ (if own == o then (if id == q then None else in_ids (in_slots sessions.old o) q) else in_ids (in_slots sessions.old o) q) }
+    ensures { (o q : ℕ) → in_ids (at_number sessions.new o) q
+        ≡ (if own == o then (if id == q then None else in_ids (at_number sessions.old o) q) else in_ids (at_number sessions.old o) q) }
 {
     if let Some(ids) = sessions.get_mut(u64::from(own)) {
         let _ = ids.remove(u64::from(id));
@@ -189,11 +189,11 @@ fn remove_in<V: Drop>(sessions: &mut Sessions<V>, own: u16, id: u32)
 /// The ids in a range that have a value, in the range's order. Fails if memory is refused.
 fn range_of<V: Drop>(
     alloc: Global,
-    ids: &Slots<V>,
+    ids: &NumberMap<V>,
     first: Serial,
     last: Serial,
 ) -> Result<Vec<Serial>, AllocError>
-    ensures exact { IfOk result (λ found. (q : ℕ) → q < 2 ^ 32 → has q found.items ≡ (in_range first last q && is_some (in_slots ids.now q))) }
+    ensures exact { IfOk result (λ found. (q : ℕ) → q < 2 ^ 32 → has q found.items ≡ (in_range first last q && is_some (at_number ids.now q))) }
     ensures rising { IfOk result (λ found. IsRising first found.items) }
 {
     if first.distance_to(last) < FEW_IDS {
@@ -207,12 +207,12 @@ fn range_of<V: Drop>(
 /// The ids in a range of few that have a value, in the range's order: each is asked. Fails if memory is refused.
 fn short_range<V: Drop>(
     alloc: Global,
-    ids: &Slots<V>,
+    ids: &NumberMap<V>,
     first: Serial,
     last: Serial,
 ) -> Result<Vec<Serial>, AllocError>
     requires { distance first last < 64 }
-    ensures exact { IfOk result (λ found. (q : ℕ) → q < 2 ^ 32 → has q found.items ≡ (in_range first last q && is_some (in_slots ids.now q))) }
+    ensures exact { IfOk result (λ found. (q : ℕ) → q < 2 ^ 32 → has q found.items ≡ (in_range first last q && is_some (at_number ids.now q))) }
     ensures rising { IfOk result (λ found. IsRising first found.items) }
 {
     let count = first.distance_to(last) + 1;
@@ -223,14 +223,14 @@ fn short_range<V: Drop>(
     Ok(found)
 }
 
-/// Appends the id that is so many steps behind the first, if it has a value. Fails if memory is refused.
+/// Appends the id that is so many steps after the first, if it has a value. Fails if memory is refused.
 fn ask<V: Drop>(
-    ids: &Slots<V>,
+    ids: &NumberMap<V>,
     found: &mut Vec<Serial>,
     first: Serial,
     step: u32,
 ) -> Result<(), AllocError>
-    ensures { OnOk result (IsAsked first (λ q. is_some (in_slots ids.now q)) step found.old.items → IsAsked first (λ q. is_some (in_slots ids.now q)) (step + 1) found.new.items) }
+    ensures { OnOk result (IsAsked first (λ q. is_some (at_number ids.now q)) step found.old.items → IsAsked first (λ q. is_some (at_number ids.now q)) (step + 1) found.new.items) }
 {
     let id = first.plus(step);
     if ids.get(u64::from(id.number())).is_none() {
@@ -243,11 +243,11 @@ fn ask<V: Drop>(
 /// The ids that have a value, in order: those of a range, and maybe others. Fails if memory is refused.
 fn ordered<V: Drop>(
     alloc: Global,
-    ids: &Slots<V>,
+    ids: &NumberMap<V>,
     first: Serial,
     last: Serial,
 ) -> Result<DeliveryIds<()>, AllocError>
-    ensures { IfOk result (λ there. (q : ℕ) → q < 2 ^ 32 → in_range first last q ≡ true → is_some (get nat_cmp there.deliveries q) ≡ is_some (in_slots ids.now q)) }
+    ensures { IfOk result (λ there. (q : ℕ) → q < 2 ^ 32 → in_range first last q ≡ true → is_some (get nat_cmp there.deliveries q) ≡ is_some (at_number ids.now q)) }
 {
     let numbers = numbers_in(alloc, ids, first, last)?;
     let mut there = DeliveryIds::new(alloc);
@@ -261,11 +261,11 @@ fn ordered<V: Drop>(
 /// ordered map only between the range's ends. Fails if memory is refused.
 pub fn numbers_in<V: Drop>(
     alloc: Global,
-    ids: &Slots<V>,
+    ids: &NumberMap<V>,
     first: Serial,
     last: Serial,
 ) -> Result<Vec<u64>, AllocError>
-    ensures { IfOk result (λ numbers. (q : ℕ) → q < 2 ^ 32 → in_range first last q ≡ true → has q numbers.items ≡ is_some (in_slots ids.now q)) }
+    ensures { IfOk result (λ numbers. (q : ℕ) → q < 2 ^ 32 → in_range first last q ≡ true → has q numbers.items ≡ is_some (at_number ids.now q)) }
 {
     let mut numbers = Vec::new(alloc);
     let (low, high) = (u64::from(first.number()), u64::from(last.number()));

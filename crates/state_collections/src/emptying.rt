@@ -1,10 +1,10 @@
 //! All values of a table by number, emptied where they stand.
 ghost use Rattle.std.specs.Prelude.{◌≡◌, ℕ};
 ghost use Rattle.std.specs.Option.{option_map};
-ghost use Rattle.state_collections.specs.Slots.{in_slots, in_places};
+ghost use Rattle.state_collections.specs.NumberMap.{at_number, in_places};
 ghost use Rattle.state_collections.specs.Emptying.{with_rest};
 
-use crate::slots::{Entry, Places, Slots};
+use crate::number_map::{Entry, Places, NumberMap};
 
 /// A value whose contents can be forgotten where it stands.
 pub trait Empties: Drop {
@@ -16,10 +16,10 @@ pub trait Empties: Drop {
         ensures { self.new ≡ rest self.old };
 }
 
-impl<V: Empties> Slots<V> {
+impl<V: Empties> NumberMap<V> {
     /// Forgets the contents of all values. It takes no memory, and looks at each place: for rare calls.
     pub fn empty_all(&mut self)
-        ensures { (n : ℕ) → in_slots self.new n ≡ option_map V.rest (in_slots self.old n) }
+        ensures { (n : ℕ) → at_number self.new n ≡ option_map V.rest (at_number self.old n) }
     {
         self.placed.empty_all();
         self.others.retain(|_number, value| {

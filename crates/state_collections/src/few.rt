@@ -48,7 +48,7 @@ impl Few {
         false
     }
 
-    /// Puts a number behind the others, if there is a place; whether there is one.
+    /// Puts a number after the others, if there is a place; whether there is one.
     #[inline]
     pub(crate) fn put(&mut self, number: u64) -> bool
         ensures put { result ≡ true → (n : ℕ) → is_among self.new.count self.new.places n ≡ (number == n || is_among self.old.count self.old.places n) }

@@ -1,6 +1,6 @@
 -- What an event finds, and how it changes the table.
 use Rattle.std.proofs.Common.{◌≡◌, ◌∙◌, sym, ap, refl, subst, ℕ, Bool, true, false, true≢false, not, ◌&&◌, List, [], ◌∷◌, ◌++◌, length, ◌<◌, ◌≤◌, append-nil, arith}
-use Rattle.state_collections.specs.Slots.{in_slots}
+use Rattle.state_collections.specs.NumberMap.{at_number}
 use Rattle.state_connections.specs.declared.connections.Connections.{Connections}
 use Rattle.state_connections.specs.Fits.{ConnectionsFit, ConnectionsAt}
 use Rattle.router_trace.specs.Refusing.{is_loss, rises, reaches}
@@ -17,7 +17,7 @@ use Rattle.router_trace.specs.declared.event.Peer.{Peer}
 use Rattle.router_trace.specs.declared.event.Event.{Event}
 use Rattle.router_trace.specs.declared.event.Event.TheVariants as event
 use Rattle.router_trace.specs.Trace.{Entry, Did, Out, Took, Bound, Booked, Began, did, ups, with_up, newest}
-use Rattle.router_trace.specs.Connection.{Connection, conn, behind, behind_perf, with_item, fresh, took, ended, standing, is_live, is_full, is_due, has, due, unless_due, found, phase_before, phase_found, live_of, at_event}
+use Rattle.router_trace.specs.Connection.{Connection, conn, phase_after, after_perf, with_item, fresh, took, ended, standing, is_live, is_full, is_due, has, due, unless_due, found, phase_before, phase_found, live_of, at_event}
 use Rattle.state_connections.proofs.Lists.{by_test, filter_both, filter_none, filter_agree_in, from_push, has_push, has_pushed, has_filter}
 
 -- no connection is due if no outbox is full
@@ -126,18 +126,18 @@ calm s t e fit r =
 
 -- how a turn changes the table
 pub record Turned (old new : Connections) (e : Event) (ends : List ℕ) : Type 0 where
-  pub gathered : ends ≡ filter (λ k. is_due e k (in_slots old.rows k)) old.live.items
-  pub rows : (c : ℕ) → in_slots new.rows c ≡ unless_due ends (in_slots old.rows) c
+  pub gathered : ends ≡ filter (λ k. is_due e k (at_number old.rows k)) old.live.items
+  pub rows : (c : ℕ) → at_number new.rows c ≡ unless_due ends (at_number old.rows) c
   pub live : new.live.items ≡ filter (λ k. not (has k ends)) old.live.items
   pub last : new.newest ≡ old.newest
   pub roomy : new.roomy ≡ not (is_loss e)
 
 pub turned_due : (old : Connections) (t : List Entry) (e : Event) (ends : List ℕ) → ConnectionsFit old t
-    → ends ≡ filter (λ k. is_due e k (in_slots old.rows k)) old.live.items → ends ≡ due t e
+    → ends ≡ filter (λ k. is_due e k (at_number old.rows k)) old.live.items → ends ≡ due t e
 turned_due old t e ends fit gathered =
     gathered
-    ∙ ap (λ ks. filter (λ k. is_due e k (in_slots old.rows k)) ks) fit.live
-    ∙ filter_agree (λ k. is_due e k (in_slots old.rows k)) (λ k. is_due e k (conn t k)) (λ k. ap (is_due e k) (fit.rows k)) (live_of (ups t) (conn t))
+    ∙ ap (λ ks. filter (λ k. is_due e k (at_number old.rows k)) ks) fit.live
+    ∙ filter_agree (λ k. is_due e k (at_number old.rows k)) (λ k. is_due e k (conn t k)) (λ k. ap (is_due e k) (fit.rows k)) (live_of (ups t) (conn t))
     ∙ sym (filter_both (λ k. is_live (conn t k)) (λ k. is_due e k (conn t k)) (λ k. is_due e k (conn t k)) (λ k. due_lives e k (conn t k)) (ups t))
 
 same_over : (b : Bool) (v w : Option Connection) → v ≡ w → (if b then option_map ended v else v) ≡ (if b then option_map ended w else w)
@@ -147,7 +147,7 @@ pub turned_at : (old new : Connections) (t : List Entry) (e : Event) (ends : Lis
 turned_at old new t e ends fit turned =
     let dues : ends ≡ due t e = turned_due old t e ends fit turned.gathered
     in record {
-      rows = λ c. turned.rows c ∙ ap (λ ks. unless_due ks (in_slots old.rows) c) dues ∙ same_over (has c (due t e)) (in_slots old.rows c) (conn t c) (fit.rows c);
+      rows = λ c. turned.rows c ∙ ap (λ ks. unless_due ks (at_number old.rows) c) dues ∙ same_over (has c (due t e)) (at_number old.rows c) (conn t c) (fit.rows c);
       live = turned.live
           ∙ ap (λ ks. filter (λ k. not (has k ks)) old.live.items) dues
           ∙ ap (λ ks. filter (λ k. not (has k (due t e))) ks) fit.live
@@ -174,7 +174,7 @@ found_unended t e d i before ends is spared = subst (λ (x : Event). ends ≡ du
 
 -- how an Up changes the table
 pub record CameUp (old new : Connections) (c : ℕ) : Type 0 where
-  pub rows : (k : ℕ) → in_slots new.rows k ≡ (if c == k then Some (fresh (length old.live.items)) else in_slots old.rows k)
+  pub rows : (k : ℕ) → at_number new.rows k ≡ (if c == k then Some (fresh (length old.live.items)) else at_number old.rows k)
   pub live : new.live.items ≡ (if nat_lt (length old.live.items) 64 then old.live.items ++ c ∷ [] else old.live.items)
   pub last : new.newest ≡ Some c
   pub roomy : new.roomy ≡ old.roomy
@@ -239,7 +239,7 @@ came_up old new t id peer up at rise =
 
 -- how a loss changes the table
 pub record WentDown (old new : Connections) (c : ℕ) : Type 0 where
-  pub rows : (k : ℕ) → in_slots new.rows k ≡ (if c == k then None else in_slots old.rows k)
+  pub rows : (k : ℕ) → at_number new.rows k ≡ (if c == k then None else at_number old.rows k)
   pub live : new.live.items ≡ filter (λ k. not (nat_eq c k)) old.live.items
   pub last : new.newest ≡ old.newest
   pub roomy : new.roomy ≡ old.roomy
@@ -273,18 +273,18 @@ went_down old new t id down at =
 
 -- how a put item changes the table
 pub record Put (old new : Connections) (c : ℕ) (i : Item) (over full : Bool) : Type 0 where
-  pub rows : (k : ℕ) → in_slots new.rows k ≡ (if c == k then option_map (with_item i) (in_slots old.rows k) else in_slots old.rows k)
+  pub rows : (k : ℕ) → at_number new.rows k ≡ (if c == k then option_map (with_item i) (at_number old.rows k) else at_number old.rows k)
   pub live : new.live.items ≡ (if over then filter (λ k. not (nat_eq c k)) old.live.items else old.live.items)
   pub last : new.newest ≡ old.newest
   pub roomy : new.roomy ≡ (if full then false else old.roomy)
-  pub is_over : over ≡ not (is_live (option_map (with_item i) (in_slots old.rows c)))
-  pub is_full_now : full ≡ is_full (option_map (with_item i) (in_slots old.rows c))
+  pub is_over : over ≡ not (is_live (option_map (with_item i) (at_number old.rows c)))
+  pub is_full_now : full ≡ is_full (option_map (with_item i) (at_number old.rows c))
 
-stays_perf : (body : Perf) (p : Conn) → (behind_perf body p).closed ≡ false → p.closed ≡ false
+stays_perf : (body : Perf) (p : Conn) → (after_perf body p).closed ≡ false → p.closed ≡ false
 stays_perf (perf.Close x) p h = absurd cc
 stays_perf _ p h = h
 
-pub stays : (i : Item) (p : Conn) → (behind i p).closed ≡ false → p.closed ≡ false
+pub stays : (i : Item) (p : Conn) → (phase_after i p).closed ≡ false → p.closed ≡ false
 stays (item.Frame sasl channel body payload) p h = stays_perf body p h
 stays _ p h = h
 
@@ -353,7 +353,7 @@ roomy_before false roomy h = (refl, h)
 
 pub put_fits : (old new : Connections) (t : List Entry) (c : ℕ) (i : Item) (over full : Bool) → Put old new c i over full → ConnectionsFit old t → ConnectionsFit new (Out c i ∷ t)
 put_fits old new t c i over full put fit =
-    let row : in_slots old.rows c ≡ conn t c = fit.rows c
+    let row : at_number old.rows c ≡ conn t c = fit.rows c
     in let ends : over ≡ not (is_live (option_map (with_item i) (conn t c))) = put.is_over ∙ ap (λ v. not (is_live (option_map (with_item i) v))) row
     in let fills : full ≡ is_full (option_map (with_item i) (conn t c)) = put.is_full_now ∙ ap (λ v. is_full (option_map (with_item i) v)) row
     in record {

@@ -1,6 +1,6 @@
 -- Outboxes that are emptied: what waited there is forgotten.
 use Rattle.std.specs.Prelude.{◌≡◌, ℕ, List, [], Option, Some, None}
-use Rattle.state_collections.specs.Slots.{in_slots}
+use Rattle.state_collections.specs.NumberMap.{at_number}
 use Rattle.amqp_model.specs.declared.item.Item.{Item}
 use Rattle.router_trace.specs.Connection.{Connection}
 use Rattle.state_connections.specs.declared.connections.Connections.{Connections}
@@ -16,4 +16,4 @@ waiting_of (Some v) = v.waiting
 
 -- no item waits in the outbox of any connection
 abbrev pub NoneWaits : Connections → Type 0
-NoneWaits s = (c : ℕ) → waiting_of (in_slots s.rows c) ≡ []
+NoneWaits s = (c : ℕ) → waiting_of (at_number s.rows c) ≡ []

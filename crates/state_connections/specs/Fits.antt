@@ -7,11 +7,11 @@ use Rattle.router_trace.specs.Trace.{Trace, ups, newest}
 use Rattle.router_trace.specs.Connection.{Connection, Batched, conn, found, live, live_of, is_full, has}
 use Rattle.router_trace.specs.Refusing.{reaches}
 pub use Rattle.state_collections.specs.Among.{IsLeast}
-pub use Rattle.state_collections.specs.Slots.{in_slots}
+pub use Rattle.state_collections.specs.NumberMap.{at_number}
 
 -- the table of connections agrees with the trace
 pub record ConnectionsFit (s : Connections) (t : Trace) : Type 0 where
-  pub rows : (c : ℕ) → in_slots s.rows c ≡ conn t c
+  pub rows : (c : ℕ) → at_number s.rows c ≡ conn t c
   pub live : s.live.items ≡ live t
   pub last : s.newest ≡ newest t
   pub rise : (c : ℕ) → has c (ups t) ≡ true → reaches c (newest t) ≡ true
@@ -19,7 +19,7 @@ pub record ConnectionsFit (s : Connections) (t : Trace) : Type 0 where
 
 -- the table of connections is what an event finds after the trace
 pub record ConnectionsAt (s : Connections) (t : Trace) (e : Event) : Type 0 where
-  pub rows : (c : ℕ) → in_slots s.rows c ≡ found t e c
+  pub rows : (c : ℕ) → at_number s.rows c ≡ found t e c
   pub live : s.live.items ≡ live_of (ups t) (found t e)
   pub last : s.newest ≡ newest t
   pub rise : (c : ℕ) → has c (ups t) ≡ true → reaches c (newest t) ≡ true

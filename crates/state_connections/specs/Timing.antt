@@ -1,6 +1,6 @@
 -- When the table of clocks agrees with a trace.
 use Rattle.std.specs.Prelude.{◌≡◌, ℕ, Bool, true, false}
-use Rattle.state_collections.specs.Slots.{in_slots}
+use Rattle.state_collections.specs.NumberMap.{at_number}
 use Rattle.amqp_model.specs.declared.perf.Perf.{Perf}
 use Rattle.amqp_model.specs.declared.perf.Perf.TheVariants as perf
 use Rattle.amqp_model.specs.declared.item.Item.{Item}
@@ -11,8 +11,8 @@ use Rattle.router_trace.specs.Clocks.{moment, terms, written}
 
 pub record ClocksFit (s : Clocks) (t : Trace) : Type 0 where
   pub moment : s.moment ≡ moment t
-  pub terms : (c : ℕ) → in_slots s.terms c ≡ terms t c
-  pub written : (c : ℕ) → in_slots s.written c ≡ written t c
+  pub terms : (c : ℕ) → at_number s.terms c ≡ terms t c
+  pub written : (c : ℕ) → at_number s.written c ≡ written t c
 
 -- a close
 abbrev pub is_close_in : Perf → Bool

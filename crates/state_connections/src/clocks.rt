@@ -1,6 +1,6 @@
 //! What peers' opens say, and when items were last put out.
 ghost use Rattle.std.specs.Prelude.{◌≡◌, ◌==◌, ◌∷◌, List, ℕ, None, false, if◌then◌else◌, OnOk};
-ghost use Rattle.state_collections.specs.Slots.{in_slots};
+ghost use Rattle.state_collections.specs.NumberMap.{at_number};
 ghost use Rattle.router_trace.specs.Trace.{Beginning};
 ghost use Rattle.router_trace.specs.Configuration.{beginning};
 ghost use Rattle.router_trace.specs.Trace.{Entry, Out, did};
@@ -14,7 +14,7 @@ use crate::row::CONNECTIONS;
 use amqp_conn::Heartbeat;
 use amqp_model::{Item, Open, Perf};
 use router_trace::{ConnectionId, Terms};
-use state_collections::Slots;
+use state_collections::NumberMap;
 use std::alloc::{AllocError, Global};
 
 /// For each peer what its open says and when an item was last put out; nothing for a connection that is closed or
@@ -22,8 +22,8 @@ use std::alloc::{AllocError, Global};
 #[derive(Drop)]
 pub struct Clocks {
     moment: u64,
-    terms: Slots<Terms>,
-    written: Slots<u64>,
+    terms: NumberMap<Terms>,
+    written: NumberMap<u64>,
 }
 
 impl Clocks {
@@ -33,8 +33,8 @@ impl Clocks {
     {
         Clocks {
             moment: 0,
-            terms: Slots::new(alloc, CONNECTIONS),
-            written: Slots::new(alloc, CONNECTIONS),
+            terms: NumberMap::new(alloc, CONNECTIONS),
+            written: NumberMap::new(alloc, CONNECTIONS),
         }
     }
 
@@ -133,8 +133,8 @@ impl Clocks {
     /// Removes all that is known of a connection.
     fn forget(&mut self, conn: u64)
         ensures moment { self.new.moment ≡ self.old.moment }
-        ensures terms { (c : ℕ) → in_slots self.new.terms c ≡ (if conn == c then None else in_slots self.old.terms c) }
-        ensures written { (c : ℕ) → in_slots self.new.written c ≡ (if conn == c then None else in_slots self.old.written c) }
+        ensures terms { (c : ℕ) → at_number self.new.terms c ≡ (if conn == c then None else at_number self.old.terms c) }
+        ensures written { (c : ℕ) → at_number self.new.written c ≡ (if conn == c then None else at_number self.old.written c) }
     {
         let _ = self.terms.remove(conn);
         let _ = self.written.remove(conn);

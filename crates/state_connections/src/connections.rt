@@ -1,6 +1,6 @@
 //! The table of connections, with their outboxes.
 ghost use Rattle.std.specs.Prelude.{◌≡◌, ◌==◌, ◌≤◌, ◌∷◌, ◌++◌, ℕ, List, [], Some, None, length, nat_eq, nat_lt, true, false, not, filter, option_map, option_and_then, OnOk, OnErr, IfOk, if◌then◌else◌};
-ghost use Rattle.state_collections.specs.Slots.{in_slots};
+ghost use Rattle.state_collections.specs.NumberMap.{at_number};
 ghost use Rattle.router_trace.specs.Trace.{Beginning};
 ghost use Rattle.router_trace.specs.Configuration.{beginning};
 ghost use Rattle.router_trace.specs.Trace.{Entry, Out, Took, did, newest};
@@ -14,7 +14,7 @@ use crate::row::{CONNECTIONS, Row, Taken};
 use amqp_conn::Conn;
 use amqp_model::Item;
 use router_trace::{ConnectionId, Event, Peer};
-use state_collections::Slots;
+use state_collections::NumberMap;
 use std::alloc::{AllocError, Global};
 
 /// The router refuses an event: one about a connection that isn't live, or about a new one whose number doesn't rise.
@@ -25,7 +25,7 @@ pub struct Refused;
 #[derive(Drop)]
 pub struct Connections {
     alloc: Global,
-    rows: Slots<Row>,
+    rows: NumberMap<Row>,
     // the live ones, by number
     live: Vec<u64>,
     // the last one that came up
@@ -41,7 +41,7 @@ impl Connections {
     {
         Connections {
             alloc,
-            rows: Slots::new(alloc, CONNECTIONS),
+            rows: NumberMap::new(alloc, CONNECTIONS),
             live: Vec::new(alloc),
             newest: None,
             roomy: true,
@@ -74,7 +74,7 @@ impl Connections {
 
     /// The phase of a live connection.
     pub fn standing(&self, conn: u64) -> Option<Conn>
-        ensures { result ≡ standing (in_slots self.now.rows conn) }
+        ensures { result ≡ standing (at_number self.now.rows conn) }
     {
         match self.rows.get(conn) {
             None => None,
@@ -91,7 +91,7 @@ impl Connections {
 
     /// The phase of a connection, whether live or over.
     pub fn phase(&self, conn: u64) -> Option<Conn>
-        ensures { result ≡ option_map (λ v. v.phase) (in_slots self.now.rows conn) }
+        ensures { result ≡ option_map (λ v. v.phase) (at_number self.now.rows conn) }
     {
         match self.rows.get(conn) {
             None => None,
@@ -101,7 +101,7 @@ impl Connections {
 
     /// Whether a connection is ready: an item is waiting in its outbox, or it is over.
     pub fn is_ready(&self, conn: u64) -> bool
-        ensures { result ≡ is_ready (in_slots self.now.rows conn) }
+        ensures { result ≡ is_ready (at_number self.now.rows conn) }
     {
         match self.rows.get(conn) {
             None => false,
@@ -111,7 +111,7 @@ impl Connections {
 
     /// Whether an event ends a connection because its outbox is full.
     fn is_due(&self, event: &Event, conn: u64) -> bool
-        ensures { result ≡ is_due event.now conn (in_slots self.now.rows conn) }
+        ensures { result ≡ is_due event.now conn (at_number self.now.rows conn) }
     {
         match event {
             Event::Down(lost) => lost.0 != conn && self.is_full(conn),
@@ -121,7 +121,7 @@ impl Connections {
 
     /// Whether a connection is live and its outbox is full.
     fn is_full(&self, conn: u64) -> bool
-        ensures { result ≡ is_full (in_slots self.now.rows conn) }
+        ensures { result ≡ is_full (at_number self.now.rows conn) }
     {
         match self.rows.get(conn) {
             None => false,
@@ -131,7 +131,7 @@ impl Connections {
 
     /// The live connections that an event ends because their outboxes are full.
     fn gather(&self, event: &Event) -> Result<Vec<u64>, AllocError>
-        ensures { IfOk result (λ gathered. gathered.items ≡ filter (λ k. is_due event.now k (in_slots self.now.rows k)) self.now.live.items) }
+        ensures { IfOk result (λ gathered. gathered.items ≡ filter (λ k. is_due event.now k (at_number self.now.rows k)) self.now.live.items) }
     {
         let mut gathered = Vec::new(self.alloc);
         for conn in &self.live {
@@ -145,9 +145,9 @@ impl Connections {
         Ok(gathered)
     }
 
-    /// Marks a connection as over.
+    /// NumberSet a connection as over.
     fn end(&mut self, conn: u64)
-        ensures rows { (c : ℕ) → in_slots self.new.rows c ≡ (if conn == c then option_map ended (in_slots self.old.rows c) else in_slots self.old.rows c) }
+        ensures rows { (c : ℕ) → at_number self.new.rows c ≡ (if conn == c then option_map ended (at_number self.old.rows c) else at_number self.old.rows c) }
         ensures live { self.new.live ≡ self.old.live }
         ensures newest { self.new.newest ≡ self.old.newest }
         ensures roomy { self.new.roomy ≡ self.old.roomy }
@@ -157,9 +157,9 @@ impl Connections {
         }
     }
 
-    /// Marks these connections as over.
+    /// NumberSet these connections as over.
     fn end_all(&mut self, ends: &[u64])
-        ensures rows { (c : ℕ) → in_slots self.new.rows c ≡ unless_due ends.now (in_slots self.old.rows) c }
+        ensures rows { (c : ℕ) → at_number self.new.rows c ≡ unless_due ends.now (at_number self.old.rows) c }
         ensures live { self.new.live.items ≡ filter (λ k. not (has k ends.now)) self.old.live.items }
         ensures last { self.new.newest ≡ self.old.newest }
         ensures roomy { self.new.roomy ≡ self.old.roomy }
@@ -242,7 +242,7 @@ impl Connections {
     /// Forgets the items in all outboxes. It takes no memory. The table then agrees with no trace in which one of them waits.
     pub fn give_up(&mut self)
         ensures none { NoneWaits self.new }
-        ensures rows { (c : ℕ) → in_slots self.new.rows c ≡ option_map emptied (in_slots self.old.rows c) }
+        ensures rows { (c : ℕ) → at_number self.new.rows c ≡ option_map emptied (at_number self.old.rows c) }
         ensures live { self.new.live ≡ self.old.live }
         ensures last { self.new.newest ≡ self.old.newest }
     {
@@ -253,12 +253,12 @@ impl Connections {
 /// Takes items out of a row's outbox, if the row exists; a row that is over is removed with its last item.
 fn take_from(
     alloc: Global,
-    rows: &mut Slots<Row>,
+    rows: &mut NumberMap<Row>,
     conn: u64,
     most: usize,
 ) -> Result<Option<Taken>, AllocError>
-    ensures batched { IfOk result (λ taken. IsBatch most (in_slots rows.old conn) taken) }
-    ensures rows { IfOk result (λ taken. (c : ℕ) → in_slots rows.new c ≡ (if conn == c then option_and_then (took (count taken)) (in_slots rows.old c) else in_slots rows.old c)) }
+    ensures batched { IfOk result (λ taken. IsBatch most (at_number rows.old conn) taken) }
+    ensures rows { IfOk result (λ taken. (c : ℕ) → at_number rows.new c ≡ (if conn == c then option_and_then (took (count taken)) (at_number rows.old c) else at_number rows.old c)) }
     ensures most { IfOk result (λ taken. count taken ≤ most) }
 {
     let taken = match rows.get_mut(conn) {
@@ -281,10 +281,10 @@ struct Fill {
 }
 
 /// Puts an item into a row's outbox, if the row exists.
-fn put_in(rows: &mut Slots<Row>, conn: u64, item: Item) -> Result<Fill, AllocError>
-    ensures rows { OnOk result ((c : ℕ) → in_slots rows.new c ≡ (if conn == c then option_map (with_item item) (in_slots rows.old c) else in_slots rows.old c)) }
-    ensures over { IfOk result (λ fill. fill.over ≡ not (is_live (option_map (with_item item) (in_slots rows.old conn)))) }
-    ensures full { IfOk result (λ fill. fill.full ≡ is_full (option_map (with_item item) (in_slots rows.old conn))) }
+fn put_in(rows: &mut NumberMap<Row>, conn: u64, item: Item) -> Result<Fill, AllocError>
+    ensures rows { OnOk result ((c : ℕ) → at_number rows.new c ≡ (if conn == c then option_map (with_item item) (at_number rows.old c) else at_number rows.old c)) }
+    ensures over { IfOk result (λ fill. fill.over ≡ not (is_live (option_map (with_item item) (at_number rows.old conn)))) }
+    ensures full { IfOk result (λ fill. fill.full ≡ is_full (option_map (with_item item) (at_number rows.old conn))) }
 {
     match rows.get_mut(conn) {
         None => {
@@ -305,16 +305,16 @@ fn put_in(rows: &mut Slots<Row>, conn: u64, item: Item) -> Result<Fill, AllocErr
 }
 
 /// Adds a row.
-fn add_row(rows: &mut Slots<Row>, conn: u64, row: Row) -> Result<(), AllocError>
-    ensures { OnOk result ((c : ℕ) → in_slots rows.new c ≡ (if conn == c then Some row else in_slots rows.old c)) }
+fn add_row(rows: &mut NumberMap<Row>, conn: u64, row: Row) -> Result<(), AllocError>
+    ensures { OnOk result ((c : ℕ) → at_number rows.new c ≡ (if conn == c then Some row else at_number rows.old c)) }
 {
     let _ = rows.insert(conn, row)?;
     Ok(())
 }
 
 /// Removes a row.
-fn remove_row(rows: &mut Slots<Row>, conn: u64)
-    ensures { (c : ℕ) → in_slots rows.new c ≡ (if conn == c then None else in_slots rows.old c) }
+fn remove_row(rows: &mut NumberMap<Row>, conn: u64)
+    ensures { (c : ℕ) → at_number rows.new c ≡ (if conn == c then None else at_number rows.old c) }
 {
     let _ = rows.remove(conn);
 }

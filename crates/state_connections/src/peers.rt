@@ -1,6 +1,6 @@
 //! The users of connections, and what their opens say of links.
 ghost use Rattle.std.specs.Prelude.{◌≡◌, ◌==◌, ◌∷◌, [], List, ℕ, Option, None, false, if◌then◌else◌, unwrap_or, OnOk, IfOk};
-ghost use Rattle.state_collections.specs.Slots.{in_slots};
+ghost use Rattle.state_collections.specs.NumberMap.{at_number};
 ghost use Rattle.router_trace.specs.Trace.{Beginning};
 ghost use Rattle.router_trace.specs.Configuration.{beginning};
 ghost use Rattle.router_trace.specs.Trace.{Entry, Out, did};
@@ -16,7 +16,7 @@ use crate::row::CONNECTIONS;
 use amqp_model::{Attach, Item, Open, Perf, Role, Text};
 use book_model::{LinkKey, LinkRole};
 use router_trace::{ConnectionId, Peer};
-use state_collections::Slots;
+use state_collections::NumberMap;
 use std::alloc::{AllocError, Global};
 use std::marker::Model;
 
@@ -53,8 +53,8 @@ impl Container {
 #[derive(Drop)]
 pub struct Peers {
     alloc: Global,
-    users: Slots<Text>,
-    containers: Slots<Container>,
+    users: NumberMap<Text>,
+    containers: NumberMap<Container>,
 }
 
 impl Peers {
@@ -64,8 +64,8 @@ impl Peers {
     {
         Peers {
             alloc,
-            users: Slots::new(alloc, CONNECTIONS),
-            containers: Slots::new(alloc, CONNECTIONS),
+            users: NumberMap::new(alloc, CONNECTIONS),
+            containers: NumberMap::new(alloc, CONNECTIONS),
         }
     }
 
@@ -93,7 +93,7 @@ impl Peers {
 
     /// The user of a connection; the empty text if the connection is unknown.
     fn user(&self, conn: u64) -> Result<Text, AllocError>
-        ensures { IfOk result (λ text. text ≡ unwrap_or (in_slots self.now.users conn) []) }
+        ensures { IfOk result (λ text. text ≡ unwrap_or (at_number self.now.users conn) []) }
     {
         match self.users.get(conn) {
             None => Ok(Text::new(String::new(self.alloc))),
@@ -103,7 +103,7 @@ impl Peers {
 
     /// The container-id of a connection's peer; the empty text if it gave none.
     fn container_id(&self, conn: u64) -> Result<Text, AllocError>
-        ensures { IfOk result (λ text. text ≡ container_id (in_slots self.now.containers conn)) }
+        ensures { IfOk result (λ text. text ≡ container_id (at_number self.now.containers conn)) }
     {
         match self.containers.get(conn) {
             None => Ok(Text::new(String::new(self.alloc))),
@@ -176,8 +176,8 @@ impl Peers {
 
     /// Removes all that is known of a connection.
     fn forget(&mut self, conn: u64)
-        ensures users { (c : ℕ) → in_slots self.new.users c ≡ (if conn == c then None else in_slots self.old.users c) }
-        ensures containers { (c : ℕ) → in_slots self.new.containers c ≡ (if conn == c then None else in_slots self.old.containers c) }
+        ensures users { (c : ℕ) → at_number self.new.users c ≡ (if conn == c then None else at_number self.old.users c) }
+        ensures containers { (c : ℕ) → at_number self.new.containers c ≡ (if conn == c then None else at_number self.old.containers c) }
     {
         let _ = self.users.remove(conn);
         let _ = self.containers.remove(conn);

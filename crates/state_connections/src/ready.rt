@@ -3,13 +3,13 @@ ghost use Rattle.std.specs.Prelude.{◌≡◌, ◌==◌, ◌&&◌, nat_lt, ℕ, 
 ghost use Rattle.state_connections.specs.Fits.{IsLeast};
 ghost use Rattle.state_connections.specs.Noting.{is_noted};
 
-use state_collections::Marks;
+use state_collections::NumberSet;
 use std::alloc::{AllocError, Global};
 
 /// The numbers of the connections that are ready.
 #[derive(Drop)]
 pub struct Ready {
-    marks: Marks,
+    marks: NumberSet,
 }
 
 impl Ready {
@@ -18,7 +18,7 @@ impl Ready {
         ensures { (c : ℕ) → is_noted result c ≡ false }
     {
         Ready {
-            marks: Marks::new(alloc),
+            marks: NumberSet::new(alloc),
         }
     }
 
@@ -41,10 +41,10 @@ impl Ready {
     }
 
     /// The lowest ready connection above a number.
-    pub fn behind(&self, conn: u64) -> Option<u64>
+    pub fn after(&self, conn: u64) -> Option<u64>
         ensures { IsLeast (λ c. nat_lt conn c && is_noted self.now c) result }
     {
-        self.marks.behind(conn)
+        self.marks.after(conn)
     }
 
     /// The lowest ready connection.

@@ -1,6 +1,6 @@
 //! One connection: its phase and its outbox.
 ghost use Rattle.std.specs.Prelude.{◌≡◌, ◌≤◌, is_none, length, take, drop, OnOk, IfOk, None, Some, if◌then◌else◌};
-ghost use Rattle.router_trace.specs.Connection.{behind, behind_perf, with_item, ended, fresh, standing, is_full, is_ready, unless_gone, took, Batched};
+ghost use Rattle.router_trace.specs.Connection.{phase_after, after_perf, with_item, ended, fresh, standing, is_full, is_ready, unless_gone, took, Batched};
 ghost use Rattle.std.specs.VecDeque.{deque_len};
 ghost use Rattle.state_connections.specs.Emptied.{emptied};
 
@@ -34,8 +34,8 @@ impl Model for Row {
 }
 
 /// The phase after a performative that the router wrote.
-fn behind_perf(perf: &Perf, phase: Conn) -> Conn
-    ensures { result ≡ behind_perf perf.now phase }
+fn after_perf(perf: &Perf, phase: Conn) -> Conn
+    ensures { result ≡ after_perf perf.now phase }
 {
     match perf {
         Perf::Open(_) => phase.with_open(),
@@ -45,12 +45,12 @@ fn behind_perf(perf: &Perf, phase: Conn) -> Conn
 }
 
 /// The phase after an item that the router wrote.
-fn behind(item: &Item, phase: Conn) -> Conn
-    ensures { result ≡ behind item.now phase }
+fn phase_after(item: &Item, phase: Conn) -> Conn
+    ensures { result ≡ phase_after item.now phase }
 {
     match item {
         Item::Header { .. } => phase.with_header(),
-        Item::Frame { perf, .. } => behind_perf(perf, phase),
+        Item::Frame { perf, .. } => after_perf(perf, phase),
         _ => phase,
     }
 }
@@ -121,7 +121,7 @@ impl Row {
     pub fn put(&mut self, item: Item) -> Result<(), AllocError>
         ensures { OnOk result (self.new ≡ with_item item self.old) }
     {
-        let phase = behind(&item, self.phase);
+        let phase = phase_after(&item, self.phase);
         match self.waiting.push_back(item) {
             Ok(()) => {
                 self.phase = phase;

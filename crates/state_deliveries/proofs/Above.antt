@@ -11,7 +11,7 @@ use Rattle.std.proofs.lemmas.Bool.{eqb-true}
 use Rattle.std.proofs.lemmas.Bool.Decides.{nat_tests}
 use Rattle.state_deliveries.specs.declared.by_link.ByLink.{ByLink}
 use Rattle.state_deliveries.specs.Finding.{IsFirst, IsFirstLink, is_above}
-use Rattle.state_deliveries.specs.Indexing.{Pair, pair_cmp, has_pair, in_group, IsFirstPair, number_on, behind_link}
+use Rattle.state_deliveries.specs.Indexing.{Pair, pair_cmp, has_pair, in_group, IsFirstPair, number_on, after_link}
 use Rattle.router_trace.proofs.Numbers.{not_true}
 
 -- what the order of two pairs says of their parts
@@ -95,13 +95,13 @@ next_found g k m r x = number_found g k (Excluded (k, m)) (λ n. nat_lt m n) (λ
     (λ n e. is_less m n (sym (ap (λ o. ordering_then o (nat_cmp m n)) (equal k)) ∙ e)) (λ p e. before k p.0 (nat_cmp m p.1) e) r x
 
 -- pairs of the links above another
-from_above : (link : Option ℕ) (j n : ℕ) → is_above link j ≡ true → IsFromStart pair_cmp (behind_link link) (j, n)
+from_above : (link : Option ℕ) (j n : ℕ) → is_above link j ≡ true → IsFromStart pair_cmp (after_link link) (j, n)
 from_above None j n a = tt
 from_above (Some k) j n a = ap (λ o. ordering_then o (nat_cmp 18446744073709551615 n)) (less k j a)
 
-is_behind : (link : Option ℕ) (p : Pair) → p.1 < 2 ^ 64 → IsFromStart pair_cmp (behind_link link) p → is_above link p.0 ≡ true
-is_behind None p small x = refl
-is_behind (Some k) p small x = by_order (nat_cmp k p.0) refl x
+is_after : (link : Option ℕ) (p : Pair) → p.1 < 2 ^ 64 → IsFromStart pair_cmp (after_link link) p → is_above link p.0 ≡ true
+is_after None p small x = refl
+is_after (Some k) p small x = by_order (nat_cmp k p.0) refl x
   where
     beyond : nat_cmp 18446744073709551615 p.1 ≡ Less → ⊥
     beyond e = grind (arith, nat_tests, e, small)
@@ -111,12 +111,12 @@ is_behind (Some k) p small x = by_order (nat_cmp k p.0) refl x
     by_order Equal e f = absurd (beyond f)
     by_order Greater e f = absurd cc
 
-pub no_link : (g : ByLink) (link : Option ℕ) → IsFirstPair (has_pair g) (behind_link link) None → IsFirstLink (in_group g) link None
+pub no_link : (g : ByLink) (link : Option ℕ) → IsFirstPair (has_pair g) (after_link link) None → IsFirstLink (in_group g) link None
 no_link g link x = λ k n a. x (k, n) (from_above link k n a)
 
-pub link_found : (g : ByLink) (link : Option ℕ) (p : Pair) → p.1 < 2 ^ 64 → IsFirstPair (has_pair g) (behind_link link) (Some p) → IsFirstLink (in_group g) link (Some p.0)
+pub link_found : (g : ByLink) (link : Option ℕ) (p : Pair) → p.1 < 2 ^ 64 → IsFirstPair (has_pair g) (after_link link) (Some p) → IsFirstLink (in_group g) link (Some p.0)
 link_found g link p small x = (
-  is_behind link p small x.0,
+  is_after link p small x.0,
   (p.1, x.1),
   λ j n a e. lower p.0 j (nat_cmp p.1 n) (x.2 (j, n) (from_above link j n a) e),
 )

@@ -5,16 +5,16 @@ use Rattle.amqp_session.specs.Ranges.{has}
 use Rattle.router_trace.specs.declared.handle.Attachment.{Attachment}
 use Rattle.amqp_model.specs.declared.state.DeliveryState.{DeliveryState}
 use Rattle.router_trace.proofs.Numbers.{equal_back}
-use Rattle.router_trace.specs.Deliveries.{Delivery, source, sender, unless_over, is_over, behind_ends, behind_origin, is_gone_with, ended, forsaken}
+use Rattle.router_trace.specs.Deliveries.{Delivery, source, sender, unless_over, is_over, after_ends, after_origin, is_gone_with, ended, forsaken}
 use Rattle.state_deliveries.specs.declared.change.Change.{Change}
 use Rattle.state_deliveries.specs.declared.change.Change.TheVariants as change
-use Rattle.state_deliveries.specs.Stepping.{is_gone, comes_with_id, is_decided_by, changed, behind}
+use Rattle.state_deliveries.specs.Stepping.{is_gone, comes_with_id, is_decided_by, changed, after_change}
 
 -- a change that a delivery went through changes it no further
-settled_origin : (gone : Attachment → Bool) (d : Delivery) → behind_origin gone (behind_origin gone d) ≡ behind_origin gone d
+settled_origin : (gone : Attachment → Bool) (d : Delivery) → after_origin gone (after_origin gone d) ≡ after_origin gone d
 settled_origin gone d = by_test (is_gone_with gone (sender d)) refl
   where
-    by_test : (b : Bool) → is_gone_with gone (sender d) ≡ b → behind_origin gone (behind_origin gone d) ≡ behind_origin gone d
+    by_test : (b : Bool) → is_gone_with gone (sender d) ≡ b → after_origin gone (after_origin gone d) ≡ after_origin gone d
     by_test true e = rw e refl
     by_test false e = rw (e, e) refl
 
@@ -46,13 +46,13 @@ ended_forsaken closed d = by_tests d.suspended (d.lasting && not closed) refl re
     by_tests false true e f = rw (e, f) refl
     by_tests false false e f = rw (e, f) refl
 
-ends_on : (closed : Bool) (gone : Attachment → Bool) (d : Delivery) → gone d.link ≡ true → behind_ends closed gone d ≡ behind_origin gone (ended closed d)
-ends_on closed gone d e = ap (λ b. behind_origin gone (if b then ended closed d else d)) e
+ends_on : (closed : Bool) (gone : Attachment → Bool) (d : Delivery) → gone d.link ≡ true → after_ends closed gone d ≡ after_origin gone (ended closed d)
+ends_on closed gone d e = ap (λ b. after_origin gone (if b then ended closed d else d)) e
 
-ends_off : (closed : Bool) (gone : Attachment → Bool) (d : Delivery) → gone d.link ≡ false → behind_ends closed gone d ≡ behind_origin gone d
-ends_off closed gone d e = ap (λ b. behind_origin gone (if b then ended closed d else d)) e
+ends_off : (closed : Bool) (gone : Attachment → Bool) (d : Delivery) → gone d.link ≡ false → after_ends closed gone d ≡ after_origin gone d
+ends_off closed gone d e = ap (λ b. after_origin gone (if b then ended closed d else d)) e
 
-ends_twice : (closed : Bool) (gone : Attachment → Bool) (d : Delivery) → behind_ends closed gone (behind_ends closed gone d) ≡ behind_ends closed gone d
+ends_twice : (closed : Bool) (gone : Attachment → Bool) (d : Delivery) → after_ends closed gone (after_ends closed gone d) ≡ after_ends closed gone d
 ends_twice closed gone d = by_link (gone d.link) refl
   where
     e : Delivery
@@ -61,31 +61,31 @@ ends_twice closed gone d = by_link (gone d.link) refl
     origin_is : (b : Bool) → is_gone_with gone (sender d) ≡ b → is_gone_with gone (sender e) ≡ b
     origin_is b x = ap (is_gone_with gone) (same_place closed d).1 ∙ x
 
-    told_or_not : (x : Delivery) (b : Bool) → is_gone_with gone (sender x) ≡ b → behind_origin gone x ≡ (if b then forsaken x else x)
+    told_or_not : (x : Delivery) (b : Bool) → is_gone_with gone (sender x) ≡ b → after_origin gone x ≡ (if b then forsaken x else x)
     told_or_not x b is = ap (λ b. if b then forsaken x else x) is
 
-    once : (b : Bool) → is_gone_with gone (sender d) ≡ b → gone d.link ≡ true → behind_ends closed gone d ≡ (if b then forsaken e else e)
+    once : (b : Bool) → is_gone_with gone (sender d) ≡ b → gone d.link ≡ true → after_ends closed gone d ≡ (if b then forsaken e else e)
     once b x l = ends_on closed gone d l ∙ told_or_not e b (origin_is b x)
 
     link_is : gone d.link ≡ true → gone e.link ≡ true
     link_is l = ap gone (same_place closed d).0 ∙ l
 
-    again : (b : Bool) → is_gone_with gone (sender d) ≡ b → gone d.link ≡ true → behind_ends closed gone (if b then forsaken e else e) ≡ (if b then forsaken e else e)
-    again true x l = ends_on closed gone (forsaken e) (link_is l) ∙ ap (behind_origin gone) (ended_forsaken closed e ∙ ap forsaken (ended_twice closed d)) ∙ told_or_not (forsaken e) false refl
-    again false x l = ends_on closed gone e (link_is l) ∙ ap (behind_origin gone) (ended_twice closed d) ∙ told_or_not e false (origin_is false x)
+    again : (b : Bool) → is_gone_with gone (sender d) ≡ b → gone d.link ≡ true → after_ends closed gone (if b then forsaken e else e) ≡ (if b then forsaken e else e)
+    again true x l = ends_on closed gone (forsaken e) (link_is l) ∙ ap (after_origin gone) (ended_forsaken closed e ∙ ap forsaken (ended_twice closed d)) ∙ told_or_not (forsaken e) false refl
+    again false x l = ends_on closed gone e (link_is l) ∙ ap (after_origin gone) (ended_twice closed d) ∙ told_or_not e false (origin_is false x)
 
-    by_link : (b : Bool) → gone d.link ≡ b → behind_ends closed gone (behind_ends closed gone d) ≡ behind_ends closed gone d
+    by_link : (b : Bool) → gone d.link ≡ b → after_ends closed gone (after_ends closed gone d) ≡ after_ends closed gone d
     by_link true l =
         let first = once (is_gone_with gone (sender d)) refl l in
-        ap (behind_ends closed gone) first ∙ again (is_gone_with gone (sender d)) refl l ∙ sym first
+        ap (after_ends closed gone) first ∙ again (is_gone_with gone (sender d)) refl l ∙ sym first
     by_link false l = by_origin (is_gone_with gone (sender d)) refl
       where
-        first : (b : Bool) → is_gone_with gone (sender d) ≡ b → behind_ends closed gone d ≡ (if b then forsaken d else d)
+        first : (b : Bool) → is_gone_with gone (sender d) ≡ b → after_ends closed gone d ≡ (if b then forsaken d else d)
         first b x = ends_off closed gone d l ∙ told_or_not d b x
 
-        by_origin : (b : Bool) → is_gone_with gone (sender d) ≡ b → behind_ends closed gone (behind_ends closed gone d) ≡ behind_ends closed gone d
-        by_origin true x = ap (behind_ends closed gone) (first true x) ∙ ends_off closed gone (forsaken d) l ∙ told_or_not (forsaken d) false refl ∙ sym (first true x)
-        by_origin false x = ap (behind_ends closed gone) (first false x)
+        by_origin : (b : Bool) → is_gone_with gone (sender d) ≡ b → after_ends closed gone (after_ends closed gone d) ≡ after_ends closed gone d
+        by_origin true x = ap (after_ends closed gone) (first true x) ∙ ends_off closed gone (forsaken d) l ∙ told_or_not (forsaken d) false refl ∙ sym (first true x)
+        by_origin false x = ap (after_ends closed gone) (first false x)
 
 changed_twice : (x : Change) (d : Delivery) → changed x (changed x d) ≡ changed x d
 changed_twice (change.Ends g closed) d = ends_twice closed (is_gone g) d
@@ -108,26 +108,26 @@ changed_twice (change.Decided c o first last made) d = by_test (is_decided_by d 
     by_test true e = rw e undecided_no_more
     by_test false e = rw (e, e) refl
 
-kept_again : (x : Change) (d : Delivery) → changed x d ≡ d → behind x (unless_over d) ≡ unless_over d
+kept_again : (x : Change) (d : Delivery) → changed x d ≡ d → after_change x (unless_over d) ≡ unless_over d
 kept_again x d same = by_test (is_over d) refl
   where
-    by_test : (b : Bool) → is_over d ≡ b → behind x (unless_over d) ≡ unless_over d
+    by_test : (b : Bool) → is_over d ≡ b → after_change x (unless_over d) ≡ unless_over d
     by_test true e = rw e refl
     by_test false e = rw (e, same, e) refl
 
-pub twice : (x : Change) (v : Option Delivery) → behind x (behind x v) ≡ behind x v
+pub twice : (x : Change) (v : Option Delivery) → after_change x (after_change x v) ≡ after_change x v
 twice x None = refl
 twice x (Some d) = kept_again x (changed x d) (changed_twice x d)
 
 -- one more number
 abbrev pub finish : Change → Bool → Option Delivery → Option Delivery
-finish x b v = if b then behind x v else v
+finish x b v = if b then after_change x v else v
 
-pub one_more : (x : Change) (n m : ℕ) (more : List ℕ) (before after : Option Delivery) → after ≡ (if m == n then behind x before else before)
+pub one_more : (x : Change) (n m : ℕ) (more : List ℕ) (before after : Option Delivery) → after ≡ (if m == n then after_change x before else before)
     → finish x (has n more) after ≡ finish x (has n (m ∷ more)) before
 one_more x n m more before after is = rw (is, equal_back n m) (by_tests (n == m) (has n more))
   where
-    by_tests : (b c : Bool) → finish x c (if b then behind x before else before) ≡ finish x (b || c) before
+    by_tests : (b c : Bool) → finish x c (if b then after_change x before else before) ≡ finish x (b || c) before
     by_tests true true = twice x before
     by_tests true false = refl
     by_tests false c = refl

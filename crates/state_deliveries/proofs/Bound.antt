@@ -1,7 +1,7 @@
 -- The tables after a message was bound.
 use Rattle.std.proofs.Common.{◌≡◌, ◌∙◌, ◌<◌, ◌+◌, ℕ, ap, arith, ◌∷◌, Option, Some, None}
 use Rattle.std.specs.Prelude.{◌==◌, if◌then◌else◌}
-use Rattle.state_collections.specs.Slots.{in_slots}
+use Rattle.state_collections.specs.NumberMap.{at_number}
 use Rattle.router_trace.specs.declared.binding.Binding.{Binding}
 use Rattle.router_trace.specs.declared.binding.DeliveryName.{DeliveryName}
 use Rattle.router_trace.specs.Trace.{Trace, Bound}
@@ -19,8 +19,8 @@ use Rattle.state_deliveries.proofs.Named.{still}
 use Rattle.state_deliveries.proofs.Numbers.{none_beyond}
 
 pub store_bound : (s u : Store) (b : Binding) (t : Trace) (number : ℕ) (name : DeliveryName) → number ≡ bindings t + 1 → name ≡ name_in t b → StoreFit s t
-    → (Indexed s → (n : ℕ) → in_slots u.deliveries n ≡ (if number == n then Some (bound name b) else unless_called name (in_slots s.deliveries n)))
-    → (in_slots s.deliveries number ≡ None → Indexed s → Indexed u) → StoreFit u (Bound b ∷ t)
+    → (Indexed s → (n : ℕ) → at_number u.deliveries n ≡ (if number == n then Some (bound name b) else unless_called name (at_number s.deliveries n)))
+    → (at_number s.deliveries number ≡ None → Indexed s → Indexed u) → StoreFit u (Bound b ∷ t)
 store_bound s u b t number name is_number is_name fit deliveries indexed = record {
   deliveries = λ n.
       deliveries fit.indexed n

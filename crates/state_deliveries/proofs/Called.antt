@@ -19,7 +19,7 @@ use Rattle.router_trace.specs.declared.event.Event.TheVariants as event
 use Rattle.router_trace.specs.declared.channel.PeerChannel.{PeerChannel}
 use Rattle.router_trace.specs.declared.handle.Attachment.{Attachment}
 use Rattle.router_trace.specs.Trace.{Trace, Did, Out, Took, Bound, Booked, Began}
-use Rattle.router_trace.specs.Deliveries.{Delivery, source, delivery, bindings, bound, same_name, name_in, number_named, unless_over, unless_called, is_over, untold, unsettled, ended, decided_at_end, suspended_at_end, closes, behind_ends, is_gone_with, behind_frame, put_in, behind_put, told, decided, is_undecided, is_meant, is_named, is_number, carried, tag_in, disposed, is_on, is_settled_at, heard_in, heard, behind_event, ended_by, lost_with, origin_id, sending, named, decision, terminal, sender, forsaken, channels_found}
+use Rattle.router_trace.specs.Deliveries.{Delivery, source, delivery, bindings, bound, same_name, name_in, number_named, unless_over, unless_called, is_over, untold, unsettled, ended, decided_at_end, suspended_at_end, closes, after_ends, is_gone_with, after_frame, put_in, after_put, told, decided, is_undecided, is_meant, is_named, is_number, carried, tag_in, disposed, is_on, is_settled_at, heard_in, heard, after_event, ended_by, lost_with, origin_id, sending, named, decision, terminal, sender, forsaken, channels_found}
 use Rattle.state_deliveries.specs.declared.by_name.ByName.{ByName}
 use Rattle.state_deliveries.specs.declared.change.Change.{Change}
 use Rattle.state_deliveries.specs.declared.change.Change.TheVariants as change
@@ -61,7 +61,7 @@ name_ended closed d =
     either (d.lasting && not closed) (suspended_at_end d) (decided_at_end d) d.name refl refl in
     either d.suspended d (if d.lasting && not closed then suspended_at_end d else decided_at_end d) d.name refl other
 
-pub name_ends : (closed : Bool) (gone : Attachment → Bool) (d : Delivery) → (behind_ends closed gone d).name ≡ d.name
+pub name_ends : (closed : Bool) (gone : Attachment → Bool) (d : Delivery) → (after_ends closed gone d).name ≡ d.name
 name_ends closed gone d =
     let on : (if gone d.link then ended closed d else d).name ≡ d.name = either (gone d.link) (ended closed d) d d.name (name_ended closed d) refl in
     either (is_gone_with gone (sender (if gone d.link then ended closed d else d))) (forsaken (if gone d.link then ended closed d else d)) (if gone d.link then ended closed d else d) d.name on on
@@ -73,11 +73,11 @@ name_told Sender x c o d = refl
 
 name_put_in : (numbers : DeliveryName → Option ℕ) (body : Perf) (c own n : ℕ) (sent : ℕ → ℕ → Option ℕ) (count : ℕ) (d : Delivery) → (put_in numbers body c own n sent count d).name ≡ d.name
 name_put_in numbers (perf.Transfer x) c own n sent count d =
-    either (is_number (carried numbers (tag_in x) (sent own x.handle)) n) (behind_frame x count d) d d.name refl refl
+    either (is_number (carried numbers (tag_in x) (sent own x.handle)) n) (after_frame x count d) d d.name refl refl
 name_put_in numbers (perf.Disposition x) c own n sent count d = name_told x.role x c own d
 name_put_in numbers _ c own n sent count d = refl
 
-pub name_put : (numbers : DeliveryName → Option ℕ) (i : Item) (c n : ℕ) (sent : ℕ → ℕ → Option ℕ) (d : Delivery) → (behind_put numbers i c n sent d).name ≡ d.name
+pub name_put : (numbers : DeliveryName → Option ℕ) (i : Item) (c n : ℕ) (sent : ℕ → ℕ → Option ℕ) (d : Delivery) → (after_put numbers i c n sent d).name ≡ d.name
 name_put numbers (item.Frame sasl own body payload) c n sent d =
     name_ends (closes body) (ended_by (item.Frame sasl own body payload) c) (put_in numbers body c own n sent (length payload) d) ∙ name_put_in numbers body c own n sent (length payload) d
 name_put numbers _ c n sent d = refl
@@ -99,7 +99,7 @@ name_heard (item.Frame sasl channel body payload) c known names n d =
     either sasl d (heard_in body c (known channel) names n d) d.name refl (name_heard_in body c (known channel) names n d)
 name_heard _ c known names n d = refl
 
-pub name_event : (x : Event) (known : ℕ → ℕ → Option PeerChannel) (names : ℕ → ℕ → ℕ → Option ℕ) (n : ℕ) (d : Delivery) → (behind_event x known names n d).name ≡ d.name
+pub name_event : (x : Event) (known : ℕ → ℕ → Option PeerChannel) (names : ℕ → ℕ → ℕ → Option ℕ) (n : ℕ) (d : Delivery) → (after_event x known names n d).name ≡ d.name
 name_event (event.Item c i) known names n d = name_heard i c.0 (known c.0) (names c.0) n d
 name_event (event.Down c) known names n d = name_ends false (lost_with c.0) d
 name_event _ known names n d = refl
@@ -110,7 +110,7 @@ name_changed (change.Untold c o first last) d = either (comes_with_id (source d)
 name_changed (change.Told c o first last) d = either (comes_with_id (source d) c o first last) (unsettled d) d d.name refl refl
 name_changed (change.Decided c o first last made) d = either (is_decided_by d c o first last) (record d { outcome = Some made }) d d.name refl refl
 
--- a delivery behind a change was there before
+-- a delivery after a change was there before
 pub record WasThere (f : Delivery → Delivery) (v : Option Delivery) (d : Delivery) : Type 0 where
   pub before : Delivery
   pub there : v ≡ Some before
@@ -146,10 +146,10 @@ uncalled name (Some x) d e = by_test (same_name x.name name) refl
 pub there_named : (t : Trace) (n : ℕ) (d : Delivery) → delivery t n ≡ Some d → number_named t d.name ≡ Some n
 there_named [] n d e = absurd cc
 there_named (Did s ∷ t) n d e =
-    let w = was_there (behind_event s.event (channels_found t) (named t) n) (delivery t n) d e in
+    let w = was_there (after_event s.event (channels_found t) (named t) n) (delivery t n) d e in
     ap (number_named t) (ap (λ (x : Delivery). x.name) w.is ∙ name_event s.event (channels_found t) (named t) n w.before) ∙ there_named t n w.before w.there
 there_named (Out c i ∷ t) n d e =
-    let w = was_there (behind_put (number_named t) i c n (sending t c)) (delivery t n) d e in
+    let w = was_there (after_put (number_named t) i c n (sending t c)) (delivery t n) d e in
     ap (number_named t) (ap (λ (x : Delivery). x.name) w.is ∙ name_put (number_named t) i c n (sending t c) w.before) ∙ there_named t n w.before w.there
 there_named (Took c k ∷ t) n d e = there_named t n d e
 there_named (Booked acts full ∷ t) n d e = there_named t n d e

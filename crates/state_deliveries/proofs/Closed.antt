@@ -18,7 +18,7 @@ use Rattle.router_trace.specs.declared.event.Event.TheVariants as event
 use Rattle.router_trace.specs.declared.channel.PeerChannel.{PeerChannel}
 use Rattle.router_trace.specs.declared.handle.Attachment.{Attachment}
 use Rattle.router_trace.specs.Trace.{Entry, Trace, Did, Out, Took, Booked, Bound, Began}
-use Rattle.router_trace.specs.Deliveries.{Delivery, source, delivery, bindings, bound, name_in, same_name, number_named, unless_called, unless_over, is_over, is_undecided, behind_ends, is_gone_with, ended, decided_at_end, suspended_at_end, untold, unsettled, failed, closes, behind_put, behind_frame, behind_event, put_in, is_number, carried, tag_in, told, is_meant, origin_id, heard, heard_in, disposed, decided, is_settled_at, is_on, ended_by, lost_with, named, sending, sender, forsaken, channels_found}
+use Rattle.router_trace.specs.Deliveries.{Delivery, source, delivery, bindings, bound, name_in, same_name, number_named, unless_called, unless_over, is_over, is_undecided, after_ends, is_gone_with, ended, decided_at_end, suspended_at_end, untold, unsettled, failed, closes, after_put, after_frame, after_event, put_in, is_number, carried, tag_in, told, is_meant, origin_id, heard, heard_in, disposed, decided, is_settled_at, is_on, ended_by, lost_with, named, sending, sender, forsaken, channels_found}
 use Rattle.amqp_model.specs.declared.state.DeliveryState.TheVariants as state
 use Rattle.state_deliveries.specs.Naming.{is_open}
 
@@ -33,9 +33,9 @@ closed_unless d e = by_test (is_over d)
     by_test true = refl
     by_test false = e
 
-closed_behind : (f : Delivery → Delivery) → Closes f → (v : Option Delivery) → is_open v ≡ false → is_open (option_and_then (λ d. unless_over (f d)) v) ≡ false
-closed_behind f closes None e = refl
-closed_behind f closes (Some d) e = closed_unless (f d) (closes d e)
+closed_after : (f : Delivery → Delivery) → Closes f → (v : Option Delivery) → is_open v ≡ false → is_open (option_and_then (λ d. unless_over (f d)) v) ≡ false
+closed_after f closes None e = refl
+closed_after f closes (Some d) e = closed_unless (f d) (closes d e)
 
 either : (b : Bool) (x y : Delivery) → is_undecided x ≡ false → is_undecided y ≡ false → is_undecided (if b then x else y) ≡ false
 either true x y e f = e
@@ -65,12 +65,12 @@ ended_closed closed d = by_suspended d.suspended refl
 untold_closed : Closes untold
 untold_closed d e = e
 
-ends_closed : (closed : Bool) (gone : Attachment → Bool) → Closes (behind_ends closed gone)
+ends_closed : (closed : Bool) (gone : Attachment → Bool) → Closes (after_ends closed gone)
 ends_closed closed gone d e =
     let on : is_undecided (if gone d.link then ended closed d else d) ≡ false = either (gone d.link) (ended closed d) d (ended_closed closed d) e in
     either (is_gone_with gone (sender (if gone d.link then ended closed d else d))) (forsaken (if gone d.link then ended closed d else d)) (if gone d.link then ended closed d else d) on on
 
-frame_closed : (x : Transfer) (count : ℕ) → Closes (behind_frame x count)
+frame_closed : (x : Transfer) (count : ℕ) → Closes (after_frame x count)
 frame_closed x count d e = by_test (d.presettled && not x.more)
   where
     by_test : (b : Bool) → (is_none (if b then Some state.Accepted else d.outcome) && not (d.presettled || d.suspended)) ≡ false
@@ -82,11 +82,11 @@ told_closed Receiver x c o d e = either (is_meant x (origin_id (source d) c o)) 
 told_closed Sender x c o d e = e
 
 put_in_closed : (numbers : DeliveryName → Option ℕ) (body : Perf) (c own n : ℕ) (sent : ℕ → ℕ → Option ℕ) (count : ℕ) → Closes (put_in numbers body c own n sent count)
-put_in_closed numbers (perf.Transfer x) c own n sent count d e = either (is_number (carried numbers (tag_in x) (sent own x.handle)) n) (behind_frame x count d) d (frame_closed x count d e) e
+put_in_closed numbers (perf.Transfer x) c own n sent count d e = either (is_number (carried numbers (tag_in x) (sent own x.handle)) n) (after_frame x count d) d (frame_closed x count d e) e
 put_in_closed numbers (perf.Disposition x) c own n sent count d e = told_closed x.role x c own d e
 put_in_closed numbers _ c own n sent count d e = e
 
-put_closed : (numbers : DeliveryName → Option ℕ) (i : Item) (c n : ℕ) (sent : ℕ → ℕ → Option ℕ) → Closes (behind_put numbers i c n sent)
+put_closed : (numbers : DeliveryName → Option ℕ) (i : Item) (c n : ℕ) (sent : ℕ → ℕ → Option ℕ) → Closes (after_put numbers i c n sent)
 put_closed numbers (item.Frame sasl own body payload) c n sent d e = ends_closed (closes body) (ended_by (item.Frame sasl own body payload) c) (put_in numbers body c own n sent (length payload) d) (put_in_closed numbers body c own n sent (length payload) d e)
 put_closed numbers _ c n sent d e = e
 
@@ -105,14 +105,14 @@ heard_closed : (i : Item) (c : ℕ) (known : ℕ → Option PeerChannel) (names 
 heard_closed (item.Frame sasl channel body payload) c known names n d e = either sasl d (heard_in body c (known channel) names n d) e (heard_in_closed body c (known channel) names n d e)
 heard_closed _ c known names n d e = e
 
-event_closed : (x : Event) (known : ℕ → ℕ → Option PeerChannel) (names : ℕ → ℕ → ℕ → Option ℕ) (n : ℕ) → Closes (behind_event x known names n)
+event_closed : (x : Event) (known : ℕ → ℕ → Option PeerChannel) (names : ℕ → ℕ → ℕ → Option ℕ) (n : ℕ) → Closes (after_event x known names n)
 event_closed (event.Item c i) known names n d e = heard_closed i c.0 (known c.0) (names c.0) n d e
 event_closed (event.Down c) known names n d e = ends_closed false (lost_with c.0) d e
 event_closed _ known names n d e = e
 
 pub stays_closed : (e : Entry) (t : Trace) (n : ℕ) → n ≤ bindings t → is_open (delivery t n) ≡ false → is_open (delivery (e ∷ t) n) ≡ false
-stays_closed (Did s) t n there closed = closed_behind (behind_event s.event (channels_found t) (named t) n) (event_closed s.event (channels_found t) (named t) n) (delivery t n) closed
-stays_closed (Out c i) t n there closed = closed_behind (behind_put (number_named t) i c n (sending t c)) (put_closed (number_named t) i c n (sending t c)) (delivery t n) closed
+stays_closed (Did s) t n there closed = closed_after (after_event s.event (channels_found t) (named t) n) (event_closed s.event (channels_found t) (named t) n) (delivery t n) closed
+stays_closed (Out c i) t n there closed = closed_after (after_put (number_named t) i c n (sending t c)) (put_closed (number_named t) i c n (sending t c)) (delivery t n) closed
 stays_closed (Took c k) t n there closed = closed
 stays_closed (Began g) t n there closed = closed
 stays_closed (Booked acts full) t n there closed = closed

@@ -7,7 +7,7 @@ use Rattle.std.specs.Ordering.{nat_cmp}
 use Rattle.std.specs.declared.cmp.Ordering.TheVariants.{Less}
 use Rattle.std.specs.BTreeMap.{is_at}
 use Rattle.std.specs.BTreeSet.{BTreeSet, contains}
-use Rattle.state_collections.specs.Slots.{in_slots}
+use Rattle.state_collections.specs.NumberMap.{at_number}
 use Rattle.std.proofs.lemmas.Bool.{eqb-true}
 use Rattle.std.proofs.lemmas.Bool.Decides.{nat_tests}
 use Rattle.amqp_model.specs.declared.state.DeliveryState.{DeliveryState}
@@ -17,15 +17,15 @@ use Rattle.router_trace.specs.declared.binding.DeliveryName.{DeliveryName}
 use Rattle.router_trace.specs.declared.binding.DeliveryName.TheVariants.{Row, Counter}
 use Rattle.router_trace.specs.declared.handle.Attachment.{Attachment}
 use Rattle.router_trace.specs.Trace.{Trace}
-use Rattle.router_trace.specs.Deliveries.{Delivery, source, is_undecided, has_row, stands_on, bindings, delivery, behind_ends, behind_origin, is_gone_with, ended, untold, unsettled, sender, forsaken}
+use Rattle.router_trace.specs.Deliveries.{Delivery, source, is_undecided, has_row, stands_on, bindings, delivery, after_ends, after_origin, is_gone_with, ended, untold, unsettled, sender, forsaken}
 use Rattle.state_deliveries.specs.declared.change.Change.{Change}
 use Rattle.state_deliveries.specs.declared.change.Change.TheVariants as change
 use Rattle.state_deliveries.specs.declared.index.Keys.{Keys}
 use Rattle.state_deliveries.specs.declared.store.Store.{Store}
 use Rattle.state_deliveries.specs.Deciding.{gathered_below, changed_by, bare, row_of, open_row, outcome_of_row, outcome_of, decision_of, decided_rows, listed_row, row_from, rows_from, decides, decide}
 use Rattle.state_deliveries.specs.Fits.{StoreFit}
-use Rattle.state_deliveries.specs.Indexing.{standing, concerns, durable_spot}
-use Rattle.state_deliveries.specs.Placing.{own_spot, is_id_there}
+use Rattle.state_deliveries.specs.Indexing.{standing, concerns, durable_place}
+use Rattle.state_deliveries.specs.Placing.{own_place, is_id_there}
 use Rattle.state_deliveries.specs.Stepping.{is_gone, comes_with_id, is_in, is_decided_by, changed}
 use Rattle.state_deliveries.proofs.Keys.{changes_nothing, untells_nothing}
 use Rattle.state_deliveries.proofs.Numbers.{none_beyond}
@@ -72,8 +72,8 @@ give_nothing f low (n ∷ ns) above none = ap (λ xs. xs ++ flat_map f ns) (none
 apart : (n x : ℕ) → n < x → (n == x) ≡ false
 apart n x l = grind (arith, nat_tests, l)
 
-behind_apart : (n x : ℕ) → x < n → (n == x) ≡ false
-behind_apart n x l = grind (arith, nat_tests, l)
+after_apart : (n x : ℕ) → x < n → (n == x) ≡ false
+after_apart n x l = grind (arith, nat_tests, l)
 
 lesser : (a b : ℕ) → nat_cmp a b ≡ Less → a < b
 lesser a b h = grind (arith, nat_tests, h)
@@ -110,7 +110,7 @@ walked (suc k) low (x ∷ ns) f rise above others none =
         ap (λ n. f n ++ flat_map f ns) is
         ∙ ap (λ xs. f low ++ xs)
         (rest ns rise.1 (above_all low x ns above.0 rise.0)
-        (λ n l h. others n (omega (arith, l)) (ap (λ b. b || has n ns) (behind_apart n x (omega (arith, l, is))) ∙ h)))
+        (λ n l h. others n (omega (arith, l)) (ap (λ b. b || has n ns) (after_apart n x (omega (arith, l, is))) ∙ h)))
     by_test false e rest =
         let all : AllByRecursion (λ n. low + 1 ≤ n) (x ∷ ns) = (beyond low x above.0 e, above_all low x ns above.0 rise.0) in
         rest (x ∷ ns) rise all (λ n l h. others n (omega (arith, l)) h)
@@ -171,15 +171,15 @@ and_none true = refl
 and_none false = refl
 
 -- and an undecided delivery with a row is decided only by its id
-by_own_id : (a : Attachment) (c o first last : ℕ) (id : Option ℕ) → is_id_there c o first last (own_spot a id) ≡ false → (stands_on a c o && is_in id first last) ≡ false
+by_own_id : (a : Attachment) (c o first last : ℕ) (id : Option ℕ) → is_id_there c o first last (own_place a id) ≡ false → (stands_on a c o && is_in id first last) ≡ false
 by_own_id a c o first last None e = and_none (stands_on a c o)
 by_own_id a c o first last (Some id) e = e
 
-not_decided : (d : Delivery) (c o first last : ℕ) → is_undecided d ≡ true → has_row d.name ≡ true → is_id_there c o first last (durable_spot d) ≡ false → is_decided_by d c o first last ≡ false
+not_decided : (d : Delivery) (c o first last : ℕ) → is_undecided d ≡ true → has_row d.name ≡ true → is_id_there c o first last (durable_place d) ≡ false → is_decided_by d c o first last ≡ false
 not_decided d c o first last undecided row e =
-    let there : is_id_there c o first last (own_spot d.link d.id) ≡ false
-    = sym (ap (λ b. is_id_there c o first last (if b && has_row d.name then own_spot d.link d.id else None)) undecided
-    ∙ ap (λ b. is_id_there c o first last (if b then own_spot d.link d.id else None)) row) ∙ e
+    let there : is_id_there c o first last (own_place d.link d.id) ≡ false
+    = sym (ap (λ b. is_id_there c o first last (if b && has_row d.name then own_place d.link d.id else None)) undecided
+    ∙ ap (λ b. is_id_there c o first last (if b then own_place d.link d.id else None)) row) ∙ e
     in ap (λ b. is_undecided d && b) (by_own_id d.link c o first last d.id there) ∙ and_none (is_undecided d)
 
 stays_by : (x : Change) (d : Delivery) → is_undecided d ≡ true → has_row d.name ≡ true → decides x (standing (Some d)) ≡ false → changed x d ≡ d
@@ -215,13 +215,13 @@ no_decision xs (Some d) e = by_test (is_undecided d) refl
 
 -- so the decisions of the deliveries that changes may decide are all of them
 pub decided_is : (s : Store) (t : Trace) (xs : List Change) (ns : BTreeSet ℕ) → StoreFit s t → IsStrictlySortedBy nat_cmp ns.keys
-    → ((n : ℕ) → decide xs (standing (in_slots s.deliveries n)) ≡ true → contains nat_cmp ns n ≡ true)
-    → flat_map (λ n. decision_of xs (in_slots s.deliveries n)) ns.keys ≡ decided_rows t xs
+    → ((n : ℕ) → decide xs (standing (at_number s.deliveries n)) ≡ true → contains nat_cmp ns n ≡ true)
+    → flat_map (λ n. decision_of xs (at_number s.deliveries n)) ns.keys ≡ decided_rows t xs
 decided_is s t xs ns fit rise there =
-    gathered (bindings t + 1) (λ n. decision_of xs (in_slots s.deliveries n)) (λ n. decision_of xs (delivery t n)) ns.keys rise (λ n. ap (decision_of xs) (fit.deliveries n))
+    gathered (bindings t + 1) (λ n. decision_of xs (at_number s.deliveries n)) (λ n. decision_of xs (delivery t n)) ns.keys rise (λ n. ap (decision_of xs) (fit.deliveries n))
     (λ n e.
     ap (decision_of xs) (sym (fit.deliveries n))
-    ∙ no_decision xs (in_slots s.deliveries n) (none_there ns n (decide xs (standing (in_slots s.deliveries n))) (there n) e))
+    ∙ no_decision xs (at_number s.deliveries n) (none_there ns n (decide xs (standing (at_number s.deliveries n))) (there n) e))
     (λ n l. ap (decision_of xs) (none_beyond t n (above_bindings (bindings t) n l)))
 
 -- and so are the rows of the deliveries that the index of ids gives
@@ -230,14 +230,14 @@ no_row c o first last None e = refl
 no_row c o first last (Some d) e = ap (λ b. if b then listed_row (row_of d.name) else []) (untells_nothing (source d) c o first last e)
 
 pub from_is : (s : Store) (t : Trace) (c o first last : ℕ) (ns : BTreeSet ℕ) → StoreFit s t → IsStrictlySortedBy nat_cmp ns.keys
-    → ((n : ℕ) → is_id_there c o first last (standing (in_slots s.deliveries n)).by_id ≡ true → contains nat_cmp ns n ≡ true)
-    → flat_map (λ n. row_from c o first last (in_slots s.deliveries n)) ns.keys ≡ rows_from t c o first last
+    → ((n : ℕ) → is_id_there c o first last (standing (at_number s.deliveries n)).by_id ≡ true → contains nat_cmp ns n ≡ true)
+    → flat_map (λ n. row_from c o first last (at_number s.deliveries n)) ns.keys ≡ rows_from t c o first last
 from_is s t c o first last ns fit rise there =
-    gathered (bindings t + 1) (λ n. row_from c o first last (in_slots s.deliveries n)) (λ n. row_from c o first last (delivery t n)) ns.keys rise
+    gathered (bindings t + 1) (λ n. row_from c o first last (at_number s.deliveries n)) (λ n. row_from c o first last (delivery t n)) ns.keys rise
     (λ n. ap (row_from c o first last) (fit.deliveries n))
     (λ n e.
     ap (row_from c o first last) (sym (fit.deliveries n))
-    ∙ no_row c o first last (in_slots s.deliveries n) (none_there ns n (is_id_there c o first last (standing (in_slots s.deliveries n)).by_id) (there n) e))
+    ∙ no_row c o first last (at_number s.deliveries n) (none_there ns n (is_id_there c o first last (standing (at_number s.deliveries n)).by_id) (there n) e))
     (λ n l. ap (row_from c o first last) (none_beyond t n (above_bindings (bindings t) n l)))
 
 -- The message makes no difference.
@@ -252,18 +252,18 @@ light_ended closed d = by_tests d.suspended (d.lasting && not closed) refl refl
     by_tests false true e f = rw (e, f) refl
     by_tests false false e f = rw (e, f) refl
 
-light_origin : (gone : Attachment → Bool) (d : Delivery) → behind_origin gone (light d) ≡ light (behind_origin gone d)
+light_origin : (gone : Attachment → Bool) (d : Delivery) → after_origin gone (light d) ≡ light (after_origin gone d)
 light_origin gone d = by_test (is_gone_with gone (sender d))
   where
     by_test : (b : Bool) → (if b then forsaken (light d) else light d) ≡ light (if b then forsaken d else d)
     by_test true = refl
     by_test false = refl
 
-light_ends : (closed : Bool) (gone : Attachment → Bool) (d : Delivery) → behind_ends closed gone (light d) ≡ light (behind_ends closed gone d)
+light_ends : (closed : Bool) (gone : Attachment → Bool) (d : Delivery) → after_ends closed gone (light d) ≡ light (after_ends closed gone d)
 light_ends closed gone d = by_test (gone d.link)
   where
-    by_test : (b : Bool) → behind_origin gone (if b then ended closed (light d) else light d) ≡ light (behind_origin gone (if b then ended closed d else d))
-    by_test true = ap (behind_origin gone) (light_ended closed d) ∙ light_origin gone (ended closed d)
+    by_test : (b : Bool) → after_origin gone (if b then ended closed (light d) else light d) ≡ light (after_origin gone (if b then ended closed d else d))
+    by_test true = ap (after_origin gone) (light_ended closed d) ∙ light_origin gone (ended closed d)
     by_test false = light_origin gone d
 
 light_changed : (x : Change) (d : Delivery) → changed x (light d) ≡ light (changed x d)

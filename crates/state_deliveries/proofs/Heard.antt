@@ -23,7 +23,7 @@ use Rattle.state_deliveries.specs.declared.change.Change.TheVariants as change
 use Rattle.router_trace.specs.Channels.{channel_of}
 use Rattle.state_deliveries.specs.Hearing.{heard_change, disposed_change, decided_by, heard_by, is_named_in}
 use Rattle.state_deliveries.specs.Naming.{Remembers, is_open}
-use Rattle.state_deliveries.specs.Stepping.{changed, behind, behind_any, comes_with_id, untold_by, is_in, IsKept}
+use Rattle.state_deliveries.specs.Stepping.{changed, after_change, after_any, comes_with_id, untold_by, is_in, IsKept}
 use Rattle.router_trace.proofs.Numbers.{equal_back}
 use Rattle.state_deliveries.proofs.Puts.{kept}
 
@@ -35,7 +35,7 @@ quiet : (f : Delivery → Delivery) (v : Option Delivery) → IsKept v → ((d :
 quiet f None keeps same = refl
 quiet f (Some d) keeps same = sym keeps ∙ ap unless_over (sym (same d refl))
 
-does : (f : Delivery → Delivery) (x : Change) (v : Option Delivery) → ((d : Delivery) → f d ≡ changed x d) → behind x v ≡ by f v
+does : (f : Delivery → Delivery) (x : Change) (v : Option Delivery) → ((d : Delivery) → f d ≡ changed x d) → after_change x v ≡ by f v
 does f x None same = refl
 does f x (Some d) same = ap unless_over (sym (same d))
 
@@ -55,13 +55,13 @@ settles x c own v same (Some p) =
     three false b d = refl
 
 sent_by_producer : (x : Disposition) (c own n : ℕ) (names : ℕ → ℕ → Option ℕ) (v : Option PeerChannel) → ((o : ℕ) → (own == o) ≡ maps v o) → (old : Option Delivery) → IsKept old
-    → behind_any (untold_by c own x) old ≡ by (λ d. disposed Sender x c v (names d.link.channel) n d) old
+    → after_any (untold_by c own x) old ≡ by (λ d. disposed Sender x c v (names d.link.channel) n d) old
 sent_by_producer x c own n names v same old keeps = by_settled x.settled refl
   where
     step : (d : Delivery) → disposed Sender x c v (names d.link.channel) n d ≡ (if x.settled && comes_with_id (source d) c own x.first (last_of x) then untold d else d)
     step d = ap (λ b. if b then untold d else d) (settles x c own v same (source d))
 
-    by_settled : (b : Bool) → x.settled ≡ b → behind_any (if b then Some (change.Untold c own x.first (last_of x)) else None) old ≡ by (λ d. disposed Sender x c v (names d.link.channel) n d) old
+    by_settled : (b : Bool) → x.settled ≡ b → after_any (if b then Some (change.Untold c own x.first (last_of x)) else None) old ≡ by (λ d. disposed Sender x c v (names d.link.channel) n d) old
     by_settled true e = does (λ d. disposed Sender x c v (names d.link.channel) n d) (change.Untold c own x.first (last_of x)) old
         (λ d. step d ∙ ap (λ b. if b && comes_with_id (source d) c own x.first (last_of x) then untold d else d) e)
     by_settled false e = quiet (λ d. disposed Sender x c v (names d.link.channel) n d) old keeps
@@ -198,7 +198,7 @@ disposes Sender x c n (Some own) t stored v same remembers =
     undone x.settled ∙ sent_by_producer x c own n (named t c) v same (delivery t n) (kept t n)
   where
     undone : (b : Bool) → heard_by (if b then Some (change.Untold c own x.first (last_of x)) else None) stored n (delivery t n)
-        ≡ behind_any (if b then Some (change.Untold c own x.first (last_of x)) else None) (delivery t n)
+        ≡ after_any (if b then Some (change.Untold c own x.first (last_of x)) else None) (delivery t n)
     undone true = refl
     undone false = refl
 disposes Receiver x c n (Some own) t stored v same remembers =

@@ -14,18 +14,18 @@ use Rattle.amqp_model.specs.declared.item.Item.{Item}
 use Rattle.amqp_model.specs.declared.item.Item.TheVariants as item
 use Rattle.router_trace.specs.declared.binding.DeliveryName.{DeliveryName}
 use Rattle.router_trace.specs.Trace.{Entry, Trace, Did, Out, Took, Bound, Booked, Began}
-use Rattle.router_trace.specs.Deliveries.{Delivery, delivery, bindings, bound, name_in, number_named, unless_over, unless_called, behind_event, behind_put, is_number, tagged, number_tagged, carried, tag_in, sending, sending_in, sending_by, named, channels_found}
+use Rattle.router_trace.specs.Deliveries.{Delivery, delivery, bindings, bound, name_in, number_named, unless_over, unless_called, after_event, after_put, is_number, tagged, number_tagged, carried, tag_in, sending, sending_in, sending_by, named, channels_found}
 use Rattle.state_deliveries.specs.Calling.{IsGone, Knows}
 use Rattle.state_deliveries.specs.Fits.{carried_in, carried_by}
 use Rattle.state_deliveries.proofs.Low.{IsLow}
 
 -- a delivery that is gone stays so
-gone_behind : (f : Delivery → Option Delivery) (v : Option Delivery) → v ≡ None → option_and_then f v ≡ None
-gone_behind f v e = ap (option_and_then f) e
+gone_after : (f : Delivery → Option Delivery) (v : Option Delivery) → v ≡ None → option_and_then f v ≡ None
+gone_after f v e = ap (option_and_then f) e
 
 pub gone_stays : (e : Entry) (t : Trace) (n : ℕ) → n ≤ bindings t → delivery t n ≡ None → delivery (e ∷ t) n ≡ None
-gone_stays (Did s) t n low gone = gone_behind (λ d. unless_over (behind_event s.event (channels_found t) (named t) n d)) (delivery t n) gone
-gone_stays (Out c i) t n low gone = gone_behind (λ d. unless_over (behind_put (number_named t) i c n (sending t c) d)) (delivery t n) gone
+gone_stays (Did s) t n low gone = gone_after (λ d. unless_over (after_event s.event (channels_found t) (named t) n d)) (delivery t n) gone
+gone_stays (Out c i) t n low gone = gone_after (λ d. unless_over (after_put (number_named t) i c n (sending t c) d)) (delivery t n) gone
 gone_stays (Took c k) t n low gone = gone
 gone_stays (Booked acts full) t n low gone = gone
 gone_stays (Began g) t n low gone = gone
@@ -81,7 +81,7 @@ known_carried_by known f g fit (item.Frame sasl own body payload) a b x = by bod
     by _ = tt
 known_carried_by known f g fit _ a b x = tt
 
--- what remains to be sent on handles, behind the router's frames: a transfer, the end of links, and any other
+-- what remains to be sent on handles, after the router's frames: a transfer, the end of links, and any other
 pub known_transfer : (known : ℕ → Option Delivery) (f g : DeliveryName → Option ℕ) → ((name : DeliveryName) → Knows known (f name) (g name))
     → (tag : Option (List ℕ)) (here own on more : Bool) (new old view : Option ℕ)
     → new ≡ (if here then (if own then (if on then (if more then carried f tag old else None) else old) else old) else old)

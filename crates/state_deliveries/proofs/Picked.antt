@@ -12,7 +12,7 @@ use Rattle.state_deliveries.specs.declared.change.Change.{Change}
 use Rattle.state_deliveries.specs.declared.change.Change.TheVariants as change
 use Rattle.state_deliveries.specs.Hearing.{picks, id_of, is_named_in, done_to}
 use Rattle.state_deliveries.specs.Naming.{IsSmall}
-use Rattle.state_deliveries.specs.Stepping.{is_in, behind}
+use Rattle.state_deliveries.specs.Stepping.{is_in, after_change}
 
 or_of : (a p r : Bool) → ((a || p) || r) ≡ (a || (p || r))
 or_of true p r = refl
@@ -100,9 +100,9 @@ one_picked names n first last (Some d) small f same = by_id d.id
 
 pub decided_one : (x : Change) (conn own first last : ℕ) (made : DeliveryState) (names : ℕ → ℕ → ℕ → Option ℕ) (n : ℕ) (here : Bool) (old new : Option Delivery)
     → x ≡ change.Decided conn own first last made → first < 2 ^ 32 → first ≡ last → ((id : ℕ) → IsSmall id (names conn own id))
-    → here ≡ picks (names conn own) n (id_of old) first → new ≡ (if here then behind x old else old) → new ≡ done_to x names n old
+    → here ≡ picks (names conn own) n (id_of old) first → new ≡ (if here then after_change x old else old) → new ≡ done_to x names n old
 decided_one x conn own first last made names n here old new is few same small pick e =
-    e ∙ ap (λ b. if b then behind x old else old) (pick ∙ one_picked (names conn own) n first last old small few same) ∙ rw is refl
+    e ∙ ap (λ b. if b then after_change x old else old) (pick ∙ one_picked (names conn own) n first last old small few same) ∙ rw is refl
 
 or_false : (a : Bool) → (a || false) ≡ a
 or_false true = refl

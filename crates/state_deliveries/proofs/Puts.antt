@@ -16,14 +16,14 @@ use Rattle.router_trace.specs.declared.binding.DeliveryName.{DeliveryName}
 use Rattle.router_trace.specs.declared.binding.Origin.{Origin}
 use Rattle.router_trace.specs.declared.handle.Attachment.{Attachment}
 use Rattle.router_trace.specs.Trace.{Trace, Did, Out, Took, Bound, Booked, Began}
-use Rattle.router_trace.specs.Deliveries.{Delivery, source, delivery, named, behind_event, bindings, bound, name_in, same_name, number_named, unless_called, unless_over, is_over, behind_ends, behind_put, behind_frame, put_in, ended_by, is_number, carried, tag_in, told, is_meant, origin_id, stands_on, untold, unsettled, last_of, sending, sender, channels_found}
+use Rattle.router_trace.specs.Deliveries.{Delivery, source, delivery, named, after_event, bindings, bound, name_in, same_name, number_named, unless_called, unless_over, is_over, after_ends, after_put, after_frame, put_in, ended_by, is_number, carried, tag_in, told, is_meant, origin_id, stands_on, untold, unsettled, last_of, sending, sender, channels_found}
 use Rattle.state_deliveries.specs.declared.change.Change.{Change}
 use Rattle.state_deliveries.specs.declared.change.Change.TheVariants as change
 use Rattle.state_deliveries.specs.declared.change.Gone.TheVariants as gone
 use Rattle.state_deliveries.specs.declared.store.Store.{Store}
 use Rattle.state_deliveries.specs.Fits.{StoreFit}
 use Rattle.state_deliveries.specs.Indexing.{is_by_place, are_by_place}
-use Rattle.state_deliveries.specs.Stepping.{is_gone, comes_with_id, changed, behind, behind_any, put_change, put_by, IsKept}
+use Rattle.state_deliveries.specs.Stepping.{is_gone, comes_with_id, changed, after_change, after_any, put_change, put_by, IsKept}
 
 -- a delivery in a trace isn't over
 kept_once : (d : Delivery) → IsKept (unless_over d)
@@ -33,14 +33,14 @@ kept_once d = by_test (is_over d) refl
     by_test true e = rw e refl
     by_test false e = rw (e, e) refl
 
-kept_behind : (f : Delivery → Delivery) (v : Option Delivery) → IsKept (option_and_then (λ d. unless_over (f d)) v)
-kept_behind f None = refl
-kept_behind f (Some d) = kept_once (f d)
+kept_after : (f : Delivery → Delivery) (v : Option Delivery) → IsKept (option_and_then (λ d. unless_over (f d)) v)
+kept_after f None = refl
+kept_after f (Some d) = kept_once (f d)
 
 pub kept : (t : Trace) (n : ℕ) → IsKept (delivery t n)
 kept [] n = refl
-kept (Did s ∷ t) n = kept_behind (behind_event s.event (channels_found t) (named t) n) (delivery t n)
-kept (Out c i ∷ t) n = kept_behind (behind_put (number_named t) i c n (sending t c)) (delivery t n)
+kept (Did s ∷ t) n = kept_after (after_event s.event (channels_found t) (named t) n) (delivery t n)
+kept (Out c i ∷ t) n = kept_after (after_put (number_named t) i c n (sending t c)) (delivery t n)
 kept (Took c k ∷ t) n = kept t n
 kept (Began g ∷ t) n = kept t n
 kept (Booked acts full ∷ t) n = kept t n
@@ -59,13 +59,13 @@ kept (Bound b ∷ t) n = fresh (bindings t + 1 == n) (kept t n)
     fresh false keeps = uncalled (delivery t n) keeps
 
 -- links that end, by an equal test
-pub same_ends : (closed : Bool) (p q : Attachment → Bool) → ((a : Attachment) → p a ≡ q a) → (d : Delivery) → behind_ends closed p d ≡ behind_ends closed q d
-same_ends closed p q same d = ap (λ gone. behind_ends closed gone d) (λ i a. same a i)
+pub same_ends : (closed : Bool) (p q : Attachment → Bool) → ((a : Attachment) → p a ≡ q a) → (d : Delivery) → after_ends closed p d ≡ after_ends closed q d
+same_ends closed p q same d = ap (λ gone. after_ends closed gone d) (λ i a. same a i)
 
-pub no_ends : (closed : Bool) (p : Attachment → Bool) → ((a : Attachment) → p a ≡ false) → (d : Delivery) → behind_ends closed p d ≡ d
+pub no_ends : (closed : Bool) (p : Attachment → Bool) → ((a : Attachment) → p a ≡ false) → (d : Delivery) → after_ends closed p d ≡ d
 no_ends closed p none d = same_ends closed p (λ a. false) none d ∙ never (sender d) refl
   where
-    never : (o : Option Origin) → sender d ≡ o → behind_ends closed (λ a. false) d ≡ d
+    never : (o : Option Origin) → sender d ≡ o → after_ends closed (λ a. false) d ≡ d
     never None e = rw e refl
     never (Some p) e = rw e refl
 
@@ -82,8 +82,8 @@ abbrev pub frame_of : ℕ → Bool → Perf → List ℕ → Item
 frame_of own sasl body payload = item.Frame sasl own body payload
 
 -- how it changes a delivery, and a delivery that may exist
-abbrev pub put_behind : (DeliveryName → Option ℕ) → ℕ → Item → ℕ → (ℕ → ℕ → Option ℕ) → Option Delivery → Option Delivery
-put_behind numbers c i n known v = option_and_then (λ d. unless_over (behind_put numbers i c n known d)) v
+abbrev pub put_after : (DeliveryName → Option ℕ) → ℕ → Item → ℕ → (ℕ → ℕ → Option ℕ) → Option Delivery → Option Delivery
+put_after numbers c i n known v = option_and_then (λ d. unless_over (after_put numbers i c n known d)) v
 
 still : (d : Delivery) → IsKept (Some d) → Some d ≡ unless_over d
 still d keeps = sym keeps
@@ -94,29 +94,29 @@ none_either false f = refl
 
 pub one_frame : (numbers : DeliveryName → Option ℕ) (c own n : ℕ) (sasl : Bool) (x : Transfer) (payload : List ℕ) (known : ℕ → ℕ → Option ℕ) (number : Option ℕ)
     → (v : Option Delivery) → ((d : Delivery) → v ≡ Some d → is_number number n ≡ is_number (carried numbers (tag_in x) (known own x.handle)) n) → IsKept v
-    → (if is_number number n then option_and_then (λ d. unless_over (behind_frame x (length payload) d)) v else v)
-    ≡ put_behind numbers c (item.Frame sasl own (perf.Transfer x) payload) n known v
-one_frame numbers c own n sasl x payload known number None is keeps = none_either (is_number number n) (λ d. unless_over (behind_frame x (length payload) d))
+    → (if is_number number n then option_and_then (λ d. unless_over (after_frame x (length payload) d)) v else v)
+    ≡ put_after numbers c (item.Frame sasl own (perf.Transfer x) payload) n known v
+one_frame numbers c own n sasl x payload known number None is keeps = none_either (is_number number n) (λ d. unless_over (after_frame x (length payload) d))
 one_frame numbers c own n sasl x payload known number (Some d) is keeps =
     rw (is d refl) (by_test (is_number (carried numbers (tag_in x) (known own x.handle)) n)
     ∙ sym (ap unless_over (no_ends false (ended_by (item.Frame sasl own (perf.Transfer x) payload) c) (λ a. and_false (a.conn.0 == c)) (put_in numbers (perf.Transfer x) c own n known (length payload) d))))
   where
-    by_test : (b : Bool) → (if b then unless_over (behind_frame x (length payload) d) else Some d) ≡ unless_over (if b then behind_frame x (length payload) d else d)
+    by_test : (b : Bool) → (if b then unless_over (after_frame x (length payload) d) else Some d) ≡ unless_over (if b then after_frame x (length payload) d else d)
     by_test true = refl
     by_test false = still d keeps
 
 -- any other performative of the router
-quiet : (numbers : DeliveryName → Option ℕ) (c n : ℕ) (i : Item) (known : ℕ → ℕ → Option ℕ) → ((d : Delivery) → behind_put numbers i c n known d ≡ d) → (v : Option Delivery) → IsKept v
-    → v ≡ put_behind numbers c i n known v
+quiet : (numbers : DeliveryName → Option ℕ) (c n : ℕ) (i : Item) (known : ℕ → ℕ → Option ℕ) → ((d : Delivery) → after_put numbers i c n known d ≡ d) → (v : Option Delivery) → IsKept v
+    → v ≡ put_after numbers c i n known v
 quiet numbers c n i known same None keeps = refl
 quiet numbers c n i known same (Some d) keeps = still d keeps ∙ ap unless_over (sym (same d))
 
-does : (numbers : DeliveryName → Option ℕ) (c n : ℕ) (i : Item) (x : Change) (known : ℕ → ℕ → Option ℕ) → ((d : Delivery) → behind_put numbers i c n known d ≡ changed x d)
-    → (v : Option Delivery) → behind x v ≡ put_behind numbers c i n known v
+does : (numbers : DeliveryName → Option ℕ) (c n : ℕ) (i : Item) (x : Change) (known : ℕ → ℕ → Option ℕ) → ((d : Delivery) → after_put numbers i c n known d ≡ changed x d)
+    → (v : Option Delivery) → after_change x v ≡ put_after numbers c i n known v
 does numbers c n i x known same None = refl
 does numbers c n i x known same (Some d) = ap unless_over (sym (same d))
 
-never : (c : ℕ) (d : Delivery) → behind_ends false (λ a. (a.conn.0 == c) && false) d ≡ d
+never : (c : ℕ) (d : Delivery) → after_ends false (λ a. (a.conn.0 == c) && false) d ≡ d
 never c d = no_ends false (λ a. (a.conn.0 == c) && false) (λ a. and_false (a.conn.0 == c)) d
 
 meant : (x : Disposition) (o : Option Origin) (c own : ℕ) → is_meant x (origin_id o c own) ≡ comes_with_id o c own x.first (last_of x)
@@ -128,12 +128,12 @@ meant x (Some p) c own = by_test (stands_on p.link c own)
     by_test false = refl
 
 disposes : (numbers : DeliveryName → Option ℕ) (c own n : ℕ) (sasl : Bool) (x : Disposition) (payload : List ℕ) (known : ℕ → ℕ → Option ℕ) (r : Role) → x.role ≡ r → (v : Option Delivery) → IsKept v
-    → behind_any (put_by r c own x) v ≡ put_behind numbers c (item.Frame sasl own (perf.Disposition x) payload) n known v
+    → after_any (put_by r c own x) v ≡ put_after numbers c (item.Frame sasl own (perf.Disposition x) payload) n known v
 disposes numbers c own n sasl x payload known Sender is v keeps =
     quiet numbers c n (item.Frame sasl own (perf.Disposition x) payload) known (λ d. never c (told x.role x c own d) ∙ ap (λ r. told r x c own d) is) v keeps
 disposes numbers c own n sasl x payload known Receiver is v keeps = by_settled x.settled refl
   where
-    by_settled : (b : Bool) → x.settled ≡ b → behind (if b then change.Untold c own x.first (last_of x) else change.Told c own x.first (last_of x)) v ≡ put_behind numbers c (item.Frame sasl own (perf.Disposition x) payload) n known v
+    by_settled : (b : Bool) → x.settled ≡ b → after_change (if b then change.Untold c own x.first (last_of x) else change.Told c own x.first (last_of x)) v ≡ put_after numbers c (item.Frame sasl own (perf.Disposition x) payload) n known v
     by_settled true s = does numbers c n (item.Frame sasl own (perf.Disposition x) payload) (change.Untold c own x.first (last_of x)) known
         (λ d. never c (told x.role x c own d) ∙ ap (λ r. told r x c own d) is
         ∙ ap (λ b. if is_meant x (origin_id (source d) c own) then (if b then untold d else unsettled d) else d) s
@@ -144,7 +144,7 @@ disposes numbers c own n sasl x payload known Receiver is v keeps = by_settled x
         ∙ ap (λ b. if b then unsettled d else d) (meant x (source d) c own)) v
 
 pub other_frame : (numbers : DeliveryName → Option ℕ) (c own n : ℕ) (sasl : Bool) (body : Perf) (payload : List ℕ) (known : ℕ → ℕ → Option ℕ) → ((x : Transfer) → body ≡ perf.Transfer x → ⊥)
-    → (v : Option Delivery) → IsKept v → behind_any (put_change c own body) v ≡ put_behind numbers c (item.Frame sasl own body payload) n known v
+    → (v : Option Delivery) → IsKept v → after_any (put_change c own body) v ≡ put_after numbers c (item.Frame sasl own body payload) n known v
 other_frame numbers c own n sasl (perf.Transfer x) payload known other v keeps = absurd (other x refl)
 other_frame numbers c own n sasl (perf.Disposition x) payload known other v keeps = disposes numbers c own n sasl x payload known x.role refl v keeps
 other_frame numbers c own n sasl (perf.Detach x) payload known other v keeps =

@@ -2,7 +2,7 @@
 use Rattle.std.proofs.Common.{◌≡◌, ◌∙◌, ℕ, Bool, true, false, refl, sym, ap, subst, Option, Some, None}
 use Rattle.std.specs.Prelude.{◌==◌, ◌&&◌, if◌then◌else◌}
 use Rattle.std.specs.Option.{option_map, option_and_then}
-use Rattle.state_collections.specs.Slots.{in_slots}
+use Rattle.state_collections.specs.NumberMap.{at_number}
 use Rattle.std.proofs.lemmas.Bool.{eqb-true}
 use Rattle.router_trace.specs.declared.binding.DeliveryName.{DeliveryName}
 use Rattle.router_trace.specs.Deliveries.{Delivery, unless_over, is_over, same_name, is_number}
@@ -65,19 +65,19 @@ one_step f m n d x old mid new was is changed gone = gone ∙ by_test (m == n) r
         ap (λ b. if x.over then (if b then None else mid) else mid) e ∙ either x.over mid ∙ changed ∙ ap (λ b. if b then option_map f (old n) else old n) e
 
 pub one_stepped : (f : Delivery → Delivery) (m : ℕ) (x : Moved) (old new : Store) (mid : ℕ → Option Delivery) → ((d : Delivery) → (f d).name ≡ d.name)
-    → Some x ≡ found_of f (in_slots old.deliveries m)
-    → ((n : ℕ) → mid n ≡ (if m == n then option_map f (in_slots old.deliveries n) else in_slots old.deliveries n))
-    → ((n : ℕ) → in_slots new.deliveries n ≡ (if x.over then (if m == n then None else mid n) else mid n))
+    → Some x ≡ found_of f (at_number old.deliveries m)
+    → ((n : ℕ) → mid n ≡ (if m == n then option_map f (at_number old.deliveries n) else at_number old.deliveries n))
+    → ((n : ℕ) → at_number new.deliveries n ≡ (if x.over then (if m == n then None else mid n) else mid n))
     → ((known : ℕ → Keys) → known m ≡ x.before → Indexes old.index known → Indexes new.index (λ n. if m == n then x.after else known n))
     → ((name : DeliveryName) → at_name new.by_name name ≡ (if x.over && same_name x.name name then None else at_name old.by_name name))
     → ((k : ℕ) → is_touched_in new.touched k ≡ false → (is_touched_in old.touched k ≡ false) × StandsSame k x.before x.after)
     → Stepped old new
 one_stepped f m x old new mid named found changed gone indexes called noted = record {
   indexed = λ stood. record {
-    indexes = put_at new.index m (step f) (in_slots old.deliveries) (in_slots new.deliveries) steps
-        (subst (λ (a : Keys). Indexes new.index (λ n. if m == n then a else standing (in_slots old.deliveries n))) after
-        (indexes (λ n. standing (in_slots old.deliveries n)) (sym before) stood.indexes));
-    called = called_at old.by_name new.by_name m d (f d) (in_slots old.deliveries) (in_slots new.deliveries) (named d) was
+    indexes = put_at new.index m (step f) (at_number old.deliveries) (at_number new.deliveries) steps
+        (subst (λ (a : Keys). Indexes new.index (λ n. if m == n then a else standing (at_number old.deliveries n))) after
+        (indexes (λ n. standing (at_number old.deliveries n)) (sym before) stood.indexes));
+    called = called_at old.by_name new.by_name m d (f d) (at_number old.deliveries) (at_number new.deliveries) (named d) was
         (λ n. steps n ∙ here n (m == n) refl)
         (λ name. called name ∙ ap (λ (y : Moved). if y.over && same_name y.name name then None else at_name old.by_name name) is)
         stood.called;
@@ -85,39 +85,39 @@ one_stepped f m x old new mid named found changed gone indexes called noted = re
   touches = touches_at old new m (step f) x.before x.after before after steps noted;
 }
   where
-    one : (d : Delivery) × (in_slots old.deliveries m ≡ Some d) × (x ≡ moved (keys d) (f d))
-    one = found_there f (in_slots old.deliveries m) x found
+    one : (d : Delivery) × (at_number old.deliveries m ≡ Some d) × (x ≡ moved (keys d) (f d))
+    one = found_there f (at_number old.deliveries m) x found
 
     d : Delivery
     d = one.0
 
-    was : in_slots old.deliveries m ≡ Some d
+    was : at_number old.deliveries m ≡ Some d
     was = one.1
 
     is : x ≡ moved (keys d) (f d)
     is = one.2
 
-    before : x.before ≡ standing (in_slots old.deliveries m)
+    before : x.before ≡ standing (at_number old.deliveries m)
     before = ap (λ (y : Moved). y.before) is ∙ sym (ap standing was)
 
-    after : x.after ≡ standing (step f (in_slots old.deliveries m))
+    after : x.after ≡ standing (step f (at_number old.deliveries m))
     after = ap (λ (y : Moved). y.after) is ∙ sym (ap (λ v. standing (step f v)) was)
 
-    steps : (n : ℕ) → in_slots new.deliveries n ≡ (if m == n then step f (in_slots old.deliveries n) else in_slots old.deliveries n)
-    steps n = one_step f m n d x (in_slots old.deliveries) (mid n) (in_slots new.deliveries n) was is (changed n) (gone n)
+    steps : (n : ℕ) → at_number new.deliveries n ≡ (if m == n then step f (at_number old.deliveries n) else at_number old.deliveries n)
+    steps n = one_step f m n d x (at_number old.deliveries) (mid n) (at_number new.deliveries n) was is (changed n) (gone n)
 
-    here : (n : ℕ) (b : Bool) → (m == n) ≡ b → (if b then step f (in_slots old.deliveries n) else in_slots old.deliveries n)
-        ≡ (if b then unless_over (f d) else in_slots old.deliveries n)
-    here n true e = ap (step f) (ap (in_slots old.deliveries) (sym (eqb-true m n e)) ∙ was)
+    here : (n : ℕ) (b : Bool) → (m == n) ≡ b → (if b then step f (at_number old.deliveries n) else at_number old.deliveries n)
+        ≡ (if b then unless_over (f d) else at_number old.deliveries n)
+    here n true e = ap (step f) (ap (at_number old.deliveries) (sym (eqb-true m n e)) ∙ was)
     here n false e = refl
 
 -- nothing was found to change
-pub unfound : (f : Delivery → Delivery) (m : ℕ) (s u : Store) (found : Option Moved) → found ≡ found_of f (in_slots s.deliveries m) → ((x : Moved) → found ≡ Some x → ⊥)
-    → ((n : ℕ) → in_slots u.deliveries n ≡ (if m == n then option_map f (in_slots s.deliveries n) else in_slots s.deliveries n))
+pub unfound : (f : Delivery → Delivery) (m : ℕ) (s u : Store) (found : Option Moved) → found ≡ found_of f (at_number s.deliveries m) → ((x : Moved) → found ≡ Some x → ⊥)
+    → ((n : ℕ) → at_number u.deliveries n ≡ (if m == n then option_map f (at_number s.deliveries n) else at_number s.deliveries n))
     → u.index ≡ s.index → u.by_name ≡ s.by_name → Indexed s → Indexed u
 unfound f m s u found is none at index by_name x = record {
-  indexes = subst (λ (i : Index). Indexes i (λ n. standing (in_slots u.deliveries n))) (sym index)
-      (indexes_same s.index (λ n. standing (in_slots s.deliveries n)) (λ n. standing (in_slots u.deliveries n)) (λ n. ap standing (sym (same n))) x.indexes);
+  indexes = subst (λ (i : Index). Indexes i (λ n. standing (at_number u.deliveries n))) (sym index)
+      (indexes_same s.index (λ n. standing (at_number s.deliveries n)) (λ n. standing (at_number u.deliveries n)) (λ n. ap standing (sym (same n))) x.indexes);
   called = λ name n. ap (λ (b : ByName). is_number (at_name b name) n) by_name ∙ x.called name n ∙ ap (is_called name) (sym (same n));
 }
   where
@@ -128,14 +128,14 @@ unfound f m s u found is none at index by_name x = record {
     mapped : (v : Option Delivery) → v ≡ None → option_map f v ≡ v
     mapped v e = ap (option_map f) e ∙ sym e
 
-    same : (n : ℕ) → in_slots u.deliveries n ≡ in_slots s.deliveries n
+    same : (n : ℕ) → at_number u.deliveries n ≡ at_number s.deliveries n
     same n = by_test (m == n) refl
       where
-        by_test : (b : Bool) → (m == n) ≡ b → in_slots u.deliveries n ≡ in_slots s.deliveries n
+        by_test : (b : Bool) → (m == n) ≡ b → at_number u.deliveries n ≡ at_number s.deliveries n
         by_test true e =
-            at n ∙ ap (λ b. if b then option_map f (in_slots s.deliveries n) else in_slots s.deliveries n) e
-            ∙ mapped (in_slots s.deliveries n) (ap (in_slots s.deliveries) (sym (eqb-true m n e)) ∙ nowhere (in_slots s.deliveries m) is)
-        by_test false e = at n ∙ ap (λ b. if b then option_map f (in_slots s.deliveries n) else in_slots s.deliveries n) e
+            at n ∙ ap (λ b. if b then option_map f (at_number s.deliveries n) else at_number s.deliveries n) e
+            ∙ mapped (at_number s.deliveries n) (ap (at_number s.deliveries) (sym (eqb-true m n e)) ∙ nowhere (at_number s.deliveries m) is)
+        by_test false e = at n ∙ ap (λ b. if b then option_map f (at_number s.deliveries n) else at_number s.deliveries n) e
 
 -- whether there was one, told by a Boolean
 pub one_there : (b : Bool) (x : Moved) (r : Option Moved) → b ≡ true → (if b then Some x else None) ≡ r → Some x ≡ r

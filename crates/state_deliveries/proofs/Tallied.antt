@@ -3,7 +3,7 @@ use Rattle.std.proofs.Common.{◌≡◌, ◌∙◌, ◌+◌, ◌-◌, ℕ, Bool,
 use Rattle.std.specs.Prelude.{◌==◌, if◌then◌else◌, unwrap_or}
 use Rattle.std.proofs.lemmas.Bool.{eqb-true}
 use Rattle.std.proofs.lemmas.Bool.Decides.{nat_tests}
-use Rattle.state_collections.specs.Slots.{in_slots}
+use Rattle.state_collections.specs.NumberMap.{at_number}
 use Rattle.router_trace.specs.Counting.{IsCount}
 use Rattle.router_trace.specs.Deliveries.{is_number}
 use Rattle.router_trace.proofs.Counts.{no_rise, count_same, count_with, count_without}
@@ -12,7 +12,7 @@ use Rattle.state_deliveries.specs.declared.tallies.Tallies.{Tallies}
 use Rattle.state_deliveries.specs.Tallying.{tally, is_zero, IsTallied, waiting_at, undecided_at, waiting_of, undecided_of, has_none, AreTallied, unless_at, more, less}
 
 -- the tallies of links, of which one number moves from one to another
-pub none_tallied : (s : Tallies) → ((k : ℕ) → in_slots s.counts k ≡ None) → IsTallied s (λ n. None)
+pub none_tallied : (s : Tallies) → ((k : ℕ) → at_number s.counts k ≡ None) → IsTallied s (λ n. None)
 none_tallied s none = record {
   counts = λ k. record { numbers = []; rise = no_rise; pass = λ n. refl; are = sym (ap (λ v. unwrap_or v 0) (none k)) };
   needed = λ k. ap is_zero (none k);
@@ -46,9 +46,9 @@ counted_moved t mid new m before after known out back is x k =
 
 pub tallied_moved : (s mid new : Tallies) (m : ℕ) (before after : Option ℕ) (known : ℕ → Option ℕ)
     → ((k : ℕ) → tally mid k ≡ (if is_number before k then tally s k - 1 else tally s k))
-    → ((k : ℕ) → is_zero (in_slots s.counts k) ≡ false → is_zero (in_slots mid.counts k) ≡ false)
+    → ((k : ℕ) → is_zero (at_number s.counts k) ≡ false → is_zero (at_number mid.counts k) ≡ false)
     → ((k : ℕ) → tally new k ≡ (if is_number after k then tally mid k + 1 else tally mid k))
-    → ((k : ℕ) → is_zero (in_slots mid.counts k) ≡ false → is_zero (in_slots new.counts k) ≡ false)
+    → ((k : ℕ) → is_zero (at_number mid.counts k) ≡ false → is_zero (at_number new.counts k) ≡ false)
     → known m ≡ before → IsTallied s known → IsTallied new (λ n. if m == n then after else known n)
 tallied_moved s mid new m before after known out left back kept is x = record {
   counts = counted_moved (tally s) (tally mid) (tally new) m before after known out back is x.counts;
@@ -92,7 +92,7 @@ counted_unless t mid new m (Some a) (Some b) known out back is x = by_test (b ==
     by_test false true e f = absurd (crossed (sym f ∙ turned a b ∙ e))
 
 -- the rows of consumers' links
-pub none_of_links : (s : Consumers) → ((k : ℕ) → in_slots s.rows k ≡ None) → AreTallied s (λ n. None) (λ n. None)
+pub none_of_links : (s : Consumers) → ((k : ℕ) → at_number s.rows k ≡ None) → AreTallied s (λ n. None) (λ n. None)
 none_of_links s none = record {
   waiting = λ k. record { numbers = []; rise = no_rise; pass = λ n. refl; are = sym (ap waiting_of (none k)) };
   undecided = λ k. record { numbers = []; rise = no_rise; pass = λ n. refl; are = sym (ap undecided_of (none k)) };
@@ -109,10 +109,10 @@ all_same s f g p q waiting undecided x = record {
 pub all_moved : (s mid new : Consumers) (m : ℕ) (waiting_before waiting_after undecided_before undecided_after : Option ℕ) (waiting undecided : ℕ → Option ℕ)
     → ((k : ℕ) → waiting_at mid k ≡ less (is_number (unless_at waiting_before waiting_after) k) (waiting_at s k))
     → ((k : ℕ) → undecided_at mid k ≡ less (is_number (unless_at undecided_before undecided_after) k) (undecided_at s k))
-    → ((k : ℕ) → has_none (in_slots s.rows k) ≡ false → has_none (in_slots mid.rows k) ≡ false)
+    → ((k : ℕ) → has_none (at_number s.rows k) ≡ false → has_none (at_number mid.rows k) ≡ false)
     → ((k : ℕ) → waiting_at new k ≡ more (is_number (unless_at waiting_after waiting_before) k) (waiting_at mid k))
     → ((k : ℕ) → undecided_at new k ≡ more (is_number (unless_at undecided_after undecided_before) k) (undecided_at mid k))
-    → ((k : ℕ) → has_none (in_slots mid.rows k) ≡ false → has_none (in_slots new.rows k) ≡ false)
+    → ((k : ℕ) → has_none (at_number mid.rows k) ≡ false → has_none (at_number new.rows k) ≡ false)
     → waiting m ≡ waiting_before → undecided m ≡ undecided_before → AreTallied s waiting undecided
     → AreTallied new (λ n. if m == n then waiting_after else waiting n) (λ n. if m == n then undecided_after else undecided n)
 all_moved s mid new m wb wa ub ua waiting undecided out out2 left back back2 kept is is2 x = record {

@@ -1,7 +1,7 @@
 -- What is touched after changes of a store.
 use Rattle.std.proofs.Common.{◌≡◌, ◌∙◌, ℕ, Bool, true, false, refl, sym, ap, subst, Option}
 use Rattle.std.specs.Prelude.{◌==◌, if◌then◌else◌}
-use Rattle.state_collections.specs.Slots.{in_slots}
+use Rattle.state_collections.specs.NumberMap.{at_number}
 use Rattle.std.proofs.lemmas.Bool.{eqb-true}
 use Rattle.router_trace.specs.Deliveries.{Delivery, waits_on, undecided_on, held_from}
 use Rattle.state_deliveries.specs.declared.index.Keys.{Keys}
@@ -22,10 +22,10 @@ on_standing k v w x = record {
 }
 
 -- nothing done, and one change after the other
-pub touches_nothing : (old new : Store) → new.touched ≡ old.touched → ((n : ℕ) → in_slots new.deliveries n ≡ in_slots old.deliveries n) → StoreTouches old new
+pub touches_nothing : (old new : Store) → new.touched ≡ old.touched → ((n : ℕ) → at_number new.deliveries n ≡ at_number old.deliveries n) → StoreTouches old new
 touches_nothing old new e same = record {
   before = λ k f. ap (λ s. is_touched_in s k) (sym e) ∙ f;
-  same = λ k n f. same_on k (in_slots old.deliveries n) (in_slots new.deliveries n) (sym (same n));
+  same = λ k n f. same_on k (at_number old.deliveries n) (at_number new.deliveries n) (sym (same n));
 }
 
 pub touches_self : (s : Store) → StoreTouches s s
@@ -39,8 +39,8 @@ touches_then old middle new x y = record {
 
 -- one delivery was changed in its place, added or removed
 pub touches_at : (old new : Store) (m : ℕ) (g : Option Delivery → Option Delivery) (stood stands : Keys)
-    → stood ≡ standing (in_slots old.deliveries m) → stands ≡ standing (g (in_slots old.deliveries m))
-    → ((n : ℕ) → in_slots new.deliveries n ≡ (if m == n then g (in_slots old.deliveries n) else in_slots old.deliveries n))
+    → stood ≡ standing (at_number old.deliveries m) → stands ≡ standing (g (at_number old.deliveries m))
+    → ((n : ℕ) → at_number new.deliveries n ≡ (if m == n then g (at_number old.deliveries n) else at_number old.deliveries n))
     → ((k : ℕ) → is_touched_in new.touched k ≡ false → (is_touched_in old.touched k ≡ false) × StandsSame k stood stands)
     → StoreTouches old new
 touches_at old new m g stood stands was is at noted = record {
@@ -48,13 +48,13 @@ touches_at old new m g stood stands was is at noted = record {
   same = λ k n f. by_test k n (m == n) refl (noted k f).1;
 }
   where
-    by_test : (k n : ℕ) (b : Bool) → (m == n) ≡ b → StandsSame k stood stands → IsSameOn k (in_slots old.deliveries n) (in_slots new.deliveries n)
+    by_test : (k n : ℕ) (b : Bool) → (m == n) ≡ b → StandsSame k stood stands → IsSameOn k (at_number old.deliveries n) (at_number new.deliveries n)
     by_test k n true e x =
-        let here : in_slots old.deliveries m ≡ in_slots old.deliveries n = ap (in_slots old.deliveries) (eqb-true m n e) in
-        let now : in_slots new.deliveries n ≡ g (in_slots old.deliveries n) = at n ∙ ap (λ b. if b then g (in_slots old.deliveries n) else in_slots old.deliveries n) e in
-        let first : StandsSame k (standing (in_slots old.deliveries n)) stands = subst (λ (a : Keys). StandsSame k a stands) (was ∙ ap standing here) x in
-        let both : StandsSame k (standing (in_slots old.deliveries n)) (standing (in_slots new.deliveries n)) =
-        subst (λ (a : Keys). StandsSame k (standing (in_slots old.deliveries n)) a) (is ∙ ap (λ v. standing (g v)) here ∙ ap standing (sym now)) first in
-        on_standing k (in_slots old.deliveries n) (in_slots new.deliveries n) both
-    by_test k n false e x = same_on k (in_slots old.deliveries n) (in_slots new.deliveries n)
-        (sym (at n ∙ ap (λ b. if b then g (in_slots old.deliveries n) else in_slots old.deliveries n) e))
+        let here : at_number old.deliveries m ≡ at_number old.deliveries n = ap (at_number old.deliveries) (eqb-true m n e) in
+        let now : at_number new.deliveries n ≡ g (at_number old.deliveries n) = at n ∙ ap (λ b. if b then g (at_number old.deliveries n) else at_number old.deliveries n) e in
+        let first : StandsSame k (standing (at_number old.deliveries n)) stands = subst (λ (a : Keys). StandsSame k a stands) (was ∙ ap standing here) x in
+        let both : StandsSame k (standing (at_number old.deliveries n)) (standing (at_number new.deliveries n)) =
+        subst (λ (a : Keys). StandsSame k (standing (at_number old.deliveries n)) a) (is ∙ ap (λ v. standing (g v)) here ∙ ap standing (sym now)) first in
+        on_standing k (at_number old.deliveries n) (at_number new.deliveries n) both
+    by_test k n false e x = same_on k (at_number old.deliveries n) (at_number new.deliveries n)
+        (sym (at n ∙ ap (λ b. if b then g (at_number old.deliveries n) else at_number old.deliveries n) e))

@@ -1,6 +1,6 @@
 -- Deliveries by their names.
 use Rattle.std.specs.Prelude.{◌≡◌, ℕ, Bool, false, Option, Some, None}
-use Rattle.state_collections.specs.Slots.{in_slots}
+use Rattle.state_collections.specs.NumberMap.{at_number}
 use Rattle.router_trace.specs.declared.binding.DeliveryName.{DeliveryName}
 use Rattle.router_trace.specs.declared.binding.DeliveryName.TheVariants.{Row, Counter}
 use Rattle.router_trace.specs.Trace.{Trace}
@@ -9,8 +9,8 @@ use Rattle.state_deliveries.specs.declared.by_name.ByName.{ByName}
 
 -- the number that a table has for a name
 abbrev pub at_name : ByName → DeliveryName → Option ℕ
-at_name s (Row r) = in_slots s.rows r.0
-at_name s (Counter k) = in_slots s.counters k
+at_name s (Row r) = at_number s.rows r.0
+at_name s (Counter k) = at_number s.counters k
 
 -- each delivery stands under its name, and no name has another number
 abbrev pub is_called : DeliveryName → Option Delivery → Bool

@@ -2,7 +2,7 @@
 use Rattle.std.specs.Prelude.{◌≡◌, ℕ, List, Option, None, unwrap_or}
 use Rattle.std.specs.Ordering.{nat_cmp}
 use Rattle.std.specs.BTreeMap.{get}
-use Rattle.state_collections.specs.Slots.{in_slots}
+use Rattle.state_collections.specs.NumberMap.{at_number}
 use Rattle.amqp_model.specs.declared.perf.Perf.{Perf}
 use Rattle.amqp_model.specs.declared.perf.Perf.TheVariants as perf
 use Rattle.amqp_model.specs.declared.item.Item.{Item}
@@ -22,12 +22,12 @@ use Rattle.state_collections.specs.Places.{at, in_map}
 
 -- the deliveries are in the indexes, and under their names
 pub record Indexed (s : Store) : Type 0 where
-  pub indexes : Indexes s.index (λ n. standing (in_slots s.deliveries n))
-  pub called : AreCalled s.by_name (in_slots s.deliveries)
+  pub indexes : Indexes s.index (λ n. standing (at_number s.deliveries n))
+  pub called : AreCalled s.by_name (at_number s.deliveries)
 
 -- the deliveries agree with the trace
 pub record StoreFit (s : Store) (t : Trace) : Type 0 where
-  pub deliveries : (n : ℕ) → in_slots s.deliveries n ≡ delivery t n
+  pub deliveries : (n : ℕ) → at_number s.deliveries n ≡ delivery t n
   pub indexed : Indexed s
 
 -- so do those of which more frames remain to be sent
@@ -42,7 +42,7 @@ pub record AreSending (t : Trace) (c o : ℕ) (numbers : List ℕ) : Type 0 wher
 
 -- and the next ids
 abbrev pub next_in : NextIds → ℕ → ℕ → ℕ
-next_in s c o = unwrap_or (in_map (in_slots s.rows c) o) 0
+next_in s c o = unwrap_or (in_map (at_number s.rows c) o) 0
 
 pub record NextIdsFit (s : NextIds) (t : Trace) : Type 0 where
   pub ids : (c o : ℕ) → next_in s c o ≡ next_id t c o

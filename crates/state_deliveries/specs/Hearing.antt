@@ -11,7 +11,7 @@ use Rattle.amqp_model.specs.declared.item.Item.TheVariants as item
 use Rattle.router_trace.specs.Deliveries.{Delivery, is_named, is_number, is_id, decision, terminal, last_of}
 use Rattle.state_deliveries.specs.declared.change.Change.{Change}
 use Rattle.state_deliveries.specs.declared.change.Change.TheVariants as change
-use Rattle.state_deliveries.specs.Stepping.{is_in, untold_by, behind}
+use Rattle.state_deliveries.specs.Stepping.{is_in, untold_by, after_change}
 
 abbrev pub decided_by : ℕ → ℕ → Disposition → Option DeliveryState → Option Change
 decided_by c own x None = None
@@ -38,8 +38,8 @@ is_named_in first last names n (Some d) = is_in d.id first last && is_named d.id
 -- how a change changes a delivery: a decision applies only to one that an id names
 abbrev pub done_to : Change → (ℕ → ℕ → ℕ → Option ℕ) → ℕ → Option Delivery → Option Delivery
 done_to (change.Decided c own first last made) names n v =
-    if is_named_in first last (names c own) n v then behind (change.Decided c own first last made) v else v
-done_to x names n v = behind x v
+    if is_named_in first last (names c own) n v then after_change (change.Decided c own first last made) v else v
+done_to x names n v = after_change x v
 
 abbrev pub heard_by : Option Change → (ℕ → ℕ → ℕ → Option ℕ) → ℕ → Option Delivery → Option Delivery
 heard_by None names n v = v

@@ -7,7 +7,7 @@ use Rattle.std.specs.declared.ops.Bound.TheVariants.{Excluded, Unbounded}
 use Rattle.std.specs.BTreeMap.{is_at}
 use Rattle.std.specs.BTreeMap.Range.{IsFromStart}
 use Rattle.std.specs.BTreeSet.{contains}
-use Rattle.state_collections.specs.Marks.{has as is_marked}
+use Rattle.state_collections.specs.NumberSet.{has as is_marked}
 use Rattle.router_trace.specs.declared.binding.Origin.{Origin}
 use Rattle.router_trace.specs.Deliveries.{Delivery, has_row, source, sender, holder, is_over, is_undecided, unless_over, is_number}
 use Rattle.state_deliveries.specs.declared.by_link.ByLink.{ByLink}
@@ -16,8 +16,8 @@ use Rattle.state_deliveries.specs.declared.change.Change.TheVariants as change
 use Rattle.state_deliveries.specs.declared.index.Index.{Index}
 use Rattle.state_deliveries.specs.declared.index.Keys.{Keys}
 use Rattle.state_deliveries.specs.declared.index.Moved.{Moved}
-use Rattle.state_deliveries.specs.declared.spots.Spot.{Spot}
-use Rattle.state_deliveries.specs.Placing.{SpotsFit, HandlesFit, IdsFit, spot_of, on_spot, from_spot, id_spot, own_spot, is_gone_there, is_id_there}
+use Rattle.state_deliveries.specs.declared.place_index.SessionPlace.{SessionPlace}
+use Rattle.state_deliveries.specs.Placing.{PlaceIndexFit, HandlesFit, IdsFit, place_of, on_place, from_place, id_place, own_place, is_gone_there, is_id_there}
 use Rattle.state_deliveries.specs.Tallying.{IsTallied, AreTallied}
 
 -- a link and a number; ordered by link, then by number
@@ -52,9 +52,9 @@ number_on k None = None
 number_on k (Some p) = if p.0 == k then Some p.1 else None
 
 -- where the pairs of the links above this one begin, or those of all
-abbrev pub behind_link : Option ℕ → Bound Pair
-behind_link None = Unbounded
-behind_link (Some k) = Excluded (k, 18446744073709551615)
+abbrev pub after_link : Option ℕ → Bound Pair
+after_link None = Unbounded
+after_link (Some k) = Excluded (k, 18446744073709551615)
 
 -- the entries of a delivery in the indexes
 abbrev pub on_link : ℕ → Bool → Option ℕ
@@ -65,8 +65,8 @@ from_link None holds = None
 from_link (Some p) holds = on_link p.link.number holds
 
 -- the place of the id that the router gave, of an undecided delivery with a row
-abbrev pub durable_spot : Delivery → Option Spot
-durable_spot d = if is_undecided d && has_row d.name then own_spot d.link d.id else None
+abbrev pub durable_place : Delivery → Option SessionPlace
+durable_place d = if is_undecided d && has_row d.name then own_place d.link d.id else None
 
 abbrev pub keys : Delivery → Keys
 keys d = record {
@@ -75,10 +75,10 @@ keys d = record {
   undecided = on_link d.link.number (is_none d.outcome && not d.suspended);
   held = from_link (holder d) (is_none d.outcome || has_row d.name);
   to_tell = not (is_none d.outcome) && is_some d.origin;
-  on = on_spot (spot_of d.link) (d.going_on || (is_none d.outcome && not d.suspended));
-  from = from_spot (sender d);
-  by_id = id_spot (source d);
-  durable = durable_spot d;
+  on = on_place (place_of d.link) (d.going_on || (is_none d.outcome && not d.suspended));
+  from = from_place (sender d);
+  by_id = id_place (source d);
+  durable = durable_place d;
 }
 
 abbrev pub nowhere : Keys
@@ -101,7 +101,7 @@ pub record Indexes (s : Index) (known : ℕ → Keys) : Type 0 where
   pub on : HandlesFit s.on (λ n. (known n).on)
   pub from : HandlesFit s.from (λ n. (known n).from)
   pub by_id : IdsFit s.by_id (λ n. (known n).by_id)
-  pub durable : SpotsFit s.durable (λ n. (known n).durable)
+  pub durable : PlaceIndexFit s.durable (λ n. (known n).durable)
 
 -- the change isn't a consumer's disposition, which finds its deliveries by their ids
 abbrev pub is_by_place : Change → Bool

@@ -8,7 +8,7 @@ use Rattle.amqp_model.specs.declared.perf.Role.{Role}
 use Rattle.amqp_model.specs.declared.perf.Role.TheVariants.{Sender, Receiver}
 use Rattle.router_trace.specs.declared.binding.Origin.{Origin}
 use Rattle.router_trace.specs.declared.handle.Attachment.{Attachment}
-use Rattle.router_trace.specs.Deliveries.{Delivery, source, unless_over, stands_on, untold, unsettled, is_undecided, is_gone_with, behind_ends, last_of}
+use Rattle.router_trace.specs.Deliveries.{Delivery, source, unless_over, stands_on, untold, unsettled, is_undecided, is_gone_with, after_ends, last_of}
 use Rattle.state_deliveries.specs.declared.change.Gone.{Gone}
 use Rattle.state_deliveries.specs.declared.change.Gone.TheVariants as gone
 use Rattle.state_deliveries.specs.declared.change.Change.{Change}
@@ -37,7 +37,7 @@ abbrev pub is_decided_by : Delivery → ℕ → ℕ → ℕ → ℕ → Bool
 is_decided_by d c o first last = is_undecided d && (stands_on d.link c o && is_in d.id first last)
 
 abbrev pub changed : Change → Delivery → Delivery
-changed (change.Ends g closed) d = behind_ends closed (is_gone g) d
+changed (change.Ends g closed) d = after_ends closed (is_gone g) d
 changed (change.Untold c o first last) d = if comes_with_id (source d) c o first last then untold d else d
 changed (change.Told c o first last) d = if comes_with_id (source d) c o first last then unsettled d else d
 changed (change.Decided c o first last made) d = if is_decided_by d c o first last then record d { outcome = Some made } else d
@@ -64,12 +64,12 @@ put_change c own _ = None
 abbrev pub step : Change → Delivery → Option Delivery
 step x d = unless_over (changed x d)
 
-abbrev pub behind : Change → Option Delivery → Option Delivery
-behind x v = option_and_then (step x) v
+abbrev pub after_change : Change → Option Delivery → Option Delivery
+after_change x v = option_and_then (step x) v
 
-abbrev pub behind_any : Option Change → Option Delivery → Option Delivery
-behind_any None v = v
-behind_any (Some x) v = behind x v
+abbrev pub after_any : Option Change → Option Delivery → Option Delivery
+after_any None v = v
+after_any (Some x) v = after_change x v
 
 -- a delivery isn't over
 abbrev pub IsKept : Option Delivery → Type 0

@@ -1,6 +1,6 @@
 -- How many deliveries a link has.
 use Rattle.std.specs.Prelude.{◌≡◌, ◌==◌, ◌+◌, ◌-◌, ◌&&◌, ℕ, Bool, false, if◌then◌else◌, Option, Some, None, unwrap_or}
-use Rattle.state_collections.specs.Slots.{in_slots}
+use Rattle.state_collections.specs.NumberMap.{at_number}
 use Rattle.router_trace.specs.Deliveries.{is_number}
 use Rattle.state_deliveries.specs.declared.consumers.Consumers.{Consumers}
 use Rattle.state_deliveries.specs.declared.consumers.OfLink.{OfLink}
@@ -8,7 +8,7 @@ use Rattle.state_deliveries.specs.declared.tallies.Tallies.{Tallies}
 use Rattle.router_trace.specs.Counting.{IsCount}
 
 abbrev pub tally : Tallies → ℕ → ℕ
-tally s k = unwrap_or (in_slots s.counts k) 0
+tally s k = unwrap_or (at_number s.counts k) 0
 
 abbrev pub is_zero : Option ℕ → Bool
 is_zero None = false
@@ -17,7 +17,7 @@ is_zero (Some n) = n == 0
 -- of each link it is the number of those known to be on it, and no link without any has an entry
 pub record IsTallied (s : Tallies) (known : ℕ → Option ℕ) : Type 0 where
   pub counts : (k : ℕ) → IsCount (λ n. is_number (known n) k) (tally s k)
-  pub needed : (k : ℕ) → is_zero (in_slots s.counts k) ≡ false
+  pub needed : (k : ℕ) → is_zero (at_number s.counts k) ≡ false
 
 -- how many of a consumer's link wait to start, and how many are undecided
 abbrev pub waiting_of : Option OfLink → ℕ
@@ -29,10 +29,10 @@ undecided_of None = 0
 undecided_of (Some r) = r.undecided
 
 abbrev pub waiting_at : Consumers → ℕ → ℕ
-waiting_at s k = waiting_of (in_slots s.rows k)
+waiting_at s k = waiting_of (at_number s.rows k)
 
 abbrev pub undecided_at : Consumers → ℕ → ℕ
-undecided_at s k = undecided_of (in_slots s.rows k)
+undecided_at s k = undecided_of (at_number s.rows k)
 
 -- a row that counts none
 abbrev pub has_none : Option OfLink → Bool
@@ -43,7 +43,7 @@ has_none (Some r) = (r.waiting == 0) && (r.undecided == 0)
 pub record AreTallied (s : Consumers) (waits lasts : ℕ → Option ℕ) : Type 0 where
   pub waiting : (k : ℕ) → IsCount (λ n. is_number (waits n) k) (waiting_at s k)
   pub undecided : (k : ℕ) → IsCount (λ n. is_number (lasts n) k) (undecided_at s k)
-  pub needed : (k : ℕ) → has_none (in_slots s.rows k) ≡ false
+  pub needed : (k : ℕ) → has_none (at_number s.rows k) ≡ false
 
 -- a link, unless the other one is the same
 abbrev pub unless_at : Option ℕ → Option ℕ → Option ℕ

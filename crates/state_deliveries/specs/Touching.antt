@@ -1,7 +1,7 @@
 -- Links whose deliveries may have changed since they were last forgotten.
 use Rattle.std.specs.Prelude.{◌≡◌, ℕ, Bool, false, Option}
-use Rattle.state_collections.specs.Slots.{in_slots}
-use Rattle.state_collections.specs.Marks.{has as is_marked}
+use Rattle.state_collections.specs.NumberMap.{at_number}
+use Rattle.state_collections.specs.NumberSet.{has as is_marked}
 use Rattle.router_trace.specs.Deliveries.{Delivery, is_number, waits_on, undecided_on, held_from}
 use Rattle.state_deliveries.specs.declared.deliveries.Deliveries.{Deliveries}
 use Rattle.state_deliveries.specs.declared.index.Keys.{Keys}
@@ -30,7 +30,7 @@ pub record StandsSame (k : ℕ) (a b : Keys) : Type 0 where
 -- the links that are not touched have not changed and were not touched before
 pub record StoreTouches (old new : Store) : Type 0 where
   pub before : (k : ℕ) → is_touched_in new.touched k ≡ false → is_touched_in old.touched k ≡ false
-  pub same : (k n : ℕ) → is_touched_in new.touched k ≡ false → IsSameOn k (in_slots old.deliveries n) (in_slots new.deliveries n)
+  pub same : (k n : ℕ) → is_touched_in new.touched k ≡ false → IsSameOn k (at_number old.deliveries n) (at_number new.deliveries n)
 
 abbrev pub Touches : Deliveries → Deliveries → Type 0
 Touches old new = StoreTouches old.store new.store

@@ -7,7 +7,7 @@ ghost use Rattle.std.specs.BTreeSet.{contains};
 ghost use Rattle.std.specs.declared.ops.Bound.{Bound as TheBound};
 ghost use Rattle.router_trace.specs.Deliveries.{is_number};
 ghost use Rattle.state_deliveries.specs.Finding.{IsFirst, IsFirstLink};
-ghost use Rattle.state_deliveries.specs.Indexing.{Pair as ThePair, pair_cmp, is_pair, has_pair, IsFirstPair, number_on, behind_link, in_group};
+ghost use Rattle.state_deliveries.specs.Indexing.{Pair as ThePair, pair_cmp, is_pair, has_pair, IsFirstPair, number_on, after_link, in_group};
 
 use std::alloc::{AllocError, Global};
 use std::collections::BTreeSet;
@@ -44,7 +44,7 @@ impl ByLink {
     }
 
     /// The lowest number of a link above `number`.
-    pub(crate) fn first_behind(&self, link: u64, number: u64) -> Option<u64>
+    pub(crate) fn first_after(&self, link: u64, number: u64) -> Option<u64>
         ensures { IsFirst (λ n. nat_lt number n && in_group self.now link n) result }
     {
         let found = self.first_pair(Bound::Excluded((link, number)));
@@ -52,10 +52,10 @@ impl ByLink {
     }
 
     /// The lowest link, above `link` or of all, that has numbers.
-    pub(crate) fn link_behind(&self, link: Option<u64>) -> Option<u64>
+    pub(crate) fn link_after(&self, link: Option<u64>) -> Option<u64>
         ensures { IsFirstLink (in_group self.now) link result }
     {
-        match self.first_pair(behind_link(link)) {
+        match self.first_pair(after_link(link)) {
             None => None,
             Some(pair) => Some(pair.0),
         }
@@ -153,13 +153,13 @@ fn is_from(low: Bound<Pair>, pair: Pair) -> bool
 {
     match low {
         Bound::Unbounded => true,
-        Bound::Included(bound) => !is_behind(bound, pair),
-        Bound::Excluded(bound) => is_behind(pair, bound),
+        Bound::Included(bound) => !is_after(bound, pair),
+        Bound::Excluded(bound) => is_after(pair, bound),
     }
 }
 
-/// Whether a pair stands behind another.
-fn is_behind(pair: Pair, other: Pair) -> bool
+/// Whether a pair stands after another.
+fn is_after(pair: Pair, other: Pair) -> bool
     ensures { result ≡ is_gt (pair_cmp pair other) }
 {
     pair.0 > other.0 || (pair.0 == other.0 && pair.1 > other.1)
@@ -173,7 +173,7 @@ fn lower(one: Option<Pair>, other: Option<Pair>) -> Option<Pair>
         (None, other) => other,
         (one, None) => one,
         (Some(one), Some(other)) => {
-            if is_behind(one, other) {
+            if is_after(one, other) {
                 Some(other)
             } else {
                 Some(one)
@@ -207,8 +207,8 @@ fn number_on(link: u64, pair: Option<Pair>) -> Option<u64>
 }
 
 /// The bound from which the pairs of the links above this one begin, or those of all.
-fn behind_link(link: Option<u64>) -> Bound<Pair>
-    ensures { result ≡ behind_link link }
+fn after_link(link: Option<u64>) -> Bound<Pair>
+    ensures { result ≡ after_link link }
 {
     match link {
         None => Bound::Unbounded,

@@ -1,7 +1,7 @@
 //! The numbers of deliveries by their names.
 ghost use Rattle.std.specs.Prelude.{◌≡◌, ◌==◌, ℕ, Some, None, if◌then◌else◌, OnOk};
 ghost use Rattle.std.specs.Option.{option_and_then};
-ghost use Rattle.state_collections.specs.Slots.{in_slots};
+ghost use Rattle.state_collections.specs.NumberMap.{at_number};
 ghost use Rattle.router_trace.specs.declared.binding.DeliveryName.{DeliveryName as Name};
 ghost use Rattle.router_trace.specs.Deliveries.{same_name, carried, number_tagged, tag_in};
 ghost use Rattle.state_deliveries.specs.Calling.{at_name};
@@ -9,7 +9,7 @@ ghost use Rattle.state_deliveries.specs.Calling.{at_name};
 use crate::tag::tagged;
 use amqp_model::Transfer;
 use router_trace::DeliveryName;
-use state_collections::Slots;
+use state_collections::NumberMap;
 use std::alloc::{AllocError, Global};
 
 /// So many neighbouring rows, and as many counters, are found without an ordered map.
@@ -18,19 +18,19 @@ const PLACES: usize = 1024;
 /// The numbers of deliveries by their names.
 #[derive(Drop)]
 pub(crate) struct ByName {
-    rows: Slots<u64>,
-    counters: Slots<u64>,
+    rows: NumberMap<u64>,
+    counters: NumberMap<u64>,
 }
 
 impl ByName {
     /// An empty table.
     pub(crate) fn new(alloc: Global) -> ByName
-        ensures rows { (k : ℕ) → in_slots result.rows k ≡ None }
-        ensures counters { (k : ℕ) → in_slots result.counters k ≡ None }
+        ensures rows { (k : ℕ) → at_number result.rows k ≡ None }
+        ensures counters { (k : ℕ) → at_number result.counters k ≡ None }
     {
         ByName {
-            rows: Slots::new(alloc, PLACES),
-            counters: Slots::new(alloc, PLACES),
+            rows: NumberMap::new(alloc, PLACES),
+            counters: NumberMap::new(alloc, PLACES),
         }
     }
 
@@ -93,16 +93,16 @@ impl ByName {
 }
 
 /// Puts a number at a key.
-fn insert(numbers: &mut Slots<u64>, key: u64, number: u64) -> Result<(), AllocError>
-    ensures { OnOk result ((k : ℕ) → in_slots numbers.new k ≡ (if key == k then Some number else in_slots numbers.old k)) }
+fn insert(numbers: &mut NumberMap<u64>, key: u64, number: u64) -> Result<(), AllocError>
+    ensures { OnOk result ((k : ℕ) → at_number numbers.new k ≡ (if key == k then Some number else at_number numbers.old k)) }
 {
     let _ = numbers.insert(key, number)?;
     Ok(())
 }
 
 /// Removes the number at a key.
-fn remove(numbers: &mut Slots<u64>, key: u64)
-    ensures { (k : ℕ) → in_slots numbers.new k ≡ (if key == k then None else in_slots numbers.old k) }
+fn remove(numbers: &mut NumberMap<u64>, key: u64)
+    ensures { (k : ℕ) → at_number numbers.new k ≡ (if key == k then None else at_number numbers.old k) }
 {
     let _ = numbers.remove(key);
 }

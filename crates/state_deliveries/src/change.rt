@@ -98,7 +98,7 @@ impl Change {
     pub fn of_item(conn: u64, own: Option<u16>, item: &Item) -> Result<Option<Change>, AllocError>
         ensures { IfOk result (λ made. made ≡ heard_change conn own item.now) }
     {
-        behind_heard(conn, own, item)
+        after_heard(conn, own, item)
     }
 }
 
@@ -128,7 +128,7 @@ impl Gone {
 }
 
 /// The immediate change to deliveries when the router sends a performative on its channel `own`.
-pub(crate) fn behind_put(conn: u64, own: u16, perf: &Perf) -> Option<Change>
+pub(crate) fn after_put(conn: u64, own: u16, perf: &Perf) -> Option<Change>
     ensures { result ≡ put_change conn own perf.now }
 {
     match perf {
@@ -195,7 +195,7 @@ pub(crate) fn untold_by(conn: u64, own: u16, disposition: &Disposition) -> Optio
 }
 
 /// The immediate change to deliveries by an item of the peer, on the session with the router's channel `own`, if there is one.
-pub(crate) fn behind_heard(
+pub(crate) fn after_heard(
     conn: u64,
     own: Option<u16>,
     item: &Item,
@@ -207,14 +207,14 @@ pub(crate) fn behind_heard(
             if *sasl {
                 return Ok(None);
             }
-            behind_perf(conn, own, perf)
+            after_perf(conn, own, perf)
         }
         _ => Ok(None),
     }
 }
 
 /// The immediate change to deliveries by a performative of the peer.
-fn behind_perf(conn: u64, own: Option<u16>, perf: &Perf) -> Result<Option<Change>, AllocError>
+fn after_perf(conn: u64, own: Option<u16>, perf: &Perf) -> Result<Option<Change>, AllocError>
     ensures { IfOk result (λ change. change ≡ heard_in_change conn own perf.now) }
 {
     match perf {

@@ -1,11 +1,11 @@
 //! How many deliveries of each consumer's link wait to start, and how many are undecided.
 ghost use Rattle.std.specs.Prelude.{◌≡◌, ◌==◌, ◌+◌, ◌-◌, ◌&&◌, ◌||◌, ℕ, Bool, Option, None, true, false, if◌then◌else◌, OnOk, IfOk};
-ghost use Rattle.state_collections.specs.Slots.{in_slots};
+ghost use Rattle.state_collections.specs.NumberMap.{at_number};
 ghost use Rattle.router_trace.specs.Deliveries.{is_number};
 ghost use Rattle.state_deliveries.specs.Tallying.{waiting_at, undecided_at, has_none, AreTallied, unless_at, more, less};
 
 use crate::index::Keys;
-use state_collections::Slots;
+use state_collections::NumberMap;
 use std::alloc::{AllocError, Global};
 
 /// The rows of so many links with neighbouring numbers are found without an ordered map.
@@ -25,7 +25,7 @@ pub(crate) struct OfLink {
 /// Both stand in one row, since they mostly change at the same link.
 #[derive(Drop)]
 pub(crate) struct Consumers {
-    rows: Slots<OfLink>,
+    rows: NumberMap<OfLink>,
 }
 
 impl Consumers {
@@ -35,7 +35,7 @@ impl Consumers {
         ensures { AreTallied result (λ n. None) (λ n. None) }
     {
         Consumers {
-            rows: Slots::new(alloc, PLACES),
+            rows: NumberMap::new(alloc, PLACES),
         }
     }
 
@@ -80,7 +80,7 @@ impl Consumers {
     fn drop_from(&mut self, waiting: Option<u64>, undecided: Option<u64>)
         ensures waiting { (k : ℕ) → waiting_at self.new k ≡ less (is_number waiting k) (waiting_at self.old k) }
         ensures undecided { (k : ℕ) → undecided_at self.new k ≡ less (is_number undecided k) (undecided_at self.old k) }
-        ensures needed { (k : ℕ) → has_none (in_slots self.old.rows k) ≡ false → has_none (in_slots self.new.rows k) ≡ false }
+        ensures needed { (k : ℕ) → has_none (at_number self.old.rows k) ≡ false → has_none (at_number self.new.rows k) ≡ false }
     {
         if waiting == undecided {
             self.drop_at(waiting, true, true);
@@ -94,7 +94,7 @@ impl Consumers {
     fn drop_at(&mut self, link: Option<u64>, waiting: bool, undecided: bool)
         ensures waiting { (k : ℕ) → waiting_at self.new k ≡ less (is_number link k && waiting) (waiting_at self.old k) }
         ensures undecided { (k : ℕ) → undecided_at self.new k ≡ less (is_number link k && undecided) (undecided_at self.old k) }
-        ensures needed { (k : ℕ) → has_none (in_slots self.old.rows k) ≡ false → has_none (in_slots self.new.rows k) ≡ false }
+        ensures needed { (k : ℕ) → has_none (at_number self.old.rows k) ≡ false → has_none (at_number self.new.rows k) ≡ false }
     {
         let Some(link) = link else {
             return;
@@ -113,7 +113,7 @@ impl Consumers {
     fn add_to(&mut self, waiting: Option<u64>, undecided: Option<u64>) -> Result<(), AllocError>
         ensures waiting { OnOk result ((k : ℕ) → waiting_at self.new k ≡ more (is_number waiting k) (waiting_at self.old k)) }
         ensures undecided { OnOk result ((k : ℕ) → undecided_at self.new k ≡ more (is_number undecided k) (undecided_at self.old k)) }
-        ensures needed { OnOk result ((k : ℕ) → has_none (in_slots self.old.rows k) ≡ false → has_none (in_slots self.new.rows k) ≡ false) }
+        ensures needed { OnOk result ((k : ℕ) → has_none (at_number self.old.rows k) ≡ false → has_none (at_number self.new.rows k) ≡ false) }
     {
         if waiting == undecided {
             self.add_at(waiting, true, true)?;
@@ -133,7 +133,7 @@ impl Consumers {
     ) -> Result<(), AllocError>
         ensures waiting { OnOk result ((k : ℕ) → waiting_at self.new k ≡ more (is_number link k && waiting) (waiting_at self.old k)) }
         ensures undecided { OnOk result ((k : ℕ) → undecided_at self.new k ≡ more (is_number link k && undecided) (undecided_at self.old k)) }
-        ensures needed { OnOk result ((waiting || undecided) ≡ true → (k : ℕ) → has_none (in_slots self.old.rows k) ≡ false → has_none (in_slots self.new.rows k) ≡ false) }
+        ensures needed { OnOk result ((waiting || undecided) ≡ true → (k : ℕ) → has_none (at_number self.old.rows k) ≡ false → has_none (at_number self.new.rows k) ≡ false) }
     {
         let Some(link) = link else {
             return Ok(());

@@ -4,7 +4,7 @@ ghost use Rattle.std.specs.List.{flat_map};
 ghost use Rattle.std.specs.List.Sorted.{IsStrictlySortedBy};
 ghost use Rattle.std.specs.Option.{option_map};
 ghost use Rattle.std.specs.Ordering.{nat_cmp};
-ghost use Rattle.state_collections.specs.Slots.{in_slots};
+ghost use Rattle.state_collections.specs.NumberMap.{at_number};
 ghost use Rattle.router_trace.specs.Trace.{Entry};
 ghost use Rattle.state_deliveries.specs.Deciding.{bare, changed_by, row_of, open_row, outcome_of_row, decision_of, decided_rows, row_from, rows_from};
 ghost use Rattle.state_deliveries.specs.Fits.{StoreFit};
@@ -40,7 +40,7 @@ fn append_decisions(
     numbers: &BTreeSet<u64>,
     changes: &[Change],
 ) -> Result<(), AllocError>
-    ensures rows { OnOk result (rows.new.items ≡ rows.old.items ++ flat_map (λ n. decision_of changes.now (in_slots store.now.deliveries n)) numbers.now.keys) }
+    ensures rows { OnOk result (rows.new.items ≡ rows.old.items ++ flat_map (λ n. decision_of changes.now (at_number store.now.deliveries n)) numbers.now.keys) }
     ensures rise { OnOk result (IsStrictlySortedBy nat_cmp numbers.now.keys) }
 {
     for number in numbers {
@@ -158,7 +158,7 @@ fn append_rows(
     first: u32,
     last: u32,
 ) -> Result<(), AllocError>
-    ensures rows { OnOk result (rows.new.items ≡ rows.old.items ++ flat_map (λ n. row_from conn own first last (in_slots store.now.deliveries n)) numbers.now.keys) }
+    ensures rows { OnOk result (rows.new.items ≡ rows.old.items ++ flat_map (λ n. row_from conn own first last (at_number store.now.deliveries n)) numbers.now.keys) }
     ensures rise { OnOk result (IsStrictlySortedBy nat_cmp numbers.now.keys) }
 {
     for number in numbers {

@@ -1,7 +1,7 @@
 //! The table of deliveries.
 ghost use Rattle.std.specs.Prelude.{◌≡◌, ◌==◌, ◌&&◌, ◌∷◌, List, ℕ, OnOk, IfOk, false, if◌then◌else◌};
 ghost use Rattle.std.specs.Option.{option_map, is_none, is_some};
-ghost use Rattle.state_collections.specs.Slots.{in_slots};
+ghost use Rattle.state_collections.specs.NumberMap.{at_number};
 ghost use Rattle.router_trace.specs.Trace.{Beginning};
 ghost use Rattle.router_trace.specs.Configuration.{beginning};
 ghost use Rattle.router_trace.specs.Trace.{Entry, Out, Bound, did};
@@ -19,7 +19,7 @@ ghost use Rattle.router_trace.specs.Channels.{channel_of};
 ghost use Rattle.state_deliveries.specs.Fits.{DeliveriesFit, AreSending};
 ghost use Rattle.state_deliveries.specs.Touching.{is_touched, Touches};
 
-use crate::change::{Change, behind_heard};
+use crate::change::{Change, after_heard};
 use crate::deciding::{decided_rows, rows_from};
 use crate::delivery::Delivery;
 use crate::hearing::hear;
@@ -98,17 +98,17 @@ impl Deliveries {
     }
 
     /// The first delivery, above a number or of all, of which frames remain to be sent on the link with this number.
-    pub fn unsent_behind(&self, link: u64, number: Option<u64>) -> Option<u64>
+    pub fn unsent_after(&self, link: u64, number: Option<u64>) -> Option<u64>
         ensures { (t : List Entry) → DeliveriesFit self.now t → IsFirst (λ n. is_above number n && is_unsent_on link (delivery t n)) result }
     {
-        self.store.unsent_behind(link, number.unwrap_or(0))
+        self.store.unsent_after(link, number.unwrap_or(0))
     }
 
     /// The lowest number of a link, above this one or of all, on which frames of a delivery remain to be sent.
-    pub fn unsent_link_behind(&self, link: Option<u64>) -> Option<u64>
+    pub fn unsent_link_after(&self, link: Option<u64>) -> Option<u64>
         ensures { (t : List Entry) → DeliveriesFit self.now t → IsFirst (λ k. is_above link k && is_some (first_delivery t (is_unsent_on k))) result }
     {
-        self.store.unsent_link_behind(link)
+        self.store.unsent_link_after(link)
     }
 
     /// The lowest number of a link whose waiting, undecided or held deliveries may have changed since it was last forgotten.
@@ -122,7 +122,7 @@ impl Deliveries {
     pub fn forget_touched(&mut self, link: u64)
         ensures fits { (t : List Entry) → DeliveriesFit self.old t → DeliveriesFit self.new t }
         ensures touched { (k : ℕ) → is_touched self.new k ≡ (if link == k then false else is_touched self.old k) }
-        ensures deliveries { (n : ℕ) → in_slots self.new.store.deliveries n ≡ in_slots self.old.store.deliveries n }
+        ensures deliveries { (n : ℕ) → at_number self.new.store.deliveries n ≡ at_number self.old.store.deliveries n }
     {
         self.store.forget_touched(link);
     }
@@ -144,10 +144,10 @@ impl Deliveries {
     }
 
     /// The lowest number of a delivery, above this one or of all, whose outcome must be reported to its producer.
-    pub fn to_tell_behind(&self, number: Option<u64>) -> Option<u64>
+    pub fn to_tell_after(&self, number: Option<u64>) -> Option<u64>
         ensures { (t : List Entry) → DeliveriesFit self.now t → IsFirst (λ n. is_above number n && is_to_tell (delivery t n)) result }
     {
-        self.store.to_tell_behind(number)
+        self.store.to_tell_after(number)
     }
 
     /// The number of the delivery that an id of a router's session names; it may be missing if the delivery isn't undecided.
@@ -248,7 +248,7 @@ impl Deliveries {
             → DeliveriesFit self.old t → DeliveriesFit self.new (did (event.Item conn item.now) ∷ t)) }
         ensures touches { OnOk result (Touches self.old self.new) }
     {
-        let change = behind_heard(conn.0, own, item)?;
+        let change = after_heard(conn.0, own, item)?;
         hear(&mut self.store, &self.names, change)?;
         self.names.settle_heard(&self.store, conn.0, own, item)?;
         Ok(())

@@ -1,7 +1,7 @@
 //! Deliveries as the table keeps them.
 ghost use Rattle.std.specs.Prelude.{◌≡◌, ◌&&◌, OnOk, Some, if◌then◌else◌};
 ghost use Rattle.router_trace.specs.Settling.{is_open_as};
-ghost use Rattle.router_trace.specs.Deliveries.{bound, source, sender, holder, is_over, is_undecided, behind_frame, untold, unsettled, forsaken, ended, behind_ends};
+ghost use Rattle.router_trace.specs.Deliveries.{bound, source, sender, holder, is_over, is_undecided, after_frame, untold, unsettled, forsaken, ended, after_ends};
 ghost use Rattle.state_deliveries.specs.Deciding.{bare, changed_by};
 ghost use Rattle.state_deliveries.specs.Stepping.{is_gone, is_decided_by, comes_with_id, changed};
 
@@ -148,7 +148,7 @@ impl Delivery {
 
     /// Notes a transfer that carries `count` bytes of it. Fails if its byte count overflows.
     pub(crate) fn note_frame(&mut self, transfer: &Transfer, count: u64) -> Result<(), AllocError>
-        ensures { OnOk result (self.new ≡ behind_frame transfer.now count self.old) }
+        ensures { OnOk result (self.new ≡ after_frame transfer.now count self.old) }
     {
         let Some(sent) = self.sent.checked_add(count) else {
             return Err(AllocError);
@@ -214,7 +214,7 @@ impl Delivery {
 
     /// Links end, closed for good or not, which may be its own or its producer's.
     fn leave(&mut self, closed: bool, gone: Gone)
-        ensures { self.new ≡ behind_ends closed (is_gone gone) self.old }
+        ensures { self.new ≡ after_ends closed (is_gone gone) self.old }
     {
         if gone.has(self.link) {
             self.end(closed);

@@ -1,11 +1,11 @@
 //! How a peer's disposition changes the deliveries of a table.
 ghost use Rattle.std.specs.Prelude.{◌≡◌, if◌then◌else◌, ℕ, OnOk};
-ghost use Rattle.state_collections.specs.Slots.{in_slots};
+ghost use Rattle.state_collections.specs.NumberMap.{at_number};
 ghost use Rattle.state_deliveries.specs.Fits.{Indexed};
 ghost use Rattle.state_deliveries.specs.Hearing.{heard_by, done_to};
 ghost use Rattle.state_deliveries.specs.Naming.{AreSmall};
 ghost use Rattle.state_collections.specs.Ids.{at_id};
-ghost use Rattle.state_deliveries.specs.Stepping.{IsKept, behind};
+ghost use Rattle.state_deliveries.specs.Stepping.{IsKept, after_change};
 ghost use Rattle.state_deliveries.specs.Touching.{StoreTouches};
 ghost use Rattle.router_trace.specs.Deliveries.{is_number};
 
@@ -21,8 +21,8 @@ pub(crate) fn hear(
     names: &Names,
     change: Option<Change>,
 ) -> Result<(), AllocError>
-    ensures deliveries { OnOk result (((n : ℕ) → IsKept (in_slots store.old.deliveries n)) → Indexed store.old → AreSmall (at_id names.now.ids)
-        → (n : ℕ) → in_slots store.new.deliveries n ≡ heard_by change (at_id names.now.ids) n (in_slots store.old.deliveries n)) }
+    ensures deliveries { OnOk result (((n : ℕ) → IsKept (at_number store.old.deliveries n)) → Indexed store.old → AreSmall (at_id names.now.ids)
+        → (n : ℕ) → at_number store.new.deliveries n ≡ heard_by change (at_id names.now.ids) n (at_number store.old.deliveries n)) }
     ensures indexed { OnOk result (Indexed store.old → Indexed store.new) }
     ensures touches { OnOk result (StoreTouches store.old store.new) }
 {
@@ -34,8 +34,8 @@ pub(crate) fn hear(
 
 /// Applies a change to the deliveries. A decision of one id alone looks that id up, and no list is made.
 fn hear_one(store: &mut Store, names: &Names, change: &Change) -> Result<(), AllocError>
-    ensures deliveries { OnOk result (((n : ℕ) → IsKept (in_slots store.old.deliveries n)) → Indexed store.old → AreSmall (at_id names.now.ids)
-        → (n : ℕ) → in_slots store.new.deliveries n ≡ done_to change.now (at_id names.now.ids) n (in_slots store.old.deliveries n)) }
+    ensures deliveries { OnOk result (((n : ℕ) → IsKept (at_number store.old.deliveries n)) → Indexed store.old → AreSmall (at_id names.now.ids)
+        → (n : ℕ) → at_number store.new.deliveries n ≡ done_to change.now (at_id names.now.ids) n (at_number store.old.deliveries n)) }
     ensures indexed { OnOk result (Indexed store.old → Indexed store.new) }
     ensures touches { OnOk result (StoreTouches store.old store.new) }
 {
@@ -60,8 +60,8 @@ fn hear_one(store: &mut Store, names: &Names, change: &Change) -> Result<(), All
 /// Applies a change to the delivery with a number, if there is one.
 #[tactic(auto, using(crate::proofs::Touching::touches_self))]
 fn decide(store: &mut Store, number: Option<u64>, change: &Change) -> Result<(), AllocError>
-    ensures deliveries { OnOk result ((n : ℕ) → in_slots store.new.deliveries n
-        ≡ (if is_number number n then behind change.now (in_slots store.old.deliveries n) else in_slots store.old.deliveries n)) }
+    ensures deliveries { OnOk result ((n : ℕ) → at_number store.new.deliveries n
+        ≡ (if is_number number n then after_change change.now (at_number store.old.deliveries n) else at_number store.old.deliveries n)) }
     ensures indexed { OnOk result (Indexed store.old → Indexed store.new) }
     ensures touches { OnOk result (StoreTouches store.old store.new) }
 {

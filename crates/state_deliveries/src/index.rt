@@ -2,12 +2,12 @@
 ghost use Rattle.std.specs.Prelude.{◌≡◌, ◌==◌, ℕ, Bool, None, true, false, if◌then◌else◌, OnOk, IfOk, ◌||◌};
 ghost use Rattle.std.specs.Ordering.{nat_cmp};
 ghost use Rattle.std.specs.BTreeSet.{contains};
-ghost use Rattle.state_collections.specs.Marks.{has as is_marked};
+ghost use Rattle.state_collections.specs.NumberSet.{has as is_marked};
 ghost use Rattle.state_deliveries.specs.declared.index.Keys.{Keys as TheKeys};
 ghost use Rattle.state_deliveries.specs.Deciding.{decides, decide};
 ghost use Rattle.router_trace.specs.Deliveries.{is_over, unless_over};
-ghost use Rattle.state_deliveries.specs.Indexing.{Indexes, nowhere, keys, standing, moved, on_link, durable_spot, concerns};
-ghost use Rattle.state_deliveries.specs.Placing.{spot_of, on_spot, from_spot, id_spot, own_spot, is_gone_there};
+ghost use Rattle.state_deliveries.specs.Indexing.{Indexes, nowhere, keys, standing, moved, on_link, durable_place, concerns};
+ghost use Rattle.state_deliveries.specs.Placing.{place_of, on_place, from_place, id_place, own_place, is_gone_there};
 ghost use Rattle.amqp_session.specs.Ranges.{has};
 
 use crate::by_id::ById;
@@ -17,10 +17,10 @@ use crate::consumers::Consumers;
 use crate::delivery::Delivery;
 use crate::handles::Handles;
 use crate::sets::add;
-use crate::spots::{Spot, Spots};
+use crate::place_index::{SessionPlace, PlaceIndex};
 use crate::tallies::Tallies;
 use router_trace::{Attachment, DeliveryName, Origin};
-use state_collections::{Kept, Marks};
+use state_collections::{Boxed, NumberSet};
 use std::alloc::{AllocError, Global};
 use std::collections::BTreeSet;
 
@@ -38,13 +38,13 @@ pub(crate) struct Keys {
     /// Whether its outcome must be reported to its producer.
     pub(crate) to_tell: bool,
     /// The place of its consumer's link, if the end of that link would change it.
-    pub(crate) on: Option<Spot>,
+    pub(crate) on: Option<SessionPlace>,
     /// The place of its producer's link, if the producer still needs its outcome.
-    pub(crate) from: Option<Spot>,
+    pub(crate) from: Option<SessionPlace>,
     /// The place of the id that its producer gave it, if the producer still needs its outcome.
-    pub(crate) by_id: Option<Spot>,
+    pub(crate) by_id: Option<SessionPlace>,
     /// The place of the id that the router gave it, if it is undecided and has a row in the journal.
-    pub(crate) durable: Option<Spot>,
+    pub(crate) durable: Option<SessionPlace>,
 }
 
 /// What the indexes have to know of a delivery that was changed in its place.
@@ -70,13 +70,13 @@ pub(crate) struct Index {
     // how many are held from a producer's link
     pub(crate) held: Tallies,
     // those whose outcome must be reported to their producer
-    pub(crate) to_tell: Marks,
+    pub(crate) to_tell: NumberSet,
     // those changed by the end of a consumer's link, those by the end of a producer's link, and those by a producer's delivery-id
     on: Handles,
     from: Handles,
     by_id: ById,
     // those whose row a consumer's disposition may decide, by the router's delivery-id; a suspended one stays when its session ends
-    durable: Spots,
+    durable: PlaceIndex,
 }
 
 impl Keys {
@@ -98,7 +98,7 @@ impl Keys {
     }
 
     /// The entries of a delivery, if there is one.
-    pub(crate) fn standing(delivery: &Option<Kept<Delivery>>) -> Keys
+    pub(crate) fn standing(delivery: &Option<Boxed<Delivery>>) -> Keys
         ensures { result ≡ standing delivery.now }
     {
         match delivery {
@@ -146,10 +146,10 @@ impl Keys {
                 Some(origin) => on_link(origin.link.number, undecided || delivery.name.has_row()),
             },
             to_tell: !undecided && delivery.origin.is_some(),
-            on: on_spot(spot_of(delivery.link), delivery.going_on || open),
-            from: from_spot(delivery.sender()),
-            by_id: id_spot(source),
-            durable: durable_spot(delivery),
+            on: on_place(place_of(delivery.link), delivery.going_on || open),
+            from: from_place(delivery.sender()),
+            by_id: id_place(source),
+            durable: durable_place(delivery),
         };
     }
 }
@@ -190,10 +190,10 @@ fn on_link(link: u64, holds: bool) -> Option<u64>
 }
 
 /// The place of a link.
-fn spot_of(link: Attachment) -> Spot
-    ensures { result ≡ spot_of link }
+fn place_of(link: Attachment) -> SessionPlace
+    ensures { result ≡ place_of link }
 {
-    Spot {
+    SessionPlace {
         conn: link.conn.0,
         own: link.channel,
         at: link.handle,
@@ -201,29 +201,29 @@ fn spot_of(link: Attachment) -> Spot
 }
 
 /// The place, if `holds`.
-fn on_spot(spot: Spot, holds: bool) -> Option<Spot>
-    ensures { result ≡ on_spot spot holds }
+fn on_place(place: SessionPlace, holds: bool) -> Option<SessionPlace>
+    ensures { result ≡ on_place place holds }
 {
-    if holds { Some(spot) } else { None }
+    if holds { Some(place) } else { None }
 }
 
 /// The place of the producer's link, if there is one.
-fn from_spot(origin: Option<Origin>) -> Option<Spot>
-    ensures { result ≡ from_spot origin }
+fn from_place(origin: Option<Origin>) -> Option<SessionPlace>
+    ensures { result ≡ from_place origin }
 {
     match origin {
         None => None,
-        Some(origin) => Some(spot_of(origin.link)),
+        Some(origin) => Some(place_of(origin.link)),
     }
 }
 
 /// The place of the id that the producer gave, if there is one.
-fn id_spot(origin: Option<Origin>) -> Option<Spot>
-    ensures { result ≡ id_spot origin }
+fn id_place(origin: Option<Origin>) -> Option<SessionPlace>
+    ensures { result ≡ id_place origin }
 {
     match origin {
         None => None,
-        Some(origin) => Some(Spot {
+        Some(origin) => Some(SessionPlace {
             conn: origin.link.conn.0,
             own: origin.link.channel,
             at: origin.id,
@@ -232,22 +232,22 @@ fn id_spot(origin: Option<Origin>) -> Option<Spot>
 }
 
 /// The place of the id that the router gave to an undecided delivery with a row, if it gave it one.
-fn durable_spot(delivery: &Delivery) -> Option<Spot>
-    ensures { result ≡ durable_spot delivery.now }
+fn durable_place(delivery: &Delivery) -> Option<SessionPlace>
+    ensures { result ≡ durable_place delivery.now }
 {
     if delivery.is_undecided() && delivery.name.has_row() {
-        return own_spot(delivery.link, delivery.id);
+        return own_place(delivery.link, delivery.id);
     }
     None
 }
 
 /// The place of an id that the router gave on a link's session, if it gave one.
-fn own_spot(link: Attachment, id: Option<u32>) -> Option<Spot>
-    ensures { result ≡ own_spot link id }
+fn own_place(link: Attachment, id: Option<u32>) -> Option<SessionPlace>
+    ensures { result ≡ own_place link id }
 {
     match id {
         None => None,
-        Some(id) => Some(Spot {
+        Some(id) => Some(SessionPlace {
             conn: link.conn.0,
             own: link.channel,
             at: id,
@@ -264,11 +264,11 @@ impl Index {
             consumers: Consumers::new(alloc),
             unsent: ByLink::new(alloc),
             held: Tallies::new(alloc),
-            to_tell: Marks::new(alloc),
+            to_tell: NumberSet::new(alloc),
             on: Handles::new(alloc),
             from: Handles::new(alloc),
             by_id: ById::new(alloc),
-            durable: Spots::new(alloc),
+            durable: PlaceIndex::new(alloc),
         }
     }
 
@@ -421,7 +421,7 @@ fn add_all(numbers: &mut BTreeSet<u64>, more: &[u64]) -> Result<(), AllocError>
 }
 
 /// Puts a number into a set or removes it, where it isn't there or is.
-fn mark(numbers: &mut Marks, number: u64, before: bool, after: bool) -> Result<(), AllocError>
+fn mark(numbers: &mut NumberSet, number: u64, before: bool, after: bool) -> Result<(), AllocError>
     ensures { OnOk result (is_marked numbers.old number ≡ before
         → (n : ℕ) → is_marked numbers.new n ≡ (if number == n then after else is_marked numbers.old n)) }
 {

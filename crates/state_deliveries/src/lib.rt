@@ -2,7 +2,7 @@
 //!
 //! [`Deliveries`] follows the trace, one entry at a time: `bind` for a message that was bound, `put` for an item that the
 //! router put out, `hear` for an item received, with the router's channel of its session, and `down` for a lost connection. Its state
-//! is read by `delivery`, `waiting`, `undecided`, `held`, `to_tell_behind`, `named`, `sending` and `next_id`.
+//! is read by `delivery`, `waiting`, `undecided`, `held`, `to_tell_after`, `named`, `sending` and `next_id`.
 //!
 //! Before a change is made, `decided_rows` tells which rows it would decide, so that these decisions can be written down first; `rows_from`
 //! tells the rows of a producer's deliveries.
@@ -27,7 +27,7 @@ mod next_ids;
 mod rows;
 mod sending;
 mod sets;
-mod spots;
+mod place_index;
 mod state;
 mod store;
 mod tag;

@@ -1,7 +1,7 @@
 //! Deliveries by the delivery-ids that the router gave them.
 ghost use Rattle.std.specs.Prelude.{◌≡◌, ◌==◌, ◌∷◌, List, ℕ, Bool, None, if◌then◌else◌, OnOk, IfOk, ◌||◌};
 ghost use Rattle.std.specs.Option.{option_and_then};
-ghost use Rattle.state_collections.specs.Slots.{in_slots};
+ghost use Rattle.state_collections.specs.NumberMap.{at_number};
 ghost use Rattle.amqp_model.specs.declared.perf.Perf.TheVariants as perf;
 ghost use Rattle.amqp_model.specs.declared.item.Item.TheVariants as item;
 ghost use Rattle.router_trace.specs.Trace.{Beginning};
@@ -52,7 +52,7 @@ impl Names {
 
     /// The number of the delivery that an id names, if the delivery has this id.
     pub(crate) fn picked(&self, store: &Store, conn: u64, own: u16, id: u32) -> Option<u64>
-        ensures { (n : ℕ) → is_number result n ≡ picks (at_id self.now.ids conn own) n (id_of (in_slots store.now.deliveries n)) id }
+        ensures { (n : ℕ) → is_number result n ≡ picks (at_id self.now.ids conn own) n (id_of (at_number store.now.deliveries n)) id }
     {
         let number = self.get(conn, own, id)?;
         if store.has_id(number, id) {
@@ -64,7 +64,7 @@ impl Names {
 
     /// Whether an id names an undecided delivery.
     pub(crate) fn is_used(&self, store: &Store, conn: u64, own: u16, id: u32) -> bool
-        ensures { result ≡ uses (in_slots store.now.deliveries) (at_id self.now.ids conn own id) }
+        ensures { result ≡ uses (at_number store.now.deliveries) (at_id self.now.ids conn own id) }
     {
         match self.get(conn, own, id) {
             None => false,
@@ -74,7 +74,7 @@ impl Names {
 
     /// Whether an id names an undecided delivery of its session that has this id.
     fn names_open(&self, store: &Store, conn: u64, own: u16, id: u32) -> bool
-        ensures { result ≡ opens (in_slots store.now.deliveries) conn own id (at_id self.now.ids conn own id) }
+        ensures { result ≡ opens (at_number store.now.deliveries) conn own id (at_id self.now.ids conn own id) }
     {
         match self.get(conn, own, id) {
             None => false,
@@ -92,7 +92,7 @@ impl Names {
         last: u32,
     ) -> Result<Vec<u32>, AllocError>
         ensures { IfOk result (λ found. AreSmall (at_id self.now.ids)
-            → found.items ≡ filter (λ id. opens (in_slots store.now.deliveries) conn own id (at_id self.now.ids conn own id)) (ids_between first last)) }
+            → found.items ≡ filter (λ id. opens (at_number store.now.deliveries) conn own id (at_id self.now.ids conn own id)) (ids_between first last)) }
     {
         let mut found = Vec::new(self.alloc);
         let ids = self.ids.in_range(conn, own, first, last)?;
@@ -115,7 +115,7 @@ impl Names {
         last: u32,
     ) -> Result<Vec<u64>, AllocError>
         ensures { IfOk result (λ numbers. AreSmall (at_id self.now.ids)
-            → (n : ℕ) → has n numbers.items ≡ is_named_in first last (at_id self.now.ids conn own) n (in_slots store.now.deliveries n)) }
+            → (n : ℕ) → has n numbers.items ≡ is_named_in first last (at_id self.now.ids conn own) n (at_number store.now.deliveries n)) }
     {
         let mut numbers = Vec::new(self.alloc);
         let ids = self.ids.in_range(conn, own, first, last)?;
@@ -172,7 +172,7 @@ impl Names {
         store: &Store,
     ) -> Result<(), AllocError>
         ensures named { OnOk result ((c o q : ℕ) → at_id self.new.ids c o q
-            ≡ (if conn == c then (if own == o then (if is_id transfer.now.delivery_id q then kept_name (option_and_then (number_tagged (at_name store.now.by_name)) (tag_in transfer.now)) (in_slots store.now.deliveries) else at_id self.old.ids c o q) else at_id self.old.ids c o q) else at_id self.old.ids c o q)) }
+            ≡ (if conn == c then (if own == o then (if is_id transfer.now.delivery_id q then kept_name (option_and_then (number_tagged (at_name store.now.by_name)) (tag_in transfer.now)) (at_number store.now.deliveries) else at_id self.old.ids c o q) else at_id self.old.ids c o q) else at_id self.old.ids c o q)) }
         ensures small { OnOk result (AreSmall (at_id self.old.ids) → AreSmall (at_id self.new.ids)) }
     {
         if let Some(id) = transfer.delivery_id {
@@ -208,7 +208,7 @@ impl Names {
         first: u32,
         last: u32,
     ) -> Result<(), AllocError>
-        ensures { OnOk result ((t : List Entry) → ((n : ℕ) → in_slots store.now.deliveries n ≡ delivery t n) → NamesFit self.old t → NamesFit self.new t) }
+        ensures { OnOk result ((t : List Entry) → ((n : ℕ) → at_number store.now.deliveries n ≡ delivery t n) → NamesFit self.old t → NamesFit self.new t) }
     {
         if first == last {
             return self.settle_one(store, conn, own, first);
@@ -222,7 +222,7 @@ impl Names {
 
     /// Forgets an id if it names a delivery which isn't undecided.
     fn settle_one(&mut self, store: &Store, conn: u64, own: u16, id: u32) -> Result<(), AllocError>
-        ensures { OnOk result ((t : List Entry) → ((n : ℕ) → in_slots store.now.deliveries n ≡ delivery t n) → NamesFit self.old t → NamesFit self.new t) }
+        ensures { OnOk result ((t : List Entry) → ((n : ℕ) → at_number store.now.deliveries n ≡ delivery t n) → NamesFit self.old t → NamesFit self.new t) }
     {
         let name = kept_name(self.get(conn, own, id), store);
         self.set(conn, own, id, name)?;
@@ -237,7 +237,7 @@ impl Names {
         own: Option<u16>,
         item: &Item,
     ) -> Result<(), AllocError>
-        ensures { OnOk result ((t : List Entry) → ((n : ℕ) → in_slots store.now.deliveries n ≡ delivery t n) → NamesFit self.old t → NamesFit self.new t) }
+        ensures { OnOk result ((t : List Entry) → ((n : ℕ) → at_number store.now.deliveries n ≡ delivery t n) → NamesFit self.old t → NamesFit self.new t) }
     {
         let Some(own) = own else {
             return Ok(());
@@ -256,7 +256,7 @@ impl Names {
         item: &Item,
         ids: &[u32],
     ) -> Result<(), AllocError>
-        ensures { OnOk result ((t : List Entry) → ((n : ℕ) → in_slots store.now.deliveries n ≡ delivery t n) → NamesFit self.old t → NamesFit self.new t) }
+        ensures { OnOk result ((t : List Entry) → ((n : ℕ) → at_number store.now.deliveries n ≡ delivery t n) → NamesFit self.old t → NamesFit self.new t) }
     {
         if let Some(own) = detached_in(item) {
             self.settle_all(store, conn, own, ids)?;
@@ -272,7 +272,7 @@ impl Names {
         own: u16,
         ids: &[u32],
     ) -> Result<(), AllocError>
-        ensures { OnOk result ((t : List Entry) → ((n : ℕ) → in_slots store.now.deliveries n ≡ delivery t n) → NamesFit self.old t → NamesFit self.new t) }
+        ensures { OnOk result ((t : List Entry) → ((n : ℕ) → at_number store.now.deliveries n ≡ delivery t n) → NamesFit self.old t → NamesFit self.new t) }
     {
         for id in ids {
             self.settle_one(store, conn, own, *id)?;
@@ -312,7 +312,7 @@ fn detached_in(item: &Item) -> Option<u16>
 
 /// The number of a delivery, if that is undecided.
 fn kept_name(number: Option<u64>, store: &Store) -> Option<u64>
-    ensures { result ≡ kept_name number (in_slots store.now.deliveries) }
+    ensures { result ≡ kept_name number (at_number store.now.deliveries) }
 {
     let number = number?;
     if store.is_open(number) {

@@ -9,12 +9,12 @@ ghost use Rattle.router_trace.specs.Trace.{Entry, Out, did};
 ghost use Rattle.router_trace.specs.declared.event.Event.TheVariants as event;
 ghost use Rattle.router_trace.specs.Deliveries.{next_id, after_id};
 ghost use Rattle.state_collections.specs.Places.{in_map};
-ghost use Rattle.state_collections.specs.Slots.{in_slots};
+ghost use Rattle.state_collections.specs.NumberMap.{at_number};
 ghost use Rattle.state_deliveries.specs.Fits.{NextIdsFit, next_in};
 
 use amqp_model::{Item, Perf, Transfer};
 use router_trace::ConnectionId;
-use state_collections::Slots;
+use state_collections::NumberMap;
 use std::alloc::{AllocError, Global};
 use std::collections::BTreeMap;
 
@@ -25,7 +25,7 @@ const PLACES: usize = 64;
 #[derive(Drop)]
 pub(crate) struct NextIds {
     alloc: Global,
-    rows: Slots<BTreeMap<u16, u32>>,
+    rows: NumberMap<BTreeMap<u16, u32>>,
 }
 
 impl NextIds {
@@ -35,7 +35,7 @@ impl NextIds {
     {
         NextIds {
             alloc,
-            rows: Slots::new(alloc, PLACES),
+            rows: NumberMap::new(alloc, PLACES),
         }
     }
 

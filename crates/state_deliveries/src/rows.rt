@@ -5,11 +5,11 @@ ghost use Rattle.std.specs.Ordering.{nat_cmp};
 ghost use Rattle.std.specs.BTreeMap.{get};
 ghost use Rattle.amqp_session.specs.Ranges.{has};
 ghost use Rattle.state_collections.specs.Places.{in_map};
-ghost use Rattle.state_collections.specs.Slots.{in_slots};
+ghost use Rattle.state_collections.specs.NumberMap.{at_number};
 ghost use Rattle.state_deliveries.specs.Rowing.{in_row, in_rows, is_in_any};
 
 use crate::change::Gone;
-use state_collections::Slots;
+use state_collections::NumberMap;
 use std::alloc::{AllocError, Global};
 use std::collections::BTreeMap;
 
@@ -19,7 +19,7 @@ const CONNECTIONS: usize = 64;
 const PLACES: usize = 64;
 
 /// The values of a connection, by the router's channel of a session.
-type InConnection<V> = BTreeMap<u16, Slots<V>>;
+type InConnection<V> = BTreeMap<u16, NumberMap<V>>;
 
 /// Values by connection, the router's channel of a session, and a number of 64 bits. If an operation fails to allocate, the contents are
 /// unspecified.
@@ -29,7 +29,7 @@ type InConnection<V> = BTreeMap<u16, Slots<V>>;
 #[derive(Drop)]
 pub(crate) struct Rows<V> {
     alloc: Global,
-    rows: Slots<InConnection<V>>,
+    rows: NumberMap<InConnection<V>>,
 }
 
 impl<V: Drop> Rows<V> {
@@ -39,7 +39,7 @@ impl<V: Drop> Rows<V> {
     {
         Rows {
             alloc,
-            rows: Slots::new(alloc, CONNECTIONS),
+            rows: NumberMap::new(alloc, CONNECTIONS),
         }
     }
 
@@ -49,8 +49,8 @@ impl<V: Drop> Rows<V> {
     }
 
     /// The values of a session.
-    pub(crate) fn session(&self, conn: u64, own: u16) -> Option<&Slots<V>>
-        ensures { option_copied result ≡ in_map (in_slots self.now.rows conn) own }
+    pub(crate) fn session(&self, conn: u64, own: u16) -> Option<&NumberMap<V>>
+        ensures { option_copied result ≡ in_map (at_number self.now.rows conn) own }
     {
         self.rows.get(conn)?.get(&own)
     }
@@ -175,7 +175,7 @@ fn insert_in<V: Drop>(
     if let Some(row) = sessions.get_mut(&own) {
         return put(row, number, value);
     }
-    let mut row = Slots::new(alloc, PLACES);
+    let mut row = NumberMap::new(alloc, PLACES);
     put(&mut row, number, value)?;
     match sessions.insert(own, row) {
         Ok(_) => Ok(()),
@@ -184,8 +184,8 @@ fn insert_in<V: Drop>(
 }
 
 /// Gives a number this value, instead of any that it had.
-fn put<V: Drop>(row: &mut Slots<V>, number: u64, value: V) -> Result<(), AllocError>
-    ensures { OnOk result ((n : ℕ) → in_slots row.new n ≡ (if number == n then Some value else in_slots row.old n)) }
+fn put<V: Drop>(row: &mut NumberMap<V>, number: u64, value: V) -> Result<(), AllocError>
+    ensures { OnOk result ((n : ℕ) → at_number row.new n ≡ (if number == n then Some value else at_number row.old n)) }
 {
     let _ = row.insert(number, value)?;
     Ok(())
@@ -231,8 +231,8 @@ fn append_all<V: Drop>(sessions: &InConnection<V>, numbers: &mut Vec<u64>) -> Re
 }
 
 /// Appends the numbers of a session.
-fn append_row<V: Drop>(row: &Slots<V>, numbers: &mut Vec<u64>) -> Result<(), AllocError>
-    ensures { OnOk result ((n : ℕ) → has n numbers.new.items ≡ (is_some (in_slots row.now n) || has n numbers.old.items)) }
+fn append_row<V: Drop>(row: &NumberMap<V>, numbers: &mut Vec<u64>) -> Result<(), AllocError>
+    ensures { OnOk result ((n : ℕ) → has n numbers.new.items ≡ (is_some (at_number row.now n) || has n numbers.old.items)) }
 {
     row.append_numbers(numbers)?;
     Ok(())

@@ -60,7 +60,7 @@ impl Sending {
         let _ = self.numbers.forget(conn.0);
     }
 
-    /// An item is put into the outbox of a connection; `names` are those of the deliveries behind it.
+    /// An item is put into the outbox of a connection; `names` are those of the deliveries after it.
     pub(crate) fn put(&mut self, conn: u64, item: &Item, names: &ByName) -> Result<(), AllocError>
         ensures { OnOk result ((t : List Entry) → NumbersFit names.now (Out conn item.now ∷ t) → SendingFit self.old t → SendingFit self.new (Out conn item.now ∷ t)) }
     {
@@ -110,7 +110,7 @@ impl Sending {
             ≡ (if conn == c then (if own == o then (if transfer.now.handle == h then (if transfer.now.more then carried (at_name names.now) (tag_in transfer.now) (at self.old.numbers c o h) else None)
             else at self.old.numbers c o h) else at self.old.numbers c o h) else at self.old.numbers c o h)) }
     {
-        let number = self.number_behind(conn, own, transfer, names);
+        let number = self.number_after(conn, own, transfer, names);
         match number {
             None => {
                 let _ = self.numbers.remove(conn, own, transfer.handle);
@@ -144,7 +144,7 @@ impl Sending {
     }
 
     /// The delivery of which more frames remain to be sent on a transfer's handle, after that transfer.
-    fn number_behind(&self, conn: u64, own: u16, transfer: &Transfer, names: &ByName) -> Option<u64>
+    fn number_after(&self, conn: u64, own: u16, transfer: &Transfer, names: &ByName) -> Option<u64>
         ensures { result ≡ (if transfer.now.more then carried (at_name names.now) (tag_in transfer.now) (at self.now.numbers conn own transfer.now.handle) else None) }
     {
         if transfer.more {

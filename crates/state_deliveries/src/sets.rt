@@ -2,10 +2,10 @@
 ghost use Rattle.std.specs.Prelude.{◌≡◌, ◌==◌, ℕ, true, if◌then◌else◌, OnOk, ◌&&◌, nat_lt};
 ghost use Rattle.std.specs.Ordering.{nat_cmp};
 ghost use Rattle.std.specs.BTreeSet.{contains};
-ghost use Rattle.state_collections.specs.Marks.{has as is_marked};
+ghost use Rattle.state_collections.specs.NumberSet.{has as is_marked};
 ghost use Rattle.state_deliveries.specs.Finding.{IsFirst};
 
-use state_collections::Marks;
+use state_collections::NumberSet;
 use std::alloc::AllocError;
 use std::collections::BTreeSet;
 
@@ -20,15 +20,15 @@ pub(crate) fn add(numbers: &mut BTreeSet<u64>, number: u64) -> Result<(), AllocE
 }
 
 /// The lowest number of a set.
-pub(crate) fn first(numbers: &Marks) -> Option<u64>
+pub(crate) fn first(numbers: &NumberSet) -> Option<u64>
     ensures { IsFirst (is_marked numbers.now) result }
 {
     numbers.first()
 }
 
 /// The lowest number of a set above `number`.
-pub(crate) fn behind(numbers: &Marks, number: u64) -> Option<u64>
+pub(crate) fn after(numbers: &NumberSet, number: u64) -> Option<u64>
     ensures { IsFirst (λ n. nat_lt number n && is_marked numbers.now n) result }
 {
-    numbers.behind(number)
+    numbers.after(number)
 }

@@ -3,10 +3,10 @@ ghost use Rattle.std.specs.Prelude.{◌≡◌, ◌==◌, ℕ, Some, None, true, 
 ghost use Rattle.std.specs.Option.{option_map, option_and_then};
 ghost use Rattle.std.specs.Ordering.{nat_cmp};
 ghost use Rattle.std.specs.Map.{keys_of};
-ghost use Rattle.state_collections.specs.Slots.{in_slots};
+ghost use Rattle.state_collections.specs.NumberMap.{at_number};
 ghost use Rattle.amqp_session.specs.Ranges.{has};
 ghost use Rattle.router_trace.specs.declared.binding.DeliveryName.{DeliveryName as Name};
-ghost use Rattle.router_trace.specs.Deliveries.{unless_over, unless_called, same_name, bound, behind_frame, is_number, is_id, delivery, number_named, sending};
+ghost use Rattle.router_trace.specs.Deliveries.{unless_over, unless_called, same_name, bound, after_frame, is_number, is_id, delivery, number_named, sending};
 ghost use Rattle.router_trace.specs.Settling.{is_open_as};
 ghost use Rattle.router_trace.specs.Trace.{Entry, Out, did};
 ghost use Rattle.amqp_model.specs.declared.item.Item.TheVariants as item;
@@ -18,24 +18,24 @@ ghost use Rattle.state_deliveries.specs.declared.index.Keys.{Keys as TheKeys};
 ghost use Rattle.state_deliveries.specs.Indexing.{Indexes, keys, moved, standing, in_group, is_by_place, are_by_place, concerns};
 ghost use Rattle.state_deliveries.specs.Placing.{is_id_there};
 ghost use Rattle.std.specs.BTreeSet.{contains};
-ghost use Rattle.state_collections.specs.Marks.{has as is_marked};
+ghost use Rattle.state_collections.specs.NumberSet.{has as is_marked};
 ghost use Rattle.state_deliveries.specs.Finding.{IsFirst, IsFirstLink, is_above};
 ghost use Rattle.state_deliveries.specs.Touching.{is_touched_in, StandsSame, StoreTouches};
 ghost use Rattle.state_deliveries.specs.Hearing.{id_of};
 ghost use Rattle.state_deliveries.specs.Naming.{is_open, is_detached, is_detached_in};
-ghost use Rattle.state_deliveries.specs.Stepping.{behind, behind_any, changed, IsKept};
+ghost use Rattle.state_deliveries.specs.Stepping.{after_change, after_any, changed, IsKept};
 ghost use Rattle.state_deliveries.specs.Tallying.{tally, waiting_at, undecided_at};
 
 use crate::by_name::ByName;
-use crate::change::{Change, Gone, behind_put};
+use crate::change::{Change, Gone, after_put};
 use crate::delivery::Delivery;
 use crate::index::{Index, Keys, Moved};
-use crate::sets::{behind, first};
+use crate::sets::{after, first};
 use crate::touched::Touched;
 use amqp_model::{Item, Perf, Transfer};
 use bytes::Bytes;
 use router_trace::{Binding, ConnectionId, DeliveryName};
-use state_collections::{Kept, Slots};
+use state_collections::{Boxed, NumberMap};
 use std::alloc::{AllocError, Global};
 use std::collections::BTreeSet;
 
@@ -48,7 +48,7 @@ const PLACES: usize = 1024;
 #[derive(Drop)]
 pub(crate) struct Store {
     alloc: Global,
-    deliveries: Slots<Kept<Delivery>>,
+    deliveries: NumberMap<Boxed<Delivery>>,
     pub(crate) by_name: ByName,
     index: Index,
     touched: Touched,
@@ -57,12 +57,12 @@ pub(crate) struct Store {
 impl Store {
     /// An empty store.
     pub(crate) fn new(alloc: Global) -> Store
-        ensures deliveries { (n : ℕ) → in_slots result.deliveries n ≡ None }
+        ensures deliveries { (n : ℕ) → at_number result.deliveries n ≡ None }
         ensures indexed { Indexed result }
     {
         Store {
             alloc,
-            deliveries: Slots::new(alloc, PLACES),
+            deliveries: NumberMap::new(alloc, PLACES),
             by_name: ByName::new(alloc),
             index: Index::new(alloc),
             touched: Touched::new(alloc),
@@ -71,7 +71,7 @@ impl Store {
 
     /// The delivery with a number.
     pub(crate) fn get(&self, number: u64) -> Option<&Delivery>
-        ensures { option_map (λ d. d.now) result ≡ in_slots self.now.deliveries number }
+        ensures { option_map (λ d. d.now) result ≡ at_number self.now.deliveries number }
     {
         match self.deliveries.get(number) {
             None => None,
@@ -108,17 +108,17 @@ impl Store {
     }
 
     /// The first of them above a number.
-    pub(crate) fn unsent_behind(&self, link: u64, number: u64) -> Option<u64>
+    pub(crate) fn unsent_after(&self, link: u64, number: u64) -> Option<u64>
         ensures { IsFirst (λ n. nat_lt number n && in_group self.now.index.unsent link n) result }
     {
-        self.index.unsent.first_behind(link, number)
+        self.index.unsent.first_after(link, number)
     }
 
     /// The lowest link, above this one or of all, that has such deliveries.
-    pub(crate) fn unsent_link_behind(&self, link: Option<u64>) -> Option<u64>
+    pub(crate) fn unsent_link_after(&self, link: Option<u64>) -> Option<u64>
         ensures { IsFirstLink (in_group self.now.index.unsent) link result }
     {
-        self.index.unsent.link_behind(link)
+        self.index.unsent.link_after(link)
     }
 
     /// The lowest link that was touched.
@@ -139,18 +139,18 @@ impl Store {
     }
 
     /// The lowest delivery, above this one or of all, whose outcome must be reported to its producer.
-    pub(crate) fn to_tell_behind(&self, number: Option<u64>) -> Option<u64>
+    pub(crate) fn to_tell_after(&self, number: Option<u64>) -> Option<u64>
         ensures { IsFirst (λ n. is_above number n && is_marked self.now.index.to_tell n) result }
     {
         match number {
             None => first(&self.index.to_tell),
-            Some(number) => behind(&self.index.to_tell, number),
+            Some(number) => after(&self.index.to_tell, number),
         }
     }
 
     /// Whether the delivery with a number is undecided.
     pub(crate) fn is_open(&self, number: u64) -> bool
-        ensures { result ≡ is_open (in_slots self.now.deliveries number) }
+        ensures { result ≡ is_open (at_number self.now.deliveries number) }
     {
         match self.get(number) {
             None => false,
@@ -160,7 +160,7 @@ impl Store {
 
     /// Whether the delivery with a number has this id.
     pub(crate) fn has_id(&self, number: u64, id: u32) -> bool
-        ensures { result ≡ is_id (id_of (in_slots self.now.deliveries number)) id }
+        ensures { result ≡ is_id (id_of (at_number self.now.deliveries number)) id }
     {
         match self.get(number) {
             None => false,
@@ -170,7 +170,7 @@ impl Store {
 
     /// Whether the delivery with a number is undecided, belongs to a session, and has this id.
     pub(crate) fn is_open_as(&self, number: u64, conn: u64, own: u16, id: u32) -> bool
-        ensures { result ≡ is_open_as conn own id (in_slots self.now.deliveries number) }
+        ensures { result ≡ is_open_as conn own id (at_number self.now.deliveries number) }
     {
         match self.get(number) {
             None => false,
@@ -179,9 +179,9 @@ impl Store {
     }
 
     /// Takes out the delivery with a number.
-    fn take(&mut self, number: u64) -> Option<Kept<Delivery>>
-        ensures gives { result ≡ in_slots self.old.deliveries number }
-        ensures gone { (n : ℕ) → in_slots self.new.deliveries n ≡ (if number == n then None else in_slots self.old.deliveries n) }
+    fn take(&mut self, number: u64) -> Option<Boxed<Delivery>>
+        ensures gives { result ≡ at_number self.old.deliveries number }
+        ensures gone { (n : ℕ) → at_number self.new.deliveries n ≡ (if number == n then None else at_number self.old.deliveries n) }
         ensures by_name { self.new.by_name ≡ self.old.by_name }
         ensures index { self.new.index ≡ self.old.index }
         ensures touched { self.new.touched ≡ self.old.touched }
@@ -191,8 +191,8 @@ impl Store {
 
     /// Replaces the index entries of the delivery with a number, which was changed in its place; if it is over, removes it.
     fn settle(&mut self, number: u64, moved: &Moved) -> Result<(), AllocError>
-        ensures deliveries { OnOk result ((n : ℕ) → in_slots self.new.deliveries n
-            ≡ (if moved.now.over then (if number == n then None else in_slots self.old.deliveries n) else in_slots self.old.deliveries n)) }
+        ensures deliveries { OnOk result ((n : ℕ) → at_number self.new.deliveries n
+            ≡ (if moved.now.over then (if number == n then None else at_number self.old.deliveries n) else at_number self.old.deliveries n)) }
         ensures indexed { OnOk result ((known : ℕ → TheKeys) → known number ≡ moved.now.before → Indexes self.old.index known
             → Indexes self.new.index (λ n. if number == n then moved.now.after else known n)) }
         ensures touched { OnOk result ((k : ℕ) → is_touched_in self.new.touched k ≡ false
@@ -228,8 +228,8 @@ impl Store {
         binding: Binding,
     ) -> Result<(), AllocError>
         ensures deliveries { OnOk result (Indexed self.old
-            → (n : ℕ) → in_slots self.new.deliveries n ≡ (if number == n then Some (bound name binding) else unless_called name (in_slots self.old.deliveries n))) }
-        ensures indexed { OnOk result (in_slots self.old.deliveries number ≡ None → Indexed self.old → Indexed self.new) }
+            → (n : ℕ) → at_number self.new.deliveries n ≡ (if number == n then Some (bound name binding) else unless_called name (at_number self.old.deliveries n))) }
+        ensures indexed { OnOk result (at_number self.old.deliveries number ≡ None → Indexed self.old → Indexed self.new) }
         ensures touches { OnOk result (StoreTouches self.old self.new) }
     {
         self.remove_called(name)?;
@@ -238,15 +238,15 @@ impl Store {
 
     /// Adds a message that was bound, under its number and its name.
     fn add(&mut self, number: u64, name: DeliveryName, binding: Binding) -> Result<(), AllocError>
-        ensures deliveries { OnOk result ((n : ℕ) → in_slots self.new.deliveries n ≡ (if number == n then Some (bound name binding) else in_slots self.old.deliveries n)) }
-        ensures indexed { OnOk result (in_slots self.old.deliveries number ≡ None → ((n : ℕ) → is_called name (in_slots self.old.deliveries n) ≡ false)
+        ensures deliveries { OnOk result ((n : ℕ) → at_number self.new.deliveries n ≡ (if number == n then Some (bound name binding) else at_number self.old.deliveries n)) }
+        ensures indexed { OnOk result (at_number self.old.deliveries number ≡ None → ((n : ℕ) → is_called name (at_number self.old.deliveries n) ≡ false)
             → Indexed self.old → Indexed self.new) }
         ensures touches { OnOk result (StoreTouches self.old self.new) }
     {
         self.by_name.set(name, number)?;
         let delivery = Delivery::bound(name, binding);
         let after = Keys::of(&delivery);
-        let delivery = Kept::new(self.alloc, delivery)?;
+        let delivery = Boxed::new(self.alloc, delivery)?;
         let before = put(&mut self.deliveries, number, delivery)?;
         self.shift(number, &before, &after)?;
         Ok(())
@@ -255,7 +255,7 @@ impl Store {
     /// Removes the delivery with a name.
     #[tactic(auto, using(crate::proofs::Touching::touches_self))]
     fn remove_called(&mut self, name: DeliveryName) -> Result<(), AllocError>
-        ensures deliveries { OnOk result (Indexed self.old → (n : ℕ) → in_slots self.new.deliveries n ≡ unless_called name (in_slots self.old.deliveries n)) }
+        ensures deliveries { OnOk result (Indexed self.old → (n : ℕ) → at_number self.new.deliveries n ≡ unless_called name (at_number self.old.deliveries n)) }
         ensures indexed { OnOk result (Indexed self.old → Indexed self.new) }
         ensures touches { OnOk result (StoreTouches self.old self.new) }
     {
@@ -267,7 +267,7 @@ impl Store {
 
     /// Removes the delivery with a number.
     fn remove(&mut self, number: u64) -> Result<(), AllocError>
-        ensures deliveries { OnOk result ((n : ℕ) → in_slots self.new.deliveries n ≡ (if number == n then None else in_slots self.old.deliveries n)) }
+        ensures deliveries { OnOk result ((n : ℕ) → at_number self.new.deliveries n ≡ (if number == n then None else at_number self.old.deliveries n)) }
         ensures indexed { OnOk result (Indexed self.old → Indexed self.new) }
         ensures touches { OnOk result (StoreTouches self.old self.new) }
     {
@@ -287,8 +287,8 @@ impl Store {
         transfer: &Transfer,
         count: u64,
     ) -> Result<(), AllocError>
-        ensures deliveries { OnOk result ((n : ℕ) → in_slots self.new.deliveries n
-            ≡ (if number == n then option_and_then (λ d. unless_over (behind_frame transfer.now count d)) (in_slots self.old.deliveries n) else in_slots self.old.deliveries n)) }
+        ensures deliveries { OnOk result ((n : ℕ) → at_number self.new.deliveries n
+            ≡ (if number == n then option_and_then (λ d. unless_over (after_frame transfer.now count d)) (at_number self.old.deliveries n) else at_number self.old.deliveries n)) }
         ensures indexed { OnOk result (Indexed self.old → Indexed self.new) }
         ensures touches { OnOk result (StoreTouches self.old self.new) }
     {
@@ -303,8 +303,8 @@ impl Store {
 
     /// Changes the delivery with a number.
     pub(crate) fn change(&mut self, number: u64, change: &Change) -> Result<(), AllocError>
-        ensures deliveries { OnOk result ((n : ℕ) → in_slots self.new.deliveries n
-            ≡ (if number == n then behind change.now (in_slots self.old.deliveries n) else in_slots self.old.deliveries n)) }
+        ensures deliveries { OnOk result ((n : ℕ) → at_number self.new.deliveries n
+            ≡ (if number == n then after_change change.now (at_number self.old.deliveries n) else at_number self.old.deliveries n)) }
         ensures indexed { OnOk result (Indexed self.old → Indexed self.new) }
         ensures touches { OnOk result (StoreTouches self.old self.new) }
     {
@@ -320,8 +320,8 @@ impl Store {
     /// Changes the deliveries with these numbers.
     #[tactic(auto, using(crate::proofs::Touching::touches_self))]
     pub(crate) fn change_all(&mut self, numbers: &[u64], change: &Change) -> Result<(), AllocError>
-        ensures deliveries { OnOk result ((n : ℕ) → in_slots self.new.deliveries n
-            ≡ (if has n numbers.now then behind change.now (in_slots self.old.deliveries n) else in_slots self.old.deliveries n)) }
+        ensures deliveries { OnOk result ((n : ℕ) → at_number self.new.deliveries n
+            ≡ (if has n numbers.now then after_change change.now (at_number self.old.deliveries n) else at_number self.old.deliveries n)) }
         ensures indexed { OnOk result (Indexed self.old → Indexed self.new) }
         ensures touches { OnOk result (StoreTouches self.old self.new) }
     {
@@ -333,8 +333,8 @@ impl Store {
 
     /// Applies a change that isn't a consumer's disposition to all deliveries. It looks only at those that the indexes give for the change.
     pub(crate) fn apply(&mut self, change: &Change) -> Result<(), AllocError>
-        ensures deliveries { OnOk result (is_by_place change.now ≡ true → ((n : ℕ) → IsKept (in_slots self.old.deliveries n)) → Indexed self.old
-            → (n : ℕ) → in_slots self.new.deliveries n ≡ behind change.now (in_slots self.old.deliveries n)) }
+        ensures deliveries { OnOk result (is_by_place change.now ≡ true → ((n : ℕ) → IsKept (at_number self.old.deliveries n)) → Indexed self.old
+            → (n : ℕ) → at_number self.new.deliveries n ≡ after_change change.now (at_number self.old.deliveries n)) }
         ensures indexed { OnOk result (Indexed self.old → Indexed self.new) }
         ensures touches { OnOk result (StoreTouches self.old self.new) }
     {
@@ -359,8 +359,8 @@ impl Store {
     /// Applies a change that isn't a consumer's disposition to all deliveries, if there is one.
     #[tactic(auto, using(crate::proofs::Touching::touches_self))]
     pub(crate) fn apply_any(&mut self, change: Option<Change>) -> Result<(), AllocError>
-        ensures deliveries { OnOk result (are_by_place change ≡ true → ((n : ℕ) → IsKept (in_slots self.old.deliveries n)) → Indexed self.old
-            → (n : ℕ) → in_slots self.new.deliveries n ≡ behind_any change (in_slots self.old.deliveries n)) }
+        ensures deliveries { OnOk result (are_by_place change ≡ true → ((n : ℕ) → IsKept (at_number self.old.deliveries n)) → Indexed self.old
+            → (n : ℕ) → at_number self.new.deliveries n ≡ after_any change (at_number self.old.deliveries n)) }
         ensures indexed { OnOk result (Indexed self.old → Indexed self.new) }
         ensures touches { OnOk result (StoreTouches self.old self.new) }
     {
@@ -378,8 +378,8 @@ impl Store {
         transfer: &Transfer,
         payload: &Bytes,
     ) -> Result<(), AllocError>
-        ensures deliveries { OnOk result ((n : ℕ) → in_slots self.new.deliveries n
-            ≡ (if is_number number n then option_and_then (λ d. unless_over (behind_frame transfer.now (length payload.now) d)) (in_slots self.old.deliveries n) else in_slots self.old.deliveries n)) }
+        ensures deliveries { OnOk result ((n : ℕ) → at_number self.new.deliveries n
+            ≡ (if is_number number n then option_and_then (λ d. unless_over (after_frame transfer.now (length payload.now) d)) (at_number self.old.deliveries n) else at_number self.old.deliveries n)) }
         ensures indexed { OnOk result (Indexed self.old → Indexed self.new) }
         ensures touches { OnOk result (StoreTouches self.old self.new) }
     {
@@ -405,8 +405,8 @@ impl Store {
 
     /// The ids of the deliveries on the link that an item of the router detaches.
     pub(crate) fn detached_ids(&self, conn: u64, item: &Item) -> Result<Vec<u32>, AllocError>
-        ensures { IfOk result (λ ids. Indexed self.now → (n id : ℕ) → is_detached item.now conn (standing (in_slots self.now.deliveries n)) ≡ true
-            → is_id (id_of (in_slots self.now.deliveries n)) id ≡ true → has id ids.items ≡ true) }
+        ensures { IfOk result (λ ids. Indexed self.now → (n id : ℕ) → is_detached item.now conn (standing (at_number self.now.deliveries n)) ≡ true
+            → is_id (id_of (at_number self.now.deliveries n)) id ≡ true → has id ids.items ≡ true) }
     {
         match item {
             Item::Frame { channel, perf, .. } => Ok(self.ids_detached_in(conn, *channel, perf)?),
@@ -416,8 +416,8 @@ impl Store {
 
     /// The ids of the deliveries on the link that a performative of the router detaches.
     fn ids_detached_in(&self, conn: u64, own: u16, perf: &Perf) -> Result<Vec<u32>, AllocError>
-        ensures { IfOk result (λ ids. Indexed self.now → (n id : ℕ) → is_detached_in perf.now conn own (standing (in_slots self.now.deliveries n)) ≡ true
-            → is_id (id_of (in_slots self.now.deliveries n)) id ≡ true → has id ids.items ≡ true) }
+        ensures { IfOk result (λ ids. Indexed self.now → (n id : ℕ) → is_detached_in perf.now conn own (standing (at_number self.now.deliveries n)) ≡ true
+            → is_id (id_of (at_number self.now.deliveries n)) id ≡ true → has id ids.items ≡ true) }
     {
         match perf {
             Perf::Detach(detach) => {
@@ -434,8 +434,8 @@ impl Store {
 
     /// The ids of the deliveries that a change may change, if it isn't a consumer's disposition.
     fn ids_on(&self, change: &Change) -> Result<Vec<u32>, AllocError>
-        ensures { IfOk result (λ ids. Indexed self.now → (n id : ℕ) → concerns change.now (standing (in_slots self.now.deliveries n)) ≡ true
-            → is_id (id_of (in_slots self.now.deliveries n)) id ≡ true → has id ids.items ≡ true) }
+        ensures { IfOk result (λ ids. Indexed self.now → (n id : ℕ) → concerns change.now (standing (at_number self.now.deliveries n)) ≡ true
+            → is_id (id_of (at_number self.now.deliveries n)) id ≡ true → has id ids.items ≡ true) }
     {
         let numbers = self.index.concerned(self.alloc, change)?;
         let mut ids = Vec::new(self.alloc);
@@ -447,7 +447,7 @@ impl Store {
 
     /// The numbers of the deliveries whose rows one of these changes may decide.
     pub(crate) fn deciding_by(&self, changes: &[Change]) -> Result<BTreeSet<u64>, AllocError>
-        ensures { IfOk result (λ numbers. Indexed self.now → (n : ℕ) → decide changes.now (standing (in_slots self.now.deliveries n)) ≡ true
+        ensures { IfOk result (λ numbers. Indexed self.now → (n : ℕ) → decide changes.now (standing (at_number self.now.deliveries n)) ≡ true
             → contains nat_cmp numbers n ≡ true) }
     {
         Ok(self.index.deciding_by(self.alloc, changes)?)
@@ -461,7 +461,7 @@ impl Store {
         first: u32,
         last: u32,
     ) -> Result<BTreeSet<u64>, AllocError>
-        ensures { IfOk result (λ numbers. Indexed self.now → (n : ℕ) → is_id_there conn own first last (standing (in_slots self.now.deliveries n)).by_id ≡ true
+        ensures { IfOk result (λ numbers. Indexed self.now → (n : ℕ) → is_id_there conn own first last (standing (at_number self.now.deliveries n)).by_id ≡ true
             → contains nat_cmp numbers n ≡ true) }
     {
         let mut numbers = BTreeSet::new(self.alloc);
@@ -513,19 +513,19 @@ impl Store {
     {
         match perf {
             Perf::Transfer(transfer) => self.note_carried(number, transfer, payload),
-            _ => self.apply_any(behind_put(conn, own, perf)),
+            _ => self.apply_any(after_put(conn, own, perf)),
         }
     }
 }
 
 /// Gives a number this delivery; the result are the index entries of the one that it had.
 fn put(
-    deliveries: &mut Slots<Kept<Delivery>>,
+    deliveries: &mut NumberMap<Boxed<Delivery>>,
     number: u64,
-    delivery: Kept<Delivery>,
+    delivery: Boxed<Delivery>,
 ) -> Result<Keys, AllocError>
-    ensures deliveries { OnOk result ((n : ℕ) → in_slots deliveries.new n ≡ (if number == n then Some delivery else in_slots deliveries.old n)) }
-    ensures before { IfOk result (λ before. before ≡ standing (in_slots deliveries.old number)) }
+    ensures deliveries { OnOk result ((n : ℕ) → at_number deliveries.new n ≡ (if number == n then Some delivery else at_number deliveries.old n)) }
+    ensures before { IfOk result (λ before. before ≡ standing (at_number deliveries.old number)) }
 {
     let before = deliveries.insert(number, delivery)?;
     Ok(Keys::standing(&before))
@@ -533,14 +533,14 @@ fn put(
 
 /// Changes the delivery with a number in its place, and notes its entries; whether there is one.
 fn change_in(
-    deliveries: &mut Slots<Kept<Delivery>>,
+    deliveries: &mut NumberMap<Boxed<Delivery>>,
     number: u64,
     change: &Change,
     entries: &mut Moved,
 ) -> Result<bool, AllocError>
-    ensures deliveries { OnOk result ((n : ℕ) → in_slots deliveries.new n
-        ≡ (if number == n then option_map (changed change.now) (in_slots deliveries.old n) else in_slots deliveries.old n)) }
-    ensures found { IfOk result (λ found. (if found then Some entries.new else None) ≡ option_map (λ d. moved (keys d) (changed change.now d)) (in_slots deliveries.old number)) }
+    ensures deliveries { OnOk result ((n : ℕ) → at_number deliveries.new n
+        ≡ (if number == n then option_map (changed change.now) (at_number deliveries.old n) else at_number deliveries.old n)) }
+    ensures found { IfOk result (λ found. (if found then Some entries.new else None) ≡ option_map (λ d. moved (keys d) (changed change.now d)) (at_number deliveries.old number)) }
 {
     let Some(kept) = deliveries.get_mut(number) else {
         return Ok(false);
@@ -554,15 +554,15 @@ fn change_in(
 
 /// Notes a transfer that carries `count` bytes of the delivery with a number, in its place, and notes its entries; whether there is one.
 fn note_in(
-    deliveries: &mut Slots<Kept<Delivery>>,
+    deliveries: &mut NumberMap<Boxed<Delivery>>,
     number: u64,
     transfer: &Transfer,
     count: u64,
     entries: &mut Moved,
 ) -> Result<bool, AllocError>
-    ensures deliveries { OnOk result ((n : ℕ) → in_slots deliveries.new n
-        ≡ (if number == n then option_map (behind_frame transfer.now count) (in_slots deliveries.old n) else in_slots deliveries.old n)) }
-    ensures found { IfOk result (λ found. (if found then Some entries.new else None) ≡ option_map (λ d. moved (keys d) (behind_frame transfer.now count d)) (in_slots deliveries.old number)) }
+    ensures deliveries { OnOk result ((n : ℕ) → at_number deliveries.new n
+        ≡ (if number == n then option_map (after_frame transfer.now count) (at_number deliveries.old n) else at_number deliveries.old n)) }
+    ensures found { IfOk result (λ found. (if found then Some entries.new else None) ≡ option_map (λ d. moved (keys d) (after_frame transfer.now count d)) (at_number deliveries.old number)) }
 {
     let Some(kept) = deliveries.get_mut(number) else {
         return Ok(false);

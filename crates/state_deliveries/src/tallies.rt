@@ -1,10 +1,10 @@
 //! How many deliveries each link has.
 ghost use Rattle.std.specs.Prelude.{◌≡◌, ◌==◌, ◌+◌, ◌-◌, ℕ, Option, None, false, if◌then◌else◌, OnOk};
-ghost use Rattle.state_collections.specs.Slots.{in_slots};
+ghost use Rattle.state_collections.specs.NumberMap.{at_number};
 ghost use Rattle.router_trace.specs.Deliveries.{is_number};
 ghost use Rattle.state_deliveries.specs.Tallying.{tally, is_zero, IsTallied};
 
-use state_collections::Slots;
+use state_collections::NumberMap;
 use std::alloc::{AllocError, Global};
 
 /// The counts of so many links with neighbouring numbers are found without an ordered map.
@@ -13,7 +13,7 @@ const PLACES: usize = 1024;
 /// How many deliveries each link has; a link without any has no entry.
 #[derive(Drop)]
 pub(crate) struct Tallies {
-    counts: Slots<usize>,
+    counts: NumberMap<usize>,
 }
 
 impl Tallies {
@@ -23,7 +23,7 @@ impl Tallies {
         ensures { IsTallied result (λ n. None) }
     {
         Tallies {
-            counts: Slots::new(alloc, PLACES),
+            counts: NumberMap::new(alloc, PLACES),
         }
     }
 
@@ -54,7 +54,7 @@ impl Tallies {
     /// A link has one less, if there is one.
     fn drop_from(&mut self, link: Option<u64>)
         ensures counts { (k : ℕ) → tally self.new k ≡ (if is_number link k then tally self.old k - 1 else tally self.old k) }
-        ensures needed { (k : ℕ) → is_zero (in_slots self.old.counts k) ≡ false → is_zero (in_slots self.new.counts k) ≡ false }
+        ensures needed { (k : ℕ) → is_zero (at_number self.old.counts k) ≡ false → is_zero (at_number self.new.counts k) ≡ false }
     {
         let Some(link) = link else {
             return;
@@ -72,7 +72,7 @@ impl Tallies {
     /// A link has one more, if there is one.
     fn add_to(&mut self, link: Option<u64>) -> Result<(), AllocError>
         ensures counts { OnOk result ((k : ℕ) → tally self.new k ≡ (if is_number link k then tally self.old k + 1 else tally self.old k)) }
-        ensures needed { OnOk result ((k : ℕ) → is_zero (in_slots self.old.counts k) ≡ false → is_zero (in_slots self.new.counts k) ≡ false) }
+        ensures needed { OnOk result ((k : ℕ) → is_zero (at_number self.old.counts k) ≡ false → is_zero (at_number self.new.counts k) ≡ false) }
     {
         let Some(link) = link else {
             return Ok(());

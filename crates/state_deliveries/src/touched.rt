@@ -8,13 +8,13 @@ ghost use Rattle.state_deliveries.specs.Touching.{is_touched_in, StandsSame};
 
 use crate::index::Keys;
 use crate::sets::first;
-use state_collections::Marks;
+use state_collections::NumberSet;
 use std::alloc::{AllocError, Global};
 
 /// The numbers of links whose waiting, undecided or held deliveries may have changed since they were last forgotten.
 #[derive(Drop)]
 pub(crate) struct Touched {
-    links: Marks,
+    links: NumberSet,
 }
 
 impl Touched {
@@ -23,7 +23,7 @@ impl Touched {
         ensures { (k : ℕ) → is_touched_in result k ≡ false }
     {
         Touched {
-            links: Marks::new(alloc),
+            links: NumberSet::new(alloc),
         }
     }
 

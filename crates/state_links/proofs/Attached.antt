@@ -17,7 +17,7 @@ use Rattle.router_trace.specs.Links.{Link, has_number, link, attached, asked, ad
 use Rattle.state_links.specs.declared.names.Names.{Names}
 use Rattle.state_links.specs.Naming.{on_handle, IsThinned, Thinned, Remembers, NamesFit}
 use Rattle.state_links.proofs.Numbered.{old_key, old_number, newest_same, did_stays, out_stays, attached_other, not_next}
-use Rattle.state_collections.specs.Slots.{in_slots}
+use Rattle.state_collections.specs.NumberMap.{at_number}
 
 -- From one trace to another, for the attachments of the first: an attachment that isn't attached stays so, and those that pass a test end.
 pub record Going (t u : Trace) (gone : Attachment → Bool) : Type 0 where
@@ -94,7 +94,7 @@ pub names_taken : (d own : ℕ) (sasl : Bool) (x : Attach) (payload : List ℕ) 
     → ((b : Attachment) → b.number ≤ attachments t → gone b ≡ true → is_attached (Out d (item.Frame sasl own (perf.Attach x) payload) ∷ t) b ≡ false)
     → Thinned gone old middle
     → ((k : LinkKey) → get key_cmp new.keys.entries k ≡ (if is_eq (key_cmp (key_at t d x) k) then Some a else get key_cmp middle.keys.entries k))
-    → ((n : ℕ) → in_slots new.numbers.entries n ≡ (if a.number == n then Some a else in_slots middle.numbers.entries n))
+    → ((n : ℕ) → at_number new.numbers.entries n ≡ (if a.number == n then Some a else at_number middle.numbers.entries n))
     → NamesFit old t → NamesFit new (Out d (item.Frame sasl own (perf.Attach x) payload) ∷ t)
 names_taken d own sasl x payload t gone old middle new a is addressed goes thin keys numbers fit =
     let i : Item = item.Frame sasl own (perf.Attach x) payload in
@@ -103,18 +103,18 @@ names_taken d own sasl x payload t gone old middle new a is addressed goes thin 
     record {
       keys = λ k. taken u (is_some (address_by x.role x)) (is_eq (key_cmp (key_at t d x) k)) _ _ (last_of_key t k) a _ is addressed (keys k)
           (kept t u gone _ _ (last_of_key t k) going (old_key t k) (thin.keys k) (fit.keys k));
-      numbers = λ n. taken u (is_some (address_by x.role x)) (attachments t + 1 == n) _ _ (numbered t n) a _ is addressed (at_number n)
+      numbers = λ n. taken u (is_some (address_by x.role x)) (attachments t + 1 == n) _ _ (numbered t n) a _ is addressed (by_its_number n)
           (kept t u gone _ _ (numbered t n) going (old_number t n) (thin.numbers n) (fit.numbers n));
     }
   where
-    number_of : (n : ℕ) → a.number ≡ attachments t + 1 → in_slots new.numbers.entries n ≡ (if attachments t + 1 == n then Some a else in_slots middle.numbers.entries n)
-    number_of n e = numbers n ∙ ap (λ m. if m == n then Some a else in_slots middle.numbers.entries n) e
+    number_of : (n : ℕ) → a.number ≡ attachments t + 1 → at_number new.numbers.entries n ≡ (if attachments t + 1 == n then Some a else at_number middle.numbers.entries n)
+    number_of n e = numbers n ∙ ap (λ m. if m == n then Some a else at_number middle.numbers.entries n) e
 
     number : Attachment → ℕ
     number b = b.number
 
-    at_number : (n : ℕ) → in_slots new.numbers.entries n ≡ (if attachments t + 1 == n then Some a else in_slots middle.numbers.entries n)
-    at_number n = number_of n (ap number is)
+    by_its_number : (n : ℕ) → at_number new.numbers.entries n ≡ (if attachments t + 1 == n then Some a else at_number middle.numbers.entries n)
+    by_its_number n = number_of n (ap number is)
 
 -- the link that was where an attach is now has ended
 place_gone : (here own handle : Bool) (n : ℕ) (m v : Option Link) → (here && (own && handle)) ≡ true → has_number n m ≡ false

@@ -21,7 +21,7 @@ use Rattle.router_trace.specs.Links.{Happened, sends, receives, initial_of, begu
 use Rattle.state_links.specs.declared.link.Link.{Link}
 use Rattle.state_links.specs.declared.link.LinkEnd.{LinkEnd}
 use Rattle.state_links.specs.declared.link.LinkEnd.TheVariants as ends
-use Rattle.state_links.specs.Ends.{end_of, link_of, begun_end, begun, with_grant, with_count, with_our_count, with_our_grant, end_behind_their_flow, end_behind_their_transfer, end_behind_our_flow, end_behind_our_transfer, behind_their_flow, behind_their_transfer, behind_our_flow, behind_our_transfer}
+use Rattle.state_links.specs.Ends.{end_of, link_of, begun_end, begun, with_grant, with_count, with_our_count, with_our_grant, end_after_their_flow, end_after_their_transfer, end_after_our_flow, end_after_our_transfer, after_their_flow, after_their_transfer, after_our_flow, after_our_transfer}
 
 -- the ends
 begun_same : (role : Role) (initial : Option ℕ) (theirs : ℕ) → begun_end role initial theirs ≡ end_of (view.begins role initial theirs)
@@ -40,11 +40,11 @@ count_same : (n : Option ℕ) (h : receiving.Received) → with_count n (recv_en
 count_same None h = refl
 count_same (Some n) h = count_if (nat_le (distance (receiving.delivery_count h) n) (receiving.unused h)) n h
 
-their_flow_same : (f : Flow) (h : Happened) → end_behind_their_flow f (end_of h) ≡ end_of (view.flowed_to f h)
+their_flow_same : (f : Flow) (h : Happened) → end_after_their_flow f (end_of h) ≡ end_of (view.flowed_to f h)
 their_flow_same f (sends h) = ap ends.Sends (grant_same f f.link_credit h)
 their_flow_same f (receives h) = ap ends.Receives (count_same f.delivery_count h)
 
-their_transfer_same : (x : Transfer) (payload : List ℕ) (h : Happened) → end_behind_their_transfer x payload (end_of h) ≡ end_of (view.came_to x payload h)
+their_transfer_same : (x : Transfer) (payload : List ℕ) (h : Happened) → end_after_their_transfer x payload (end_of h) ≡ end_of (view.came_to x payload h)
 their_transfer_same x payload (sends h) = refl
 their_transfer_same x payload (receives h) = ap ends.Receives (received.at_transfer (frame x payload) h)
 
@@ -57,11 +57,11 @@ our_grant_same None k h = refl
 our_grant_same (Some n) None h = refl
 our_grant_same (Some n) (Some k) h = received.at_grant _ h
 
-our_flow_same : (f : Flow) (h : Happened) → end_behind_our_flow f (end_of h) ≡ end_of (view.flowed_from f h)
+our_flow_same : (f : Flow) (h : Happened) → end_after_our_flow f (end_of h) ≡ end_of (view.flowed_from f h)
 our_flow_same f (sends h) = ap ends.Sends (our_count_same f.delivery_count h)
 our_flow_same f (receives h) = ap ends.Receives (our_grant_same f.delivery_count f.link_credit h)
 
-start_same : (going_on : Bool) (h : Happened) → end_behind_our_transfer going_on (end_of h) ≡ end_of (view.started going_on h)
+start_same : (going_on : Bool) (h : Happened) → end_after_our_transfer going_on (end_of h) ≡ end_of (view.started going_on h)
 start_same true (sends h) = refl
 start_same false (sends h) = ap ends.Sends (sent.at_start h)
 start_same going_on (receives h) = refl
@@ -73,22 +73,22 @@ begun_follows number key a last address =
     let P : LinkEnd → Link = λ e. record { number = number; key = key; address = address; durable = is_durable a.role a; end = e; going_on = false; drains = false; owes_drain = false } in
     ap P (begun_same a.role a.initial_delivery_count (initial_of last))
 
-pub their_flow_follows : (f : Flow) (l : view.Link) → behind_their_flow f (link_of l) ≡ link_of (view.behind_their_flow f l)
+pub their_flow_follows : (f : Flow) (l : view.Link) → after_their_flow f (link_of l) ≡ link_of (view.after_their_flow f l)
 their_flow_follows f l =
     let P : LinkEnd → Link = λ e. record { number = l.number; key = l.key; address = l.address; durable = l.durable; end = e; going_on = l.going_on; drains = f.drain; owes_drain = f.drain } in
     ap P (their_flow_same f l.happened)
 
-pub their_transfer_follows : (x : Transfer) (payload : List ℕ) (l : view.Link) → behind_their_transfer x payload (link_of l) ≡ link_of (view.behind_their_transfer x payload l)
+pub their_transfer_follows : (x : Transfer) (payload : List ℕ) (l : view.Link) → after_their_transfer x payload (link_of l) ≡ link_of (view.after_their_transfer x payload l)
 their_transfer_follows x payload l =
     let P : LinkEnd → Link = λ e. record { number = l.number; key = l.key; address = l.address; durable = l.durable; end = e; going_on = l.going_on; drains = l.drains; owes_drain = l.owes_drain } in
     ap P (their_transfer_same x payload l.happened)
 
-pub our_flow_follows : (f : Flow) (l : view.Link) → behind_our_flow f (link_of l) ≡ link_of (view.behind_our_flow f l)
+pub our_flow_follows : (f : Flow) (l : view.Link) → after_our_flow f (link_of l) ≡ link_of (view.after_our_flow f l)
 our_flow_follows f l =
     let P : LinkEnd → Link = λ e. record { number = l.number; key = l.key; address = l.address; durable = l.durable; end = e; going_on = l.going_on; drains = l.drains; owes_drain = l.owes_drain && not f.drain } in
     ap P (our_flow_same f l.happened)
 
-pub our_transfer_follows : (x : Transfer) (l : view.Link) → behind_our_transfer x (link_of l) ≡ link_of (view.behind_our_transfer x l)
+pub our_transfer_follows : (x : Transfer) (l : view.Link) → after_our_transfer x (link_of l) ≡ link_of (view.after_our_transfer x l)
 our_transfer_follows x l =
     let P : LinkEnd → Link = λ e. record { number = l.number; key = l.key; address = l.address; durable = l.durable; end = e; going_on = x.more && not x.aborted; drains = l.drains; owes_drain = l.owes_drain } in
     ap P (start_same l.going_on l.happened)

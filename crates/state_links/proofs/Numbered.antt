@@ -17,7 +17,7 @@ use Rattle.router_trace.specs.declared.handle.Attachment.{Attachment}
 use Rattle.router_trace.specs.declared.handle.PeerHandle.{PeerHandle}
 use Rattle.router_trace.specs.Trace.{Trace, Did, Out, Took, Bound, Booked, Began, did}
 use Rattle.router_trace.specs.Sessions.{theirs, maps}
-use Rattle.router_trace.specs.Links.{Link, address_by, is_taken, is_taken_in, attachments, attached, asked, key_at, link, link_in, link_behind, link_at, link_by, heard_link, names, names_by, their_handle, is_handle, ends_handle_in, has_number, is_attached, newest_in, newest_by, last_of_key, numbered, same_key, behind_their_flow, behind_their_transfer, behind_our_flow, behind_our_transfer}
+use Rattle.router_trace.specs.Links.{Link, address_by, is_taken, is_taken_in, attachments, attached, asked, key_at, link, link_in, link_after, link_at, link_by, heard_link, names, names_by, their_handle, is_handle, ends_handle_in, has_number, is_attached, newest_in, newest_by, last_of_key, numbered, same_key, after_their_flow, after_their_transfer, after_our_flow, after_our_transfer}
 
 -- a number that is found is at most the count
 bound_if : (taken pass : Bool) (new : Attachment) (n : ℕ) (v : Option Attachment) (a : Attachment) → new.number ≡ n + 1
@@ -81,8 +81,8 @@ number_map n f keeps (Some l) e = ap (λ m. m == n) (keeps l) ∙ e
 
 heard_stays : (n : ℕ) (body : Perf) (payload : List ℕ) (h : ℕ) (known : ℕ → Option PeerHandle) (v : Option Link)
     → has_number n v ≡ false → has_number n (heard_link body payload h known v) ≡ false
-heard_stays n (perf.Flow f) payload h known v e = number_if n (names_by f.handle known h) _ _ (number_map n (behind_their_flow f) (λ l. refl) v e) e
-heard_stays n (perf.Transfer x) payload h known v e = number_if n (names (known x.handle) h) _ _ (number_map n (behind_their_transfer x payload) (λ l. refl) v e) e
+heard_stays n (perf.Flow f) payload h known v e = number_if n (names_by f.handle known h) _ _ (number_map n (after_their_flow f) (λ l. refl) v e) e
+heard_stays n (perf.Transfer x) payload h known v e = number_if n (names (known x.handle) h) _ _ (number_map n (after_their_transfer x payload) (λ l. refl) v e) e
 heard_stays n _ payload h known v e = e
 
 item_stays : (n : ℕ) (i : Item) (o h : ℕ) (channels : ℕ → Option PeerChannel) (handles : ℕ → Option PeerHandle) (v : Option Link)
@@ -110,15 +110,15 @@ put_stays : (n : ℕ) (body : Perf) (own o h number : ℕ) (key : Attach → Lin
 put_stays n (perf.Attach a) own o h number key last v new e =
     number_if n ((own == o) && (a.handle == h)) _ _ (attached_other n number (key a) a last (address_by a.role a) new) e
 put_stays n (perf.Flow f) own o h number key last v new e =
-    number_if n ((own == o) && is_handle f.handle h) _ _ (number_map n (behind_our_flow f) (λ l. refl) v e) e
+    number_if n ((own == o) && is_handle f.handle h) _ _ (number_map n (after_our_flow f) (λ l. refl) v e) e
 put_stays n (perf.Transfer x) own o h number key last v new e =
-    number_if n ((own == o) && (x.handle == h)) _ _ (number_map n (behind_our_transfer x) (λ l. refl) v e) e
+    number_if n ((own == o) && (x.handle == h)) _ _ (number_map n (after_our_transfer x) (λ l. refl) v e) e
 put_stays n body own o h number key last v new e = number_if n (ends_handle_in body own o h) None v refl e
 
-pub behind_stays : (n : ℕ) (i : Item) (o h number : ℕ) (key : Attach → LinkKey) (last : Option Asked) (v : Option Link)
-    → (number == n) ≡ false → has_number n v ≡ false → has_number n (link_behind i o h number key last v) ≡ false
-behind_stays n (item.Frame sasl own body payload) o h number key last v new e = put_stays n body own o h number key last v new e
-behind_stays n _ o h number key last v new e = e
+pub after_stays : (n : ℕ) (i : Item) (o h number : ℕ) (key : Attach → LinkKey) (last : Option Asked) (v : Option Link)
+    → (number == n) ≡ false → has_number n v ≡ false → has_number n (link_after i o h number key last v) ≡ false
+after_stays n (item.Frame sasl own body payload) o h number key last v new e = put_stays n body own o h number key last v new e
+after_stays n _ o h number key last v new e = e
 
 pub not_next : (n m : ℕ) → m ≤ n → (n + 1 == m) ≡ false
 not_next n m below = ne_eqb (n + 1) m (λ e. above n m below e)
@@ -129,4 +129,4 @@ not_next n m below = ne_eqb (n + 1) m (λ e. above n m below e)
 pub out_stays : (d : ℕ) (i : Item) (t : Trace) (a : Attachment) → a.number ≤ attachments t → is_attached t a ≡ false → is_attached (Out d i ∷ t) a ≡ false
 out_stays d i t a below e =
     number_if a.number (d == a.conn.0) _ _
-    (behind_stays a.number i a.channel a.handle (attachments t + 1) (key_at t a.conn.0) (asked t a.conn.0) (link t a.conn.0 a.channel a.handle) (not_next (attachments t) a.number below) e) e
+    (after_stays a.number i a.channel a.handle (attachments t + 1) (key_at t a.conn.0) (asked t a.conn.0) (link t a.conn.0 a.channel a.handle) (not_next (attachments t) a.number below) e) e

@@ -22,7 +22,7 @@ use Rattle.state_links.specs.Looking.{sends_at}
 use Rattle.state_links.specs.Naming.{NamesFit}
 use Rattle.state_links.specs.Owed.{is_same, is_listed, owed_at, owed_of_session, owed_of_connection, owed_of, owes_in_session, owes_on}
 use Rattle.state_collections.specs.Places.{in_map, at}
-use Rattle.state_collections.specs.Slots.{in_slots}
+use Rattle.state_collections.specs.NumberMap.{at_number}
 
 -- one turn of a loop that gathers, and its end
 pub turn : (old here new all : List Attachment) (f : ℕ → List Attachment) (ks rest : List ℕ) (k : ℕ)
@@ -152,12 +152,12 @@ owes_same : (n : ℕ) (v : Option view.Link) → passes n (option_map link_of v)
 owes_same n None = refl
 owes_same n (Some l) = ap (λ b. (l.number == n) && (l.owes_drain && b)) (sends_same l.happened)
 
-pub owed_follows : (s : LinkTable) (t : Trace) (xs : List Attachment) → xs ≡ owed_of (in_slots s.links.rows) s.owing.keys → TableFit s t
+pub owed_follows : (s : LinkTable) (t : Trace) (xs : List Attachment) → xs ≡ owed_of (at_number s.links.rows) s.owing.keys → TableFit s t
     → (a : Attachment) → is_listed a xs ≡ owes_one (link t a.conn.0 a.channel a.handle) a.number
 owed_follows s t xs are fit a =
     ap (is_listed a) are
-    ∙ any_gathered (λ b. is_same b a) (λ c. owed_of_connection c (in_slots s.links.rows c)) a.conn.0 (λ c. passes a.number (in_map (in_map (in_slots s.links.rows c) a.channel) a.handle))
-    (λ c. in_a_connection a c (in_slots s.links.rows c)) s.owing.keys
+    ∙ any_gathered (λ b. is_same b a) (λ c. owed_of_connection c (at_number s.links.rows c)) a.conn.0 (λ c. passes a.number (in_map (in_map (at_number s.links.rows c) a.channel) a.handle))
+    (λ c. in_a_connection a c (at_number s.links.rows c)) s.owing.keys
     ∙ ap (λ b. b && passes a.number (at s.links a.conn.0 a.channel a.handle)) (has_mark a.conn.0 s.owing.keys)
     ∙ marked_only (contains nat_cmp s.owing a.conn.0) a.number (at s.links a.conn.0 a.channel a.handle) (fit.owing a.conn.0 a.channel a.handle)
     ∙ ap (passes a.number) (fit.links a.conn.0 a.channel a.handle)
@@ -200,16 +200,16 @@ settled_on : (o h : ℕ) (s : Option (BTreeMap ℕ (BTreeMap ℕ Link))) → owe
 settled_on o h None e = refl
 settled_on o h (Some s) e = settled_of h (get nat_cmp s o) (settled_sessions (is_at (nat_cmp o)) s.entries e)
 
-pub still_owing : (s : LinkTable) (marks : BTreeSet ℕ) → ((c : ℕ) → contains nat_cmp marks c ≡ (owes_on (in_slots s.links.rows c) && contains nat_cmp s.owing c))
+pub still_owing : (s : LinkTable) (marks : BTreeSet ℕ) → ((c : ℕ) → contains nat_cmp marks c ≡ (owes_on (at_number s.links.rows c) && contains nat_cmp s.owing c))
     → (c o h : ℕ) → (contains nat_cmp s.owing c ≡ false → owes (at s.links c o h) ≡ false) → contains nat_cmp marks c ≡ false → owes (at s.links c o h) ≡ false
-still_owing s marks are c o h fit e = either (owes_on (in_slots s.links.rows c)) refl (sym (are c) ∙ e)
+still_owing s marks are c o h fit e = either (owes_on (at_number s.links.rows c)) refl (sym (are c) ∙ e)
   where
-    either : (b : Bool) → owes_on (in_slots s.links.rows c) ≡ b → (b && contains nat_cmp s.owing c) ≡ false → owes (at s.links c o h) ≡ false
+    either : (b : Bool) → owes_on (at_number s.links.rows c) ≡ b → (b && contains nat_cmp s.owing c) ≡ false → owes (at s.links c o h) ≡ false
     either true x f = fit f
-    either false x f = settled_on o h (in_slots s.links.rows c) x
+    either false x f = settled_on o h (at_number s.links.rows c) x
 
 pub settled_fits : (s u : LinkTable) (t : Trace) → u ≡ record s { owing = u.owing }
-    → ((c : ℕ) → contains nat_cmp u.owing c ≡ (owes_on (in_slots s.links.rows c) && contains nat_cmp s.owing c))
+    → ((c : ℕ) → contains nat_cmp u.owing c ≡ (owes_on (at_number s.links.rows c) && contains nat_cmp s.owing c))
     → TableFit s t → TableFit u t
 settled_fits s u t is marks fit = record {
   links = λ c o h. ap (λ (x : LinkTable). at x.links c o h) is ∙ fit.links c o h;

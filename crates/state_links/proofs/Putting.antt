@@ -8,7 +8,7 @@ use Rattle.router_trace.specs.Trace.{Trace, Out}
 use Rattle.router_trace.specs.Links as view
 use Rattle.router_trace.specs.Links.{link, is_handle}
 use Rattle.state_collections.specs.declared.by_handle.ByHandle.{ByHandle}
-use Rattle.state_collections.specs.declared.marks.Marks.{Marks}
+use Rattle.state_collections.specs.declared.number_set.NumberSet.{NumberSet}
 use Rattle.state_links.specs.declared.link.Link.{Link}
 use Rattle.state_links.specs.declared.link.Side.TheVariants.{Router}
 use Rattle.state_links.specs.declared.table.LinkTable.{LinkTable}
@@ -49,11 +49,11 @@ put_owes true true false body payload x old is o = ap owes is ∙ o
 put_owes true true true body payload x old is o = ap owes is ∙ our_owes body payload old o
 
 -- a table after the router's flow or transfer
-pub put_noted : (conn own : ℕ) (handle : Option ℕ) (sasl : Bool) (body : Perf) (payload : List ℕ) (s : LinkTable) (rows : ByHandle Link) (touched : Marks) (t : Trace)
+pub put_noted : (conn own : ℕ) (handle : Option ℕ) (sasl : Bool) (body : Perf) (payload : List ℕ) (s : LinkTable) (rows : ByHandle Link) (touched : NumberSet) (t : Trace)
     → ((c o h : ℕ) → at rows c o h ≡ (if conn == c then (if own == o then (if is_handle handle h then option_map (noted Router body payload) (at s.links c o h) else at s.links c o h) else at s.links c o h) else at s.links c o h))
     → IsNoted body handle → TableFit s t → TableFit (record s { links = rows; touched = touched }) (Out conn (item.Frame sasl own body payload) ∷ t)
 put_noted conn own handle sasl (perf.Flow f) payload s rows touched t links is fit = record {
-  links = λ d o h. put_row (conn == d) (own == o) (is_handle f.handle h) (noted Router (perf.Flow f) payload) (view.behind_our_flow f) _ (at s.links d o h) (link t d o h)
+  links = λ d o h. put_row (conn == d) (own == o) (is_handle f.handle h) (noted Router (perf.Flow f) payload) (view.after_our_flow f) _ (at s.links d o h) (link t d o h)
       (subst (λ (q : Option ℕ). at rows d o h ≡ (if conn == d then (if own == o then (if is_handle q h then option_map (noted Router (perf.Flow f) payload) (at s.links d o h) else at s.links d o h) else at s.links d o h) else at s.links d o h)) (sym is) (links d o h))
       (fit.links d o h) (our_flow_follows f);
   count = fit.count;
@@ -61,7 +61,7 @@ put_noted conn own handle sasl (perf.Flow f) payload s rows touched t links is f
   owing = λ d o h e. put_owes (conn == d) (own == o) (is_handle handle h) (perf.Flow f) payload _ (at s.links d o h) (links d o h) (fit.owing d o h e);
 }
 put_noted conn own handle sasl (perf.Transfer x) payload s rows touched t links is fit = record {
-  links = λ d o h. put_row (conn == d) (own == o) (x.handle == h) (noted Router (perf.Transfer x) payload) (view.behind_our_transfer x) _ (at s.links d o h) (link t d o h)
+  links = λ d o h. put_row (conn == d) (own == o) (x.handle == h) (noted Router (perf.Transfer x) payload) (view.after_our_transfer x) _ (at s.links d o h) (link t d o h)
       (subst (λ (q : Option ℕ). at rows d o h ≡ (if conn == d then (if own == o then (if is_handle q h then option_map (noted Router (perf.Transfer x) payload) (at s.links d o h) else at s.links d o h) else at s.links d o h) else at s.links d o h)) (sym is) (links d o h))
       (fit.links d o h) (our_transfer_follows x);
   count = fit.count;

@@ -17,8 +17,8 @@ use Rattle.state_links.proofs.Follows.{begun_follows, their_flow_follows, their_
 
 -- what a performative of the peer does to its link
 abbrev pub heard : Perf → List ℕ → view.Link → view.Link
-heard (perf.Flow f) payload l = view.behind_their_flow f l
-heard (perf.Transfer x) payload l = view.behind_their_transfer x payload l
+heard (perf.Flow f) payload l = view.after_their_flow f l
+heard (perf.Transfer x) payload l = view.after_their_transfer x payload l
 heard _ payload l = l
 
 pub noted_follows : (body : Perf) (payload : List ℕ) (l : view.Link) → noted Peer body payload (link_of l) ≡ link_of (heard body payload l)

@@ -12,10 +12,10 @@ use Rattle.router_trace.specs.declared.handle.Asked.{Asked}
 use Rattle.router_trace.specs.declared.handle.Attachment.{Attachment}
 use Rattle.router_trace.specs.Trace.{Trace, Did, Out, Took, Bound, Booked, Began}
 use Rattle.router_trace.specs.Sessions.{theirs}
-use Rattle.router_trace.specs.Links.{Link, address_by, attachments, attached, asked, key_at, link, link_in, link_behind, their_handle, is_handle, ends_handle_in, has_number, if_attached, newest_in, newest_by, numbered, place_of, behind_our_flow, behind_our_transfer}
+use Rattle.router_trace.specs.Links.{Link, address_by, attachments, attached, asked, key_at, link, link_in, link_after, their_handle, is_handle, ends_handle_in, has_number, if_attached, newest_in, newest_by, numbered, place_of, after_our_flow, after_our_transfer}
 use Rattle.router_trace.specs.Following.{is_sending, owes_one}
 use Rattle.state_links.specs.Fits.{attachment}
-use Rattle.state_links.proofs.Numbered.{old_number, number_if, number_map, event_stays, behind_stays}
+use Rattle.state_links.proofs.Numbered.{old_number, number_if, number_map, event_stays, after_stays}
 
 contra : (a b : Bool) → (a ≡ false → b ≡ false) → b ≡ true → a ≡ true
 contra true b f e = refl
@@ -61,18 +61,18 @@ fresh_in : (body : Perf) (n m c own o h : ℕ) (key : Attach → LinkKey) (last 
     → new ≡ true → has_number n v ≡ false → has_number n (link_in body own o h m key last v) ≡ true → newest_in body own c m (λ a. new) w ≡ Some (attachment m c o h)
 fresh_in (perf.Attach a) n m c own o h key last v new w pass un e = at_attach (own == o) (a.handle == h) n m c own o h (key a) a last v new w refl refl pass un e
 fresh_in (perf.Flow f) n m c own o h key last v new w pass un e =
-    both_ways _ (number_if n ((own == o) && is_handle f.handle h) _ _ (number_map n (behind_our_flow f) (λ l. refl) v un) un) e
+    both_ways _ (number_if n ((own == o) && is_handle f.handle h) _ _ (number_map n (after_our_flow f) (λ l. refl) v un) un) e
 fresh_in (perf.Transfer x) n m c own o h key last v new w pass un e =
-    both_ways _ (number_if n ((own == o) && (x.handle == h)) _ _ (number_map n (behind_our_transfer x) (λ l. refl) v un) un) e
+    both_ways _ (number_if n ((own == o) && (x.handle == h)) _ _ (number_map n (after_our_transfer x) (λ l. refl) v un) un) e
 fresh_in body n m c own o h key last v new w pass un e = both_ways _ (number_if n (ends_handle_in body own o h) None v refl un) e
 
 fresh_by : (i : Item) (n m c o h : ℕ) (key : Attach → LinkKey) (last : Option Asked) (v : Option Link) (new : Bool) (w : Option Attachment)
-    → new ≡ true → has_number n v ≡ false → has_number n (link_behind i o h m key last v) ≡ true → newest_by i c m (λ a. new) w ≡ Some (attachment m c o h)
+    → new ≡ true → has_number n v ≡ false → has_number n (link_after i o h m key last v) ≡ true → newest_by i c m (λ a. new) w ≡ Some (attachment m c o h)
 fresh_by (item.Frame sasl own body payload) n m c o h key last v new w pass un e = fresh_in body n m c own o h key last v new w pass un e
 fresh_by _ n m c o h key last v new w pass un e = both_ways _ un e
 
 fresh_at : (here : Bool) (i : Item) (n m d c o h : ℕ) (key : Attach → LinkKey) (last : Option Asked) (v : Option Link) (new : Bool) (w : Option Attachment)
-    → (d == c) ≡ here → new ≡ true → m ≡ n → has_number n v ≡ false → has_number n (if here then link_behind i o h m key last v else v) ≡ true
+    → (d == c) ≡ here → new ≡ true → m ≡ n → has_number n v ≡ false → has_number n (if here then link_after i o h m key last v else v) ≡ true
     → newest_by i d m (λ a. new) w ≡ Some (attachment n c o h)
 fresh_at true i n m d c o h key last v new w same pass is un e =
     fresh_by i n m d o h key last v new w pass un e ∙ ap (λ k. Some (attachment m k o h)) (eqb-true d c same) ∙ ap (λ k. Some (attachment k c o h)) is
@@ -102,7 +102,7 @@ stands_where (Out d i ∷ t) c o h n e = by_new (attachments t + 1 == n) refl (s
     by_new true new before = by_old (has_number n (link t c o h)) new refl before
     by_new false new before =
         newest_other i d (attachments t + 1) (attachments t + 1 == n) (numbered t n) new
-        ∙ before (contra (has_number n (link t c o h)) _ (λ f. number_if n (d == c) _ _ (behind_stays n i o h (attachments t + 1) (key_at t c) (asked t c) (link t c o h) new f) f) e)
+        ∙ before (contra (has_number n (link t c o h)) _ (λ f. number_if n (d == c) _ _ (after_stays n i o h (attachments t + 1) (key_at t c) (asked t c) (link t c o h) new f) f) e)
 
 numbered_if_owing : (v : Option Link) (n : ℕ) → owes_one v n ≡ true → has_number n v ≡ true
 numbered_if_owing None n e = e

@@ -7,7 +7,7 @@ use Rattle.book_model.specs.Keys.{key_cmp}
 use Rattle.router_trace.specs.declared.handle.Attachment.{Attachment}
 use Rattle.state_links.specs.declared.names.Names.{Names}
 use Rattle.state_links.specs.Naming.{on_conn, on_session, on_handle, unless, IsThinned, Thinned}
-use Rattle.state_collections.specs.Slots.{in_slots}
+use Rattle.state_collections.specs.NumberMap.{at_number}
 
 same : (gone : Attachment → Bool) (e : Option Attachment) → IsThinned gone e e
 same gone None = tt
@@ -50,7 +50,7 @@ at_one gone here (Some a) f x = some here (gone a) refl f x
     some false b e (Some c) x = sym x
 
 pub none_gone : (gone : Attachment → Bool) (s : Names) → Thinned gone s s
-none_gone gone s = record { keys = λ k. same gone (get key_cmp s.keys.entries k); numbers = λ n. same gone (in_slots s.numbers.entries n) }
+none_gone gone s = record { keys = λ k. same gone (get key_cmp s.keys.entries k); numbers = λ n. same gone (at_number s.numbers.entries n) }
 
 pub and_further : (gone : Attachment → Bool) (r s t : Names) → Thinned gone r s → Thinned gone s t → Thinned gone r t
 and_further gone r s t x y = record {

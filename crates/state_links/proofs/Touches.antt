@@ -5,7 +5,7 @@ use Rattle.std.specs.List.{list_any}
 use Rattle.std.specs.Map.{lookup}
 use Rattle.std.specs.Ordering.{nat_cmp}
 use Rattle.std.specs.BTreeMap.{BTreeMap, get, is_at}
-use Rattle.state_collections.specs.Marks.{has}
+use Rattle.state_collections.specs.NumberSet.{has}
 use Rattle.std.proofs.lemmas.Bool.{eqb-true}
 use Rattle.router_trace.specs.Links.{is_handle}
 use Rattle.router_trace.specs.Sessions.{is_channel}
@@ -14,7 +14,7 @@ use Rattle.state_links.specs.declared.link.Link.{Link}
 use Rattle.state_links.specs.declared.table.LinkTable.{LinkTable}
 use Rattle.state_collections.specs.Places.{in_map, at}
 use Rattle.state_links.specs.Touching.{is_numbered, if_number, named_link, in_session, in_connection, Touched}
-use Rattle.state_collections.specs.Slots.{in_slots}
+use Rattle.state_collections.specs.NumberMap.{at_number}
 
 pub neither : (a b : Bool) → (a || b) ≡ false → (a ≡ false) × (b ≡ false)
 neither true b e = absurd cc
@@ -59,7 +59,7 @@ place_same links conn d o h (Some p) (Some q) e f g =
 pub left_touches : (conn own handle : ℕ) (old new : LinkTable)
     → ((k : ℕ) → has new.touched k ≡ (if is_numbered k (at old.links conn own handle) then true else has old.touched k))
     → ((c o h : ℕ) → at new.links c o h ≡ (if conn == c then (if own == o then (if handle == h then None else at old.links c o h) else at old.links c o h) else at old.links c o h))
-    → ((k : ℕ) → is_numbered k (at old.links conn own handle) ≡ false → in_slots old.names.numbers.entries k ≡ in_slots new.names.numbers.entries k)
+    → ((k : ℕ) → is_numbered k (at old.links conn own handle) ≡ false → at_number old.names.numbers.entries k ≡ at_number new.names.numbers.entries k)
     → Touched old new
 left_touches conn own handle old new touched links numbers =
     let un : (k : ℕ) → has new.touched k ≡ false → (is_numbered k (at old.links conn own handle) ≡ false) × (has old.touched k ≡ false) =
@@ -76,8 +76,8 @@ pub joined_touches : (conn own handle : ℕ) (l : Link) (a : Attachment) (old ne
     → ((k : ℕ) → touched k ≡ (if is_numbered k (at old.links conn own handle) then true else has old.touched k))
     → ((k : ℕ) → has new.touched k ≡ (if l.number == k then true else touched k))
     → ((c o h : ℕ) → at new.links c o h ≡ (if conn == c then (if own == o then (if handle == h then Some l else at old.links c o h) else at old.links c o h) else at old.links c o h))
-    → ((k : ℕ) → is_numbered k (at old.links conn own handle) ≡ false → in_slots old.names.numbers.entries k ≡ middle k)
-    → ((k : ℕ) → in_slots new.names.numbers.entries k ≡ (if l.number == k then Some a else middle k))
+    → ((k : ℕ) → is_numbered k (at old.links conn own handle) ≡ false → at_number old.names.numbers.entries k ≡ middle k)
+    → ((k : ℕ) → at_number new.names.numbers.entries k ≡ (if l.number == k then Some a else middle k))
     → Touched old new
 joined_touches conn own handle l a old new touched middle left joined links before behind =
     let un : (k : ℕ) → has new.touched k ≡ false → ((l.number == k) ≡ false) × (touched k ≡ false) = λ k e. untrue _ _ (sym (joined k) ∙ e) in
@@ -143,10 +143,10 @@ lost_row k false x old is un = ap (if_number k) (sym is)
 lost_row k true x old is un = unnumbered k old (un refl) ∙ ap (if_number k) (sym is)
 
 pub ended_touches : (conn own : ℕ) (ended : Option (BTreeMap ℕ Link)) (old new : LinkTable)
-    → ended ≡ in_map (in_slots old.links.rows conn) own
+    → ended ≡ in_map (at_number old.links.rows conn) own
     → ((k : ℕ) → has new.touched k ≡ (in_ended k ended || has old.touched k))
     → ((c o h : ℕ) → at new.links c o h ≡ (if conn == c then (if own == o then None else at old.links c o h) else at old.links c o h))
-    → ((k : ℕ) → in_ended k ended ≡ false → in_slots old.names.numbers.entries k ≡ in_slots new.names.numbers.entries k)
+    → ((k : ℕ) → in_ended k ended ≡ false → at_number old.names.numbers.entries k ≡ at_number new.names.numbers.entries k)
     → Touched old new
 ended_touches conn own ended old new gives touched links numbers =
     let un : (k : ℕ) → has new.touched k ≡ false → (in_ended k ended ≡ false) × (has old.touched k ≡ false) = λ k e. neither _ _ (sym (touched k) ∙ e) in
@@ -160,10 +160,10 @@ ended_touches conn own ended old new gives touched links numbers =
     }
 
 pub lost_touches : (conn : ℕ) (lost : Option (BTreeMap ℕ (BTreeMap ℕ Link))) (old new : LinkTable)
-    → lost ≡ in_slots old.links.rows conn
+    → lost ≡ at_number old.links.rows conn
     → ((k : ℕ) → has new.touched k ≡ (in_lost k lost || has old.touched k))
     → ((c o h : ℕ) → at new.links c o h ≡ (if conn == c then None else at old.links c o h))
-    → ((k : ℕ) → in_lost k lost ≡ false → in_slots old.names.numbers.entries k ≡ in_slots new.names.numbers.entries k)
+    → ((k : ℕ) → in_lost k lost ≡ false → at_number old.names.numbers.entries k ≡ at_number new.names.numbers.entries k)
     → Touched old new
 lost_touches conn lost old new gives touched links numbers =
     let un : (k : ℕ) → has new.touched k ≡ false → (in_lost k lost ≡ false) × (has old.touched k ≡ false) = λ k e. neither _ _ (sym (touched k) ∙ e) in

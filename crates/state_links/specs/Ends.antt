@@ -11,7 +11,7 @@ use Rattle.amqp_session.specs.Serials.{distance}
 use Rattle.amqp_link.specs.declared.send_end.SendEnd.{SendEnd}
 use Rattle.amqp_link.specs.Deliveries.{frame}
 use Rattle.amqp_link.specs.Gathering.{RecvFigures}
-use Rattle.amqp_link.specs.Figures.{send_end_of, begun_at, behind_grant, behind_start, behind_told_count, recv_end_of, unused_at, awaiting_at, behind_our_grant, behind_count, behind_transfer}
+use Rattle.amqp_link.specs.Figures.{send_end_of, begun_at, after_grant, after_start, after_told_count, recv_end_of, unused_at, awaiting_at, after_our_grant, after_count, after_transfer}
 use Rattle.book_model.specs.declared.terminus.LinkKey.{LinkKey}
 use Rattle.router_trace.specs.Durable.{is_durable}
 use Rattle.router_trace.specs.Links.{Link as View, Happened, sends, receives}
@@ -57,55 +57,55 @@ begun number key a theirs address = record {
 -- ... after a flow of the peer, ...
 abbrev pub with_grant : Option ℕ → Option ℕ → SendEnd → SendEnd
 with_grant count None e = e
-with_grant count (Some credit) e = behind_grant count credit e
+with_grant count (Some credit) e = after_grant count credit e
 
 abbrev pub with_count : Option ℕ → RecvFigures → RecvFigures
 with_count None e = e
-with_count (Some n) e = if nat_le (distance e.count n) (unused_at e) then behind_count n e else e
+with_count (Some n) e = if nat_le (distance e.count n) (unused_at e) then after_count n e else e
 
-abbrev pub end_behind_their_flow : Flow → LinkEnd → LinkEnd
-end_behind_their_flow f (ends.Sends e) = ends.Sends (with_grant f.delivery_count f.link_credit e)
-end_behind_their_flow f (ends.Receives e) = ends.Receives (with_count f.delivery_count e)
+abbrev pub end_after_their_flow : Flow → LinkEnd → LinkEnd
+end_after_their_flow f (ends.Sends e) = ends.Sends (with_grant f.delivery_count f.link_credit e)
+end_after_their_flow f (ends.Receives e) = ends.Receives (with_count f.delivery_count e)
 
-abbrev pub behind_their_flow : Flow → Link → Link
-behind_their_flow f l = record l { end = end_behind_their_flow f l.end; drains = f.drain; owes_drain = f.drain }
+abbrev pub after_their_flow : Flow → Link → Link
+after_their_flow f l = record l { end = end_after_their_flow f l.end; drains = f.drain; owes_drain = f.drain }
 
 -- ... after a transfer of the peer, ...
-abbrev pub end_behind_their_transfer : Transfer → List ℕ → LinkEnd → LinkEnd
-end_behind_their_transfer x payload (ends.Sends e) = ends.Sends e
-end_behind_their_transfer x payload (ends.Receives e) = ends.Receives (behind_transfer (frame x payload) e)
+abbrev pub end_after_their_transfer : Transfer → List ℕ → LinkEnd → LinkEnd
+end_after_their_transfer x payload (ends.Sends e) = ends.Sends e
+end_after_their_transfer x payload (ends.Receives e) = ends.Receives (after_transfer (frame x payload) e)
 
-abbrev pub behind_their_transfer : Transfer → List ℕ → Link → Link
-behind_their_transfer x payload l = record l { end = end_behind_their_transfer x payload l.end }
+abbrev pub after_their_transfer : Transfer → List ℕ → Link → Link
+after_their_transfer x payload l = record l { end = end_after_their_transfer x payload l.end }
 
 -- ... after a flow of the router, ...
 abbrev pub with_our_count : Option ℕ → SendEnd → SendEnd
 with_our_count None e = e
-with_our_count (Some n) e = behind_told_count n e
+with_our_count (Some n) e = after_told_count n e
 
 abbrev pub with_our_grant : Option ℕ → Option ℕ → RecvFigures → RecvFigures
-with_our_grant (Some n) (Some k) e = behind_our_grant (record { count = n; credit = k }) e
+with_our_grant (Some n) (Some k) e = after_our_grant (record { count = n; credit = k }) e
 with_our_grant _ _ e = e
 
-abbrev pub end_behind_our_flow : Flow → LinkEnd → LinkEnd
-end_behind_our_flow f (ends.Sends e) = ends.Sends (with_our_count f.delivery_count e)
-end_behind_our_flow f (ends.Receives e) = ends.Receives (with_our_grant f.delivery_count f.link_credit e)
+abbrev pub end_after_our_flow : Flow → LinkEnd → LinkEnd
+end_after_our_flow f (ends.Sends e) = ends.Sends (with_our_count f.delivery_count e)
+end_after_our_flow f (ends.Receives e) = ends.Receives (with_our_grant f.delivery_count f.link_credit e)
 
-abbrev pub behind_our_flow : Flow → Link → Link
-behind_our_flow f l = record l { end = end_behind_our_flow f l.end; owes_drain = l.owes_drain && not f.drain }
+abbrev pub after_our_flow : Flow → Link → Link
+after_our_flow f l = record l { end = end_after_our_flow f l.end; owes_drain = l.owes_drain && not f.drain }
 
 -- ... and after a transfer of the router
-abbrev pub end_behind_our_transfer : Bool → LinkEnd → LinkEnd
-end_behind_our_transfer going_on (ends.Sends e) = ends.Sends (if going_on then e else behind_start e)
-end_behind_our_transfer going_on (ends.Receives e) = ends.Receives e
+abbrev pub end_after_our_transfer : Bool → LinkEnd → LinkEnd
+end_after_our_transfer going_on (ends.Sends e) = ends.Sends (if going_on then e else after_start e)
+end_after_our_transfer going_on (ends.Receives e) = ends.Receives e
 
-abbrev pub behind_our_transfer : Transfer → Link → Link
-behind_our_transfer x l = record l { end = end_behind_our_transfer l.going_on l.end; going_on = x.more && not x.aborted }
+abbrev pub after_our_transfer : Transfer → Link → Link
+after_our_transfer x l = record l { end = end_after_our_transfer l.going_on l.end; going_on = x.more && not x.aborted }
 
 -- after a performative of one side
 abbrev pub noted : Side → Perf → List ℕ → Link → Link
-noted Peer (perf.Flow f) payload l = behind_their_flow f l
-noted Peer (perf.Transfer x) payload l = behind_their_transfer x payload l
-noted Router (perf.Flow f) payload l = behind_our_flow f l
-noted Router (perf.Transfer x) payload l = behind_our_transfer x l
+noted Peer (perf.Flow f) payload l = after_their_flow f l
+noted Peer (perf.Transfer x) payload l = after_their_transfer x payload l
+noted Router (perf.Flow f) payload l = after_our_flow f l
+noted Router (perf.Transfer x) payload l = after_our_transfer x l
 noted _ _ payload l = l

@@ -9,7 +9,7 @@ use Rattle.router_trace.specs.Trace.{Trace}
 use Rattle.router_trace.specs.Links.{last_of_key, numbered, holder, place_of}
 use Rattle.router_trace.specs.declared.handle.Attachment.{Attachment}
 use Rattle.state_links.specs.declared.names.Names.{Names}
-use Rattle.state_collections.specs.Slots.{in_slots}
+use Rattle.state_collections.specs.NumberMap.{at_number}
 
 -- the place of an attachment
 abbrev pub on_conn : ℕ → Attachment → Bool
@@ -34,7 +34,7 @@ IsThinned gone (Some a) None = gone a ≡ true
 
 pub record Thinned (gone : Attachment → Bool) (old new : Names) : Type 0 where
   pub keys : (k : LinkKey) → IsThinned gone (get key_cmp old.keys.entries k) (get key_cmp new.keys.entries k)
-  pub numbers : (n : ℕ) → IsThinned gone (in_slots old.numbers.entries n) (in_slots new.numbers.entries n)
+  pub numbers : (n : ℕ) → IsThinned gone (at_number old.numbers.entries n) (at_number new.numbers.entries n)
 
 -- an entry, the last attachment, and the one that is attached
 abbrev pub Remembers : Option Attachment → Option Attachment → Option Attachment → Type 0
@@ -43,4 +43,4 @@ Remembers None last attached = attached ≡ None
 
 pub record NamesFit (s : Names) (t : Trace) : Type 0 where
   pub keys : (k : LinkKey) → Remembers (get key_cmp s.keys.entries k) (last_of_key t k) (holder t k)
-  pub numbers : (n : ℕ) → Remembers (in_slots s.numbers.entries n) (numbered t n) (place_of t n)
+  pub numbers : (n : ℕ) → Remembers (at_number s.numbers.entries n) (numbered t n) (place_of t n)

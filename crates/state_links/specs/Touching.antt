@@ -3,12 +3,12 @@ use Rattle.std.specs.Prelude.{◌≡◌, ◌≤◌, ℕ, Bool, true, false, ◌=
 use Rattle.std.specs.List.{list_any}
 use Rattle.std.specs.Ordering.{nat_cmp}
 use Rattle.std.specs.BTreeMap.{BTreeMap, get}
-use Rattle.state_collections.specs.Marks.{has}
+use Rattle.state_collections.specs.NumberSet.{has}
 use Rattle.state_links.specs.declared.link.Link.{Link}
 use Rattle.state_links.specs.declared.links.Links.{Links}
 use Rattle.state_links.specs.declared.table.LinkTable.{LinkTable}
 use Rattle.state_collections.specs.Places.{at}
-use Rattle.state_collections.specs.Slots.{in_slots}
+use Rattle.state_collections.specs.NumberMap.{at_number}
 
 -- a link has this number
 abbrev pub is_numbered : ℕ → Option Link → Bool
@@ -36,7 +36,7 @@ in_connection k sessions = list_any (λ e. in_session k e.1) sessions.entries
 pub record Touched (old new : LinkTable) : Type 0 where
   pub before : (k : ℕ) → has new.touched k ≡ false → has old.touched k ≡ false
   pub links : (k : ℕ) → has new.touched k ≡ false → (c o h : ℕ) → if_number k (at old.links c o h) ≡ if_number k (at new.links c o h)
-  pub numbers : (k : ℕ) → has new.touched k ≡ false → in_slots old.names.numbers.entries k ≡ in_slots new.names.numbers.entries k
+  pub numbers : (k : ℕ) → has new.touched k ≡ false → at_number old.names.numbers.entries k ≡ at_number new.names.numbers.entries k
 
 -- the number of a link that may have changed
 abbrev pub is_touched : Links → ℕ → Bool

@@ -2,9 +2,9 @@
 ghost use Rattle.std.specs.Prelude.{◌≡◌, List, ℕ, Some, if◌then◌else◌, IfOk, OnOk};
 ghost use Rattle.std.specs.Option.{option_map};
 ghost use Rattle.router_trace.specs.Links.{address_by, source_address, target_address, text_of};
-ghost use Rattle.amqp_link.specs.Figures.{behind_start};
+ghost use Rattle.amqp_link.specs.Figures.{after_start};
 ghost use Rattle.state_links.specs.declared.link.Side.TheVariants.{Peer, Router};
-ghost use Rattle.state_links.specs.Ends.{link_of, begun, begun_end, behind_their_flow, behind_their_transfer, behind_our_flow, behind_our_transfer, noted, with_grant, with_count, with_our_count, with_our_grant};
+ghost use Rattle.state_links.specs.Ends.{link_of, begun, begun_end, after_their_flow, after_their_transfer, after_our_flow, after_our_transfer, noted, with_grant, with_count, with_our_count, with_our_grant};
 ghost use Rattle.state_links.specs.Giving.{given_at, part_noted};
 ghost use Rattle.state_links.specs.Looking.{credit_on, credit_at, unused_on, unused_end, count_on, count_at, sends_at, middle_at, is_new, is_in_middle, durable_at};
 ghost use Rattle.router_trace.specs.Links.{Link as View};
@@ -284,7 +284,7 @@ impl Link {
 
     /// Applies a flow of the peer: the credit that it grants or the delivery-count that it has, and its drain flag.
     pub fn on_their_flow(&mut self, flow: &Flow)
-        ensures { self.new ≡ behind_their_flow flow.now self.old }
+        ensures { self.new ≡ after_their_flow flow.now self.old }
     {
         match &mut self.end {
             LinkEnd::Sends(end) => take_grant(end, flow.delivery_count, flow.link_credit),
@@ -301,7 +301,7 @@ impl Link {
         transfer: &Transfer,
         payload: &Bytes,
     ) -> Result<Option<Part>, AllocError>
-        ensures link { OnOk result (self.new ≡ behind_their_transfer transfer.now payload.now self.old) }
+        ensures link { OnOk result (self.new ≡ after_their_transfer transfer.now payload.now self.old) }
         ensures part { IfOk result (λ p. p ≡ given_at transfer.now payload.now self.old.end) }
     {
         match &mut self.end {
@@ -312,7 +312,7 @@ impl Link {
 
     /// Applies a flow of the router: its delivery-count or the credit that it grants, and a drain that it answers.
     pub fn on_our_flow(&mut self, flow: &Flow)
-        ensures { self.new ≡ behind_our_flow flow.now self.old }
+        ensures { self.new ≡ after_our_flow flow.now self.old }
     {
         match &mut self.end {
             LinkEnd::Sends(end) => note_count(end, flow.delivery_count),
@@ -323,7 +323,7 @@ impl Link {
 
     /// Applies a transfer of the router: it starts a delivery unless one is going on.
     pub fn on_our_transfer(&mut self, transfer: &Transfer)
-        ensures { self.new ≡ behind_our_transfer transfer.now self.old }
+        ensures { self.new ≡ after_our_transfer transfer.now self.old }
     {
         if let LinkEnd::Sends(end) = &mut self.end {
             note_start(end, self.going_on);
@@ -383,7 +383,7 @@ fn note_grant(end: &mut RecvEnd, count: Option<u32>, credit: Option<u32>)
 
 /// Notes the start of a delivery, unless one is going on.
 fn note_start(end: &mut SendEnd, going_on: bool)
-    ensures { end.new ≡ (if going_on then end.old else behind_start end.old) }
+    ensures { end.new ≡ (if going_on then end.old else after_start end.old) }
 {
     if !going_on {
         end.note_started();

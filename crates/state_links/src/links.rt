@@ -19,7 +19,7 @@ ghost use Rattle.std.specs.Option.{option_map};
 ghost use Rattle.router_trace.specs.declared.event.Event.TheVariants as event;
 ghost use Rattle.state_links.specs.Fits.{LinksFit, key_in, key_by, asked_in, channel_of};
 ghost use Rattle.state_links.specs.Handled.{HandlesFit};
-ghost use Rattle.state_collections.specs.Slots.{in_slots};
+ghost use Rattle.state_collections.specs.NumberMap.{at_number};
 
 use crate::handles::HandleTable;
 use crate::link::Link;
@@ -145,7 +145,7 @@ impl Links {
     /// Unmarks the connections on which no link owes a drain any more.
     pub fn settle_owed(&mut self)
         ensures fits { (t : List Entry) → LinksFit self.old t → LinksFit self.new t }
-        ensures marks { (c : ℕ) → is_marked self.new c ≡ (owes_on (in_slots self.old.table.links.rows c) && is_marked self.old c) }
+        ensures marks { (c : ℕ) → is_marked self.new c ≡ (owes_on (at_number self.old.table.links.rows c) && is_marked self.old c) }
         ensures touched { (k : ℕ) → is_touched self.new k ≡ is_touched self.old k }
         ensures links { self.new.table.links ≡ self.old.table.links }
         ensures names { self.new.table.names ≡ self.old.table.names }

@@ -6,12 +6,12 @@ ghost use Rattle.book_model.specs.Keys.{key_cmp};
 ghost use Rattle.book_model.specs.declared.terminus.LinkKey.{LinkKey as AKey};
 ghost use Rattle.state_links.specs.Naming.{on_conn, on_session, on_handle, unless, Thinned};
 ghost use Rattle.state_links.specs.Touching.{in_session, in_connection};
-ghost use Rattle.state_collections.specs.Slots.{in_slots};
+ghost use Rattle.state_collections.specs.NumberMap.{at_number};
 
 use crate::link::Link;
 use book_model::LinkKey;
 use router_trace::Attachment;
-use state_collections::{InConnection, InSession, Slots};
+use state_collections::{InConnection, InSession, NumberMap};
 use std::alloc::{AllocError, Global};
 use std::collections::BTreeMap;
 
@@ -68,29 +68,29 @@ impl<K: Ord + Drop> Attachments<K> {
 /// Attachments by number.
 #[derive(Drop)]
 pub(crate) struct Numbers {
-    pub(crate) entries: Slots<Attachment>,
+    pub(crate) entries: NumberMap<Attachment>,
 }
 
 impl Numbers {
     /// An empty table.
     fn new(alloc: Global) -> Numbers
-        ensures { (n : ℕ) → in_slots result.entries n ≡ None }
+        ensures { (n : ℕ) → at_number result.entries n ≡ None }
     {
         Numbers {
-            entries: Slots::new(alloc, PLACES),
+            entries: NumberMap::new(alloc, PLACES),
         }
     }
 
     /// The attachment with a number.
     fn get(&self, number: u64) -> Option<Attachment>
-        ensures { result ≡ in_slots self.now.entries number }
+        ensures { result ≡ at_number self.now.entries number }
     {
         self.entries.get(number).copied()
     }
 
     /// Gives an attachment its number.
     fn insert(&mut self, attachment: Attachment) -> Result<(), AllocError>
-        ensures { OnOk result ((n : ℕ) → in_slots self.new.entries n ≡ (if attachment.number == n then Some attachment else in_slots self.old.entries n)) }
+        ensures { OnOk result ((n : ℕ) → at_number self.new.entries n ≡ (if attachment.number == n then Some attachment else at_number self.old.entries n)) }
     {
         let _ = self.entries.insert(attachment.number, attachment)?;
         Ok(())
@@ -98,8 +98,8 @@ impl Numbers {
 
     /// Removes a number if its attachment is at this place.
     fn forget(&mut self, number: u64, conn: u64, own: u16, handle: u32)
-        ensures { (n : ℕ) → in_slots self.new.entries n
-            ≡ (if number == n then unless (on_handle conn own handle) (in_slots self.old.entries n) else in_slots self.old.entries n) }
+        ensures { (n : ℕ) → at_number self.new.entries n
+            ≡ (if number == n then unless (on_handle conn own handle) (at_number self.old.entries n) else at_number self.old.entries n) }
     {
         let Some(attachment) = self.get(number) else {
             return;
@@ -128,7 +128,7 @@ impl Names {
     /// An empty table.
     pub(crate) fn new(alloc: Global) -> Names
         ensures keys { (k : AKey) → get key_cmp result.keys.entries k ≡ None }
-        ensures numbers { (n : ℕ) → in_slots result.numbers.entries n ≡ None }
+        ensures numbers { (n : ℕ) → at_number result.numbers.entries n ≡ None }
     {
         Names {
             keys: Attachments::new(alloc),
@@ -145,7 +145,7 @@ impl Names {
 
     /// The attachment with a number.
     pub(crate) fn of_number(&self, number: u64) -> Option<Attachment>
-        ensures { result ≡ in_slots self.now.numbers.entries number }
+        ensures { result ≡ at_number self.now.numbers.entries number }
     {
         self.numbers.get(number)
     }
@@ -153,7 +153,7 @@ impl Names {
     /// Enters an attachment under its key and its number.
     pub(crate) fn take(&mut self, key: LinkKey, attachment: Attachment) -> Result<(), AllocError>
         ensures keys { OnOk result ((k : AKey) → get key_cmp self.new.keys.entries k ≡ (if is_eq (key_cmp key k) then Some attachment else get key_cmp self.old.keys.entries k)) }
-        ensures numbers { OnOk result ((n : ℕ) → in_slots self.new.numbers.entries n ≡ (if attachment.number == n then Some attachment else in_slots self.old.numbers.entries n)) }
+        ensures numbers { OnOk result ((n : ℕ) → at_number self.new.numbers.entries n ≡ (if attachment.number == n then Some attachment else at_number self.old.numbers.entries n)) }
     {
         self.keys.insert(key, attachment)?;
         self.numbers.insert(attachment)
@@ -162,7 +162,7 @@ impl Names {
     /// Removes the names of a link that ends.
     pub(crate) fn forget(&mut self, conn: u64, own: u16, handle: u32, link: &Link)
         ensures thinned { Thinned (on_handle conn own handle) self.old self.new }
-        ensures others { (k : ℕ) → (link.now.number == k) ≡ false → in_slots self.old.numbers.entries k ≡ in_slots self.new.numbers.entries k }
+        ensures others { (k : ℕ) → (link.now.number == k) ≡ false → at_number self.old.numbers.entries k ≡ at_number self.new.numbers.entries k }
     {
         self.keys.forget(&link.key, conn, own, handle);
         self.numbers.forget(link.number, conn, own, handle);
@@ -171,7 +171,7 @@ impl Names {
     /// Removes the names of the links of a session that ends.
     pub(crate) fn forget_session(&mut self, conn: u64, own: u16, handles: &InSession<Link>)
         ensures thinned { Thinned (on_session conn own) self.old self.new }
-        ensures others { (k : ℕ) → in_session k handles.now ≡ false → in_slots self.old.numbers.entries k ≡ in_slots self.new.numbers.entries k }
+        ensures others { (k : ℕ) → in_session k handles.now ≡ false → at_number self.old.numbers.entries k ≡ at_number self.new.numbers.entries k }
     {
         for (handle, link) in handles {
             self.forget(conn, own, *handle, link);
@@ -181,7 +181,7 @@ impl Names {
     /// Removes the names of the links of a connection that ends.
     pub(crate) fn forget_connection(&mut self, conn: u64, sessions: &InConnection<Link>)
         ensures thinned { Thinned (on_conn conn) self.old self.new }
-        ensures others { (k : ℕ) → in_connection k sessions.now ≡ false → in_slots self.old.numbers.entries k ≡ in_slots self.new.numbers.entries k }
+        ensures others { (k : ℕ) → in_connection k sessions.now ≡ false → at_number self.old.numbers.entries k ≡ at_number self.new.numbers.entries k }
     {
         for (own, handles) in sessions {
             self.forget_session(conn, *own, handles);

@@ -4,7 +4,7 @@ ghost use Rattle.std.specs.Ordering.{nat_cmp};
 ghost use Rattle.std.specs.BTreeMap.{get};
 ghost use Rattle.std.specs.BTreeSet.{contains};
 ghost use Rattle.state_links.specs.Owed.{owed_here, owed_in_session, owed_in_connection, owed_of_connection, owed_of, owes_in_session, owes_in_connection, owes_on};
-ghost use Rattle.state_collections.specs.Slots.{in_slots};
+ghost use Rattle.state_collections.specs.NumberMap.{at_number};
 
 use crate::link::Link;
 use router_trace::{Attachment, ConnectionId};
@@ -68,7 +68,7 @@ fn append_of(
     conn: u64,
     links: &ByHandle<Link>,
 ) -> Result<(), AllocError>
-    ensures { OnOk result (owed.new.items ≡ owed.old.items ++ owed_of_connection conn (in_slots links.now.rows conn)) }
+    ensures { OnOk result (owed.new.items ≡ owed.old.items ++ owed_of_connection conn (at_number links.now.rows conn)) }
 {
     match links.connection(conn) {
         None => Ok(()),
@@ -82,7 +82,7 @@ pub(crate) fn append_all(
     conns: &BTreeSet<u64>,
     links: &ByHandle<Link>,
 ) -> Result<(), AllocError>
-    ensures { OnOk result (owed.new.items ≡ owed.old.items ++ owed_of (in_slots links.now.rows) conns.now.keys) }
+    ensures { OnOk result (owed.new.items ≡ owed.old.items ++ owed_of (at_number links.now.rows) conns.now.keys) }
 {
     for conn in conns {
         append_of(owed, *conn, links)?;
@@ -116,7 +116,7 @@ fn owes_in_connection(sessions: &InConnection<Link>) -> bool
 
 /// Whether the connection has a link that owes a drain.
 fn owes_on(links: &ByHandle<Link>, conn: u64) -> bool
-    ensures { result ≡ owes_on (in_slots links.now.rows conn) }
+    ensures { result ≡ owes_on (at_number links.now.rows conn) }
 {
     match links.connection(conn) {
         None => false,
@@ -126,7 +126,7 @@ fn owes_on(links: &ByHandle<Link>, conn: u64) -> bool
 
 /// Unmarks the connections on which no link owes a drain.
 pub(crate) fn settle(marks: &mut BTreeSet<u64>, links: &ByHandle<Link>)
-    ensures { (c : ℕ) → contains nat_cmp marks.new c ≡ (owes_on (in_slots links.now.rows c) && contains nat_cmp marks.old c) }
+    ensures { (c : ℕ) → contains nat_cmp marks.new c ≡ (owes_on (at_number links.now.rows c) && contains nat_cmp marks.old c) }
 {
     marks.retain(|conn| owes_on(links, *conn));
 }

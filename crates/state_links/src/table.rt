@@ -4,7 +4,7 @@ ghost use Rattle.std.specs.Option.{option_map};
 ghost use Rattle.std.specs.Ordering.{nat_cmp, is_eq};
 ghost use Rattle.std.specs.BTreeMap.{get};
 ghost use Rattle.std.specs.BTreeSet.{contains};
-ghost use Rattle.state_collections.specs.Marks.{has};
+ghost use Rattle.state_collections.specs.NumberSet.{has};
 ghost use Rattle.amqp_model.specs.declared.perf.Perf.TheVariants as perf;
 ghost use Rattle.amqp_model.specs.declared.perf.End.{End};
 ghost use Rattle.amqp_model.specs.declared.perf.Close.{Close};
@@ -26,7 +26,7 @@ ghost use Rattle.state_links.specs.Naming.{on_conn, on_session, on_handle, Thinn
 ghost use Rattle.state_collections.specs.Places.{at};
 ghost use Rattle.state_links.specs.Owed.{owed_of, owes_on};
 ghost use Rattle.state_links.specs.Touching.{is_numbered, named_link, in_session, in_connection, Touched, IsLowest};
-ghost use Rattle.state_collections.specs.Slots.{in_slots};
+ghost use Rattle.state_collections.specs.NumberMap.{at_number};
 
 use crate::link::{Link, LinkEnd, Side, address_by};
 use crate::names::Names;
@@ -37,7 +37,7 @@ use amqp_model::{Attach, Detach, Perf, Text};
 use book_model::LinkKey;
 use bytes::Bytes;
 use router_trace::{Asked, Attachment, ConnectionId, LinkAt};
-use state_collections::{ByHandle, InConnection, InSession, Marks};
+use state_collections::{ByHandle, InConnection, InSession, NumberSet};
 use std::alloc::{AllocError, Global};
 use std::collections::BTreeSet;
 
@@ -53,7 +53,7 @@ pub struct LinkTable {
     // the connections that may have a link that owes a drain
     owing: BTreeSet<u64>,
     // the numbers of links that may have changed
-    touched: Marks,
+    touched: NumberSet,
 }
 
 impl LinkTable {
@@ -68,7 +68,7 @@ impl LinkTable {
             names: Names::new(alloc),
             count: 0,
             owing: BTreeSet::new(alloc),
-            touched: Marks::new(alloc),
+            touched: NumberSet::new(alloc),
         }
     }
 
@@ -171,7 +171,7 @@ impl LinkTable {
 
     /// The link of the attachment with a number, if it still has it.
     pub fn by_number(&self, number: u64) -> Option<&Link>
-        ensures { option_map (λ l. l.now) result ≡ numbered_here (at self.now.links) (in_slots self.now.names.numbers.entries number) }
+        ensures { option_map (λ l. l.now) result ≡ numbered_here (at self.now.links) (at_number self.now.names.numbers.entries number) }
     {
         let place = self.names.of_number(number)?;
         let link = self.links.get(place.conn.0, place.channel, place.handle)?;
@@ -209,7 +209,7 @@ impl LinkTable {
 
     /// The attachments of the links that owe a drain and on which the router is the sender, by connection and by channel.
     pub fn owed(&self) -> Result<Vec<Attachment>, AllocError>
-        ensures { IfOk result (λ xs. xs.items ≡ owed_of (in_slots self.now.links.rows) self.now.owing.keys) }
+        ensures { IfOk result (λ xs. xs.items ≡ owed_of (at_number self.now.links.rows) self.now.owing.keys) }
     {
         let mut owed = Vec::new(self.alloc);
         append_all(&mut owed, &self.owing, &self.links)?;
@@ -219,7 +219,7 @@ impl LinkTable {
     /// Unmarks the connections on which no link owes a drain.
     pub fn settle_owed(&mut self)
         ensures rest { self.new ≡ record self.old { owing = self.new.owing } }
-        ensures marks { (c : ℕ) → contains nat_cmp self.new.owing c ≡ (owes_on (in_slots self.old.links.rows c) && contains nat_cmp self.old.owing c) }
+        ensures marks { (c : ℕ) → contains nat_cmp self.new.owing c ≡ (owes_on (at_number self.old.links.rows c) && contains nat_cmp self.old.owing c) }
     {
         settle(&mut self.owing, &self.links);
     }
@@ -350,8 +350,8 @@ impl LinkTable {
         ensures count { OnOk result (self.new.count ≡ self.old.count + 1) }
         ensures keys { OnOk result ((k : AKey) → get key_cmp self.new.names.keys.entries k
             ≡ (if is_eq (key_cmp key k) then Some (attachment (self.old.count + 1) conn own attach.now.handle) else get key_cmp self.old.names.keys.entries k)) }
-        ensures numbers { OnOk result ((n : ℕ) → in_slots self.new.names.numbers.entries n
-            ≡ (if self.old.count + 1 == n then Some (attachment (self.old.count + 1) conn own attach.now.handle) else in_slots self.old.names.numbers.entries n)) }
+        ensures numbers { OnOk result ((n : ℕ) → at_number self.new.names.numbers.entries n
+            ≡ (if self.old.count + 1 == n then Some (attachment (self.old.count + 1) conn own attach.now.handle) else at_number self.old.names.numbers.entries n)) }
         ensures owing { self.new.owing ≡ self.old.owing }
         ensures touched { OnOk result ((k : ℕ) → has self.new.touched k ≡ (if self.old.count + 1 == k then true else has self.old.touched k)) }
     {
@@ -445,7 +445,7 @@ fn leave(links: &mut ByHandle<Link>, names: &mut Names, conn: u64, own: u16, han
     ensures links { (c o h : ℕ) → at links.new c o h
         ≡ (if conn == c then (if own == o then (if handle == h then None else at links.old c o h) else at links.old c o h) else at links.old c o h) }
     ensures names { Thinned (on_handle conn own handle) names.old names.new }
-    ensures others { (k : ℕ) → is_numbered k (at links.old conn own handle) ≡ false → in_slots names.old.numbers.entries k ≡ in_slots names.new.numbers.entries k }
+    ensures others { (k : ℕ) → is_numbered k (at links.old conn own handle) ≡ false → at_number names.old.numbers.entries k ≡ at_number names.new.numbers.entries k }
 {
     if let Some(link) = links.remove(conn, own, handle) {
         names.forget(conn, own, handle, &link);
@@ -455,13 +455,13 @@ fn leave(links: &mut ByHandle<Link>, names: &mut Names, conn: u64, own: u16, han
 /// Removes the names of the links of a session that ended, and touches the links.
 fn leave_session(
     names: &mut Names,
-    touched: &mut Marks,
+    touched: &mut NumberSet,
     conn: u64,
     own: u16,
     handles: InSession<Link>,
 ) -> Result<(), AllocError>
     ensures names { Thinned (on_session conn own) names.old names.new }
-    ensures others { (k : ℕ) → in_session k handles ≡ false → in_slots names.old.numbers.entries k ≡ in_slots names.new.numbers.entries k }
+    ensures others { (k : ℕ) → in_session k handles ≡ false → at_number names.old.numbers.entries k ≡ at_number names.new.numbers.entries k }
     ensures touched { OnOk result ((k : ℕ) → has touched.new k ≡ (in_session k handles || has touched.old k)) }
 {
     names.forget_session(conn, own, &handles);
@@ -471,12 +471,12 @@ fn leave_session(
 /// Removes the names of the links of a connection that ended, and touches the links.
 fn leave_connection(
     names: &mut Names,
-    touched: &mut Marks,
+    touched: &mut NumberSet,
     conn: u64,
     sessions: InConnection<Link>,
 ) -> Result<(), AllocError>
     ensures names { Thinned (on_conn conn) names.old names.new }
-    ensures others { (k : ℕ) → in_connection k sessions ≡ false → in_slots names.old.numbers.entries k ≡ in_slots names.new.numbers.entries k }
+    ensures others { (k : ℕ) → in_connection k sessions ≡ false → at_number names.old.numbers.entries k ≡ at_number names.new.numbers.entries k }
     ensures touched { OnOk result ((k : ℕ) → has touched.new k ≡ (in_connection k sessions || has touched.old k)) }
 {
     names.forget_connection(conn, &sessions);
@@ -485,7 +485,7 @@ fn leave_connection(
 
 /// Applies a performative of one side to a link, if there is one, and touches it. Returns what a transfer of the peer makes of its delivery.
 fn note(
-    touched: &mut Marks,
+    touched: &mut NumberSet,
     links: &mut ByHandle<Link>,
     conn: u64,
     own: Option<u16>,
@@ -509,7 +509,7 @@ fn note(
 /// Applies a performative of one side to the link at a place, if there is one, and touches it. Returns what a transfer of the peer makes of its
 /// delivery. If memory is refused, the link's state is unspecified.
 fn note_at(
-    touched: &mut Marks,
+    touched: &mut NumberSet,
     links: &mut ByHandle<Link>,
     conn: u64,
     own: u16,
@@ -535,7 +535,7 @@ fn note_at(
 
 /// Applies a performative of the router to a link, if there is one, and touches it.
 fn note_ours(
-    touched: &mut Marks,
+    touched: &mut NumberSet,
     links: &mut ByHandle<Link>,
     conn: u64,
     own: u16,
@@ -571,7 +571,7 @@ fn asks_drain(perf: &Perf) -> bool
     }
 }
 
-/// Marks a connection on which a drain is asked for.
+/// NumberSet a connection on which a drain is asked for.
 fn mark(marks: &mut BTreeSet<u64>, conn: u64, drains: bool) -> Result<(), AllocError>
     ensures { OnOk result ((c : ℕ) → contains nat_cmp marks.new c ≡ with_mark conn drains (contains nat_cmp marks.old) c) }
 {

@@ -1,15 +1,15 @@
 //! The numbers of links that may have changed.
 ghost use Rattle.std.specs.Prelude.{◌≡◌, ◌==◌, ◌||◌, ℕ, true, if◌then◌else◌, OnOk};
-ghost use Rattle.state_collections.specs.Marks.{has};
+ghost use Rattle.state_collections.specs.NumberSet.{has};
 ghost use Rattle.state_collections.specs.Places.{at};
 ghost use Rattle.state_links.specs.Touching.{is_numbered, in_session, in_connection};
 
 use crate::link::Link;
-use state_collections::{ByHandle, InConnection, InSession, Marks};
+use state_collections::{ByHandle, InConnection, InSession, NumberSet};
 use std::alloc::AllocError;
 
 /// Touches a number.
-pub(crate) fn touch(touched: &mut Marks, number: u64) -> Result<(), AllocError>
+pub(crate) fn touch(touched: &mut NumberSet, number: u64) -> Result<(), AllocError>
     ensures { OnOk result ((k : ℕ) → has touched.new k ≡ (if number == k then true else has touched.old k)) }
 {
     touched.insert(number)
@@ -17,7 +17,7 @@ pub(crate) fn touch(touched: &mut Marks, number: u64) -> Result<(), AllocError>
 
 /// Touches the link at a handle of a session, if there is one.
 pub(crate) fn touch_at(
-    touched: &mut Marks,
+    touched: &mut NumberSet,
     links: &ByHandle<Link>,
     conn: u64,
     own: u16,
@@ -33,7 +33,7 @@ pub(crate) fn touch_at(
 
 /// Touches the links of a session.
 pub(crate) fn touch_session(
-    touched: &mut Marks,
+    touched: &mut NumberSet,
     handles: &InSession<Link>,
 ) -> Result<(), AllocError>
     ensures { OnOk result ((k : ℕ) → has touched.new k ≡ (in_session k handles.now || has touched.old k)) }
@@ -46,7 +46,7 @@ pub(crate) fn touch_session(
 
 /// Touches the links of a connection.
 pub(crate) fn touch_connection(
-    touched: &mut Marks,
+    touched: &mut NumberSet,
     sessions: &InConnection<Link>,
 ) -> Result<(), AllocError>
     ensures { OnOk result ((k : ℕ) → has touched.new k ≡ (in_connection k sessions.now || has touched.old k)) }

@@ -16,7 +16,7 @@ use Rattle.state_pools.specs.Sharing.{offer_at}
 use Rattle.state_pools.proofs.AtAddress.{same_bytes}
 use Rattle.state_pools.proofs.Listed.{listed_at}
 use Rattle.state_messages.specs.Figures.{figure, figure_at, figure_by, figure_on}
-use Rattle.state_messages.specs.Passing.{choice_of, is_of, last_behind, last_chosen, pool_of}
+use Rattle.state_messages.specs.Messages.{choice_of, is_of, last_after, last_chosen, pool_of}
 use Rattle.state_messages.proofs.Numbered.{number_is}
 use Rattle.state_messages.proofs.Seen.{are_numbered, by_test}
 
@@ -89,17 +89,17 @@ chosen_place t address id c =
 
 -- what the pools note agrees with the trace
 pub chosen_last : (t : Trace) (address : List ℕ) (id : ℕ) (v : Option Attachment) → IsConsumer t address id → v ≡ numbered t id
-    → (a : List ℕ) → last_behind t v a ≡ chosen_at address (Some id) (last_chosen t) a
+    → (a : List ℕ) → last_after t v a ≡ chosen_at address (Some id) (last_chosen t) a
 chosen_last t address id v c is a =
     let one : c.at.number ≡ id = number_is t id c.at c.numbered in
-    ap (λ w. last_behind t w a) (is ∙ c.numbered)
+    ap (λ w. last_after t w a) (is ∙ c.numbered)
     ∙ ap (λ w. if is_of a w c.at.number then c.at.number else last_chosen t a) c.there
     ∙ ap (λ k. if (c.link.number == k) && bytes_eq c.link.address a then k else last_chosen t a) one
     ∙ ap (λ b. if b && bytes_eq c.link.address a then id else last_chosen t a) c.number
     ∙ ap (λ b. if bytes_eq b a then id else last_chosen t a) c.same
 
 -- if no consumer is chosen, nothing is noted
-pub none_last : (t : Trace) (address : List ℕ) (a : List ℕ) → last_behind t None a ≡ chosen_at address None (last_chosen t) a
+pub none_last : (t : Trace) (address : List ℕ) (a : List ℕ) → last_after t None a ≡ chosen_at address None (last_chosen t) a
 none_last t address a = by_test (bytes_eq address a) (λ e. ap (λ b. if b then last_chosen t a else last_chosen t a) (sym e)) (λ e. ap (λ b. if b then last_chosen t a else last_chosen t a) (sym e))
 
 -- the choice as the table of pools makes it
@@ -109,7 +109,7 @@ chooses_none t address e = ap (option_and_then (numbered t)) e
 
 pub record Chooses (t : Trace) (address : List ℕ) (id : ℕ) (v : Option Attachment) : Type 0 where
   pub chosen : v ≡ option_and_then (numbered t) (choice_of t address)
-  pub noted : (a : List ℕ) → last_behind t v a ≡ chosen_at address (Some id) (last_chosen t) a
+  pub noted : (a : List ℕ) → last_after t v a ≡ chosen_at address (Some id) (last_chosen t) a
 
 pub chooses_some : (t : Trace) (address : List ℕ) (id : ℕ) (v : Option Attachment) → Some id ≡ choice (pool_of t address) → v ≡ place_of t id → Chooses t address id v
 unfolding choice_of

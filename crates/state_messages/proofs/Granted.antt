@@ -19,7 +19,7 @@ use Rattle.router_trace.specs.Links.{attachments}
 use Rattle.state_pools.specs.Sharing.{Figure, consumer, producer, demand_at, entry, listed}
 use Rattle.state_pools.proofs.AtAddress.{same_bytes}
 use Rattle.state_messages.specs.Figures.{figure}
-use Rattle.state_messages.specs.Passing.{grants, grants_of_address, grants_on, if_some, lower, lower_of, lowest_below, pool_of, wants}
+use Rattle.state_messages.specs.Messages.{grants, grants_of_address, grants_on, if_some, lower, lower_of, lowest_below, pool_of, wants}
 use Rattle.state_messages.proofs.Seen.{by_test}
 
 -- an address isn't below another

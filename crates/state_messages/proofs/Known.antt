@@ -18,7 +18,7 @@ use Rattle.router_trace.specs.declared.binding.Origin.{Origin}
 use Rattle.router_trace.specs.Numbers.{count_below}
 use Rattle.router_trace.specs.Deliveries.{Delivery, bindings, delivery, waits_on, undecided_on, held_from}
 use Rattle.state_deliveries.specs.declared.deliveries.Deliveries.{Deliveries}
-use Rattle.state_unsettled.specs.Claiming.{ClaimsFit}
+use Rattle.state_unsettled.specs.Incoming.{IncomingFit}
 use Rattle.state_deliveries.specs.Finding.{count_deliveries}
 use Rattle.router_trace.specs.Channels.{channel_of as of_deliveries}
 use Rattle.state_deliveries.specs.Fits.{DeliveriesFit}
@@ -32,13 +32,13 @@ use Rattle.route_table.specs.declared.sections.Distribution.{Distribution}
 use Rattle.state_pools.specs.declared.pools.Pools.{Pools}
 use Rattle.state_pools.specs.Fits.{HasNoted, offers, pool_at, PoolsFit}
 use Rattle.state_pools.specs.Sharing.{Figure, demand_at, offer_at}
-use Rattle.state_messages.specs.declared.passing.Passing.{Passing}
+use Rattle.state_messages.specs.declared.messages.Messages.{Messages}
 use Rattle.state_messages.specs.Figures.{figure}
-use Rattle.state_messages.specs.Fits.{IsTold, NotedFit, PassingFit, PoolsKnow, Untouched}
-use Rattle.state_messages.specs.Passing.{binding_to, last_behind, last_chosen, lasts, with_bound}
+use Rattle.state_messages.specs.Fits.{IsTold, NotedFit, MessagesFit, PoolsKnow, Untouched}
+use Rattle.state_messages.specs.Messages.{binding_to, last_after, last_chosen, lasts, with_bound}
 use Rattle.state_messages.proofs.Rising.{Rises, entry_counts, entry_rises}
 use Rattle.state_messages.proofs.Seen.{by_test, figure_same}
-use Rattle.state_collections.specs.Slots.{in_slots}
+use Rattle.state_collections.specs.NumberMap.{at_number}
 
 -- a consumer stood where it stands now, or its number is above the one chosen last there
 abbrev pub Later : (ℕ → Option Figure) → (ℕ → Option Figure) → (List ℕ → ℕ) → Type 0
@@ -62,7 +62,7 @@ exchanged s share shares known other actual really last now alike same come chos
 }
 
 -- once they were told of all links, the pools know all
-pub all_known : (s : Passing) (t : Trace) (last : List ℕ → ℕ) → Untouched s → PoolsKnow s t last → PoolsFit s.pools (distribution t) (figure t) (figure t) last
+pub all_known : (s : Messages) (t : Trace) (last : List ℕ → ℕ) → Untouched s → PoolsKnow s t last → PoolsFit s.pools (distribution t) (figure t) (figure t) last
 all_known s t last none know = exchanged s.pools (distribution t) (distribution t) know.known (figure t) (figure t) (figure t) last last (λ a. refl) (λ n. sym (know.same n (none.links n) (none.deliveries n))) (λ n a e. inl e) (λ a. refl) know.fits
 
 -- Equal tests have equal counts of deliveries.
@@ -109,7 +109,7 @@ figures_same s u d e t w fit fit' stand stand' one other counts n quiet silent =
     (counts (held_from n) refl (λ m. ap (held_from n) (sym (stand.store.deliveries m)) ∙ (other.same n m silent).held ∙ ap (held_from n) (stand'.store.deliveries m)))
 
 -- So what the pools know stays true after any change that touches the links that it changes.
-pub knows_still : (s u : Passing) (t w : Trace) (last now : List ℕ → ℕ) → u.pools ≡ s.pools → LinksFit s.links t → LinksFit u.links w → DeliveriesFit s.deliveries t → DeliveriesFit u.deliveries w
+pub knows_still : (s u : Messages) (t w : Trace) (last now : List ℕ → ℕ) → u.pools ≡ s.pools → LinksFit s.links t → LinksFit u.links w → DeliveriesFit s.deliveries t → DeliveriesFit u.deliveries w
     → links.Touches s.links u.links → deliveries.Touches s.deliveries u.deliveries → IsStep t w
     → ((a : List ℕ) → distribution w a ≡ distribution t a) → ((a : List ℕ) → now a ≡ last a) → PoolsKnow s t last → PoolsKnow u w now
 knows_still s u t w last now pools fit fit' stand stand' one other step alike chosen know = record {
@@ -132,7 +132,7 @@ knows_still s u t w last now pools fit fit' stand stand' one other step alike ch
         over n a above low = omega (arith, above, low)
 
 -- After the pools were told what a link has, its number is forgotten.
-pub knows_told : (s u : Passing) (t : Trace) (last : List ℕ → ℕ) (n : ℕ) → IsTold s.pools u.pools n (figure t n)
+pub knows_told : (s u : Messages) (t : Trace) (last : List ℕ → ℕ) (n : ℕ) → IsTold s.pools u.pools n (figure t n)
     → ((k : ℕ) → links.is_touched u.links k ≡ (if n == k then false else links.is_touched s.links k))
     → ((k : ℕ) → deliveries.is_touched u.deliveries k ≡ (if n == k then false else deliveries.is_touched s.deliveries k))
     → PoolsKnow s t last → PoolsKnow u t last
@@ -167,25 +167,25 @@ did_counts x t = record {
 }
 
 -- All tables after such a change.
-pub moved : (s u : Passing) (t w : Trace) (last now : List ℕ → ℕ) → u.pools ≡ s.pools → LinksFit u.links w → DeliveriesFit u.deliveries w → ClaimsFit u.claims w
+pub moved : (s u : Messages) (t w : Trace) (last now : List ℕ → ℕ) → u.pools ≡ s.pools → LinksFit u.links w → DeliveriesFit u.deliveries w → IncomingFit u.incoming w
     → links.Touches s.links u.links → deliveries.Touches s.deliveries u.deliveries → IsStep t w
     → ((a : List ℕ) → distribution w a ≡ distribution t a) → ((a : List ℕ) → now a ≡ last a) → NotedFit s t last → NotedFit u w now
 moved s u t w last now pools fit stand claimed one other step alike chosen old = record {
   links = fit;
   deliveries = stand;
-  claims = claimed;
+  incoming = claimed;
   pools = knows_still s u t w last now pools old.links fit old.deliveries stand one other step alike chosen old.pools;
 }
 
 -- After the pools were told.
-pub told_fits : (s u : Passing) (t : Trace) (n : ℕ) → LinksFit u.links t → DeliveriesFit u.deliveries t → u.claims ≡ s.claims → IsTold s.pools u.pools n (figure t n)
+pub told_fits : (s u : Messages) (t : Trace) (n : ℕ) → LinksFit u.links t → DeliveriesFit u.deliveries t → u.incoming ≡ s.incoming → IsTold s.pools u.pools n (figure t n)
     → ((k : ℕ) → links.is_touched u.links k ≡ (if n == k then false else links.is_touched s.links k))
     → ((k : ℕ) → deliveries.is_touched u.deliveries k ≡ (if n == k then false else deliveries.is_touched s.deliveries k))
-    → PassingFit s t → PassingFit u t
+    → MessagesFit s t → MessagesFit u t
 told_fits s u t n fit stand claimed told quiet silent old = record {
   links = fit;
   deliveries = stand;
-  claims = subst (λ c. ClaimsFit c t) (sym claimed) old.claims;
+  incoming = subst (λ c. IncomingFit c t) (sym claimed) old.incoming;
   pools = knows_told s u t (last_chosen t) n told quiet silent old.pools;
 }
 
@@ -196,7 +196,7 @@ links_bound s b t fit = record {
   table = record {
     links = fit.table.links;
     count = fit.table.count;
-    names = record { keys = λ k. remembers (get key_cmp s.table.names.keys.entries k) (last_of_key t k) (fit.table.names.keys k); numbers = λ n. remembers (in_slots s.table.names.numbers.entries n) (numbered t n) (fit.table.names.numbers n) };
+    names = record { keys = λ k. remembers (get key_cmp s.table.names.keys.entries k) (last_of_key t k) (fit.table.names.keys k); numbers = λ n. remembers (at_number s.table.names.numbers.entries n) (numbered t n) (fit.table.names.numbers n) };
     owing = fit.table.owing;
   };
 }
@@ -209,10 +209,10 @@ links_bound s b t fit = record {
     remembers None w e = sym (attached_same w) ∙ e
     remembers (Some a) w e = e
 
-pub bound_fits : (s u : Passing) (b : Binding) (t : Trace) → u.pools ≡ s.pools → u.links ≡ s.links → ClaimsFit u.claims (Bound b ∷ t) → DeliveriesFit u.deliveries (Bound b ∷ t)
-    → deliveries.Touches s.deliveries u.deliveries → NotedFit s t (last_behind t (Some b.consumer)) → PassingFit u (Bound b ∷ t)
+pub bound_fits : (s u : Messages) (b : Binding) (t : Trace) → u.pools ≡ s.pools → u.links ≡ s.links → IncomingFit u.incoming (Bound b ∷ t) → DeliveriesFit u.deliveries (Bound b ∷ t)
+    → deliveries.Touches s.deliveries u.deliveries → NotedFit s t (last_after t (Some b.consumer)) → MessagesFit u (Bound b ∷ t)
 bound_fits s u b t pools same claimed stand other old =
-    moved s u t (Bound b ∷ t) (last_behind t (Some b.consumer)) (last_chosen (Bound b ∷ t)) pools
+    moved s u t (Bound b ∷ t) (last_after t (Some b.consumer)) (last_chosen (Bound b ∷ t)) pools
     (subst (λ l. LinksFit l (Bound b ∷ t)) (sym same) (links_bound s.links b t old.links)) stand claimed
     (subst (λ l. links.Touches s.links l) (sym same) (record { before = λ k e. e; links = λ k e c o h. refl; numbers = λ k e. refl }))
     other (bound_counts b t) (λ a. refl) (λ a. refl) old
@@ -226,8 +226,8 @@ channel_same _ = refl
 abbrev pub message_to : Option Origin → Option RowNumber → Bool → ℕ → List ℕ → Attachment → Binding
 message_to origin row lasting format payload a = record { consumer = a; origin = origin; row = row; lasting = lasting; format = format; payload = payload }
 
-pub passed : (u : Passing) (t : Trace) (a : Attachment) (origin : Option Origin) (row : Option RowNumber) (lasting : Bool) (format : ℕ) (payload : List ℕ) (chosen : Option Attachment) → Some a ≡ chosen → lasting ≡ lasts t a
-    → PassingFit u (Bound (message_to origin row lasting format payload a) ∷ t) → PassingFit u (with_bound (option_map (binding_to t origin row format payload) chosen) t)
+pub passed : (u : Messages) (t : Trace) (a : Attachment) (origin : Option Origin) (row : Option RowNumber) (lasting : Bool) (format : ℕ) (payload : List ℕ) (chosen : Option Attachment) → Some a ≡ chosen → lasting ≡ lasts t a
+    → MessagesFit u (Bound (message_to origin row lasting format payload a) ∷ t) → MessagesFit u (with_bound (option_map (binding_to t origin row format payload) chosen) t)
 passed u t a origin row lasting format payload chosen is durable fit =
-    subst (λ v. PassingFit u (with_bound (option_map (binding_to t origin row format payload) v) t)) is
-    (subst (λ l. PassingFit u (Bound (message_to origin row l format payload a) ∷ t)) durable fit)
+    subst (λ v. MessagesFit u (with_bound (option_map (binding_to t origin row format payload) v) t)) is
+    (subst (λ l. MessagesFit u (Bound (message_to origin row l format payload a) ∷ t)) durable fit)

@@ -27,13 +27,13 @@ use Rattle.state_links.specs.declared.links.Links.{Links}
 use Rattle.state_links.specs.Ends.{link_of}
 use Rattle.state_links.specs.Fits.{LinksFit}
 use Rattle.state_links.specs.Naming.{Remembers}
-use Rattle.state_messages.specs.declared.passing.Passing.{Passing}
-use Rattle.state_messages.specs.Fits.{PassingFit}
-use Rattle.state_messages.specs.Passing.{last_chosen}
+use Rattle.state_messages.specs.declared.messages.Messages.{Messages}
+use Rattle.state_messages.specs.Fits.{MessagesFit}
+use Rattle.state_messages.specs.Messages.{last_chosen}
 use Rattle.state_messages.proofs.Known.{IsStep, count_alike, moved}
 use Rattle.state_messages.proofs.Rising.{same_rises}
 use Rattle.std.specs.Option.{option_map}
-use Rattle.state_collections.specs.Slots.{in_slots}
+use Rattle.state_collections.specs.NumberMap.{at_number}
 
 -- two traces agree on links, deliveries and claims, and on the distribution of addresses
 pub record IsQuiet (t u : Trace) : Type 0 where
@@ -79,7 +79,7 @@ links_quiet s t u q fit = record {
     names = record {
       keys = λ k. remembers (get key_cmp s.table.names.keys.entries k) (last_of_key t k) (last_of_key u k) (holder t k) (holder u k) (q.keys k)
           (attached_same t u q (last_of_key u k) ∙ ap (if_attached t) (q.keys k)) (fit.table.names.keys k);
-      numbers = λ n. remembers (in_slots s.table.names.numbers.entries n) (numbered t n) (numbered u n) (place_of t n) (place_of u n) (q.numbers n)
+      numbers = λ n. remembers (at_number s.table.names.numbers.entries n) (numbered t n) (numbered u n) (place_of t n) (place_of u n) (q.numbers n)
           (attached_same t u q (numbered u n) ∙ ap (if_attached t) (q.numbers n)) (fit.table.names.numbers n);
     };
     owing = fit.table.owing;
@@ -124,16 +124,16 @@ counts_quiet t u q = record {
   attached = let is : attachments u ≡ attachments t = q.count in let g : attachments t ≤ attachments u = omega (arith, is) in g;
 }
 
-pub quiet_fits : (s : Passing) (t u : Trace) → IsQuiet t u → PassingFit s t → PassingFit s u
+pub quiet_fits : (s : Messages) (t u : Trace) → IsQuiet t u → MessagesFit s t → MessagesFit s u
 quiet_fits s t u q old =
     moved s s t u (last_chosen t) (last_chosen u) refl (links_quiet s.links t u q old.links) (deliveries_quiet s.deliveries t u q old.deliveries)
-    (record { ids = λ c o id. old.claims.ids c o id ∙ sym (q.claimed c o id); small = old.claims.small; marked = old.claims.marked })
+    (record { ids = λ c o id. old.incoming.ids c o id ∙ sym (q.claimed c o id); small = old.incoming.small; marked = old.incoming.marked })
     (record { before = λ n e. e; links = λ n e c o h. refl; numbers = λ n e. refl })
     (record { before = λ n e. e; same = λ n m e. record { waits = refl; undecided = refl; held = refl } })
     (counts_quiet t u q) q.shared q.chosen old
 
 -- this holds for a take from an outbox, a connection that comes up, a tick, and a start
-pub taken_fits : (s : Passing) (d k : ℕ) (t : Trace) → PassingFit s t → PassingFit s (Took d k ∷ t)
+pub taken_fits : (s : Messages) (d k : ℕ) (t : Trace) → MessagesFit s t → MessagesFit s (Took d k ∷ t)
 taken_fits s d k t old = quiet_fits s t (Took d k ∷ t) quiet old
   where
     quiet : IsQuiet t (Took d k ∷ t)
@@ -158,7 +158,7 @@ taken_fits s d k t old = quiet_fits s t (Took d k ∷ t) quiet old
       chosen = λ a. refl;
     }
 
-pub booked_fits : (s : Passing) (acts : List Act) (full : List ℕ) (t : Trace) → PassingFit s t → PassingFit s (Booked acts full ∷ t)
+pub booked_fits : (s : Messages) (acts : List Act) (full : List ℕ) (t : Trace) → MessagesFit s t → MessagesFit s (Booked acts full ∷ t)
 booked_fits s acts full t old = quiet_fits s t (Booked acts full ∷ t) quiet old
   where
     quiet : IsQuiet t (Booked acts full ∷ t)
@@ -183,7 +183,7 @@ booked_fits s acts full t old = quiet_fits s t (Booked acts full ∷ t) quiet ol
       chosen = λ a. refl;
     }
 
-pub risen_fits : (s : Passing) (c : ConnectionId) (p : Peer) (t : Trace) → PassingFit s t → PassingFit s (did (event.Up c p) ∷ t)
+pub risen_fits : (s : Messages) (c : ConnectionId) (p : Peer) (t : Trace) → MessagesFit s t → MessagesFit s (did (event.Up c p) ∷ t)
 risen_fits s d p t old = quiet_fits s t (did (event.Up d p) ∷ t) quiet old
   where
     quiet : IsQuiet t (did (event.Up d p) ∷ t)
@@ -208,7 +208,7 @@ risen_fits s d p t old = quiet_fits s t (did (event.Up d p) ∷ t) quiet old
       chosen = λ a. refl;
     }
 
-pub ticked_fits : (s : Passing) (moment : ℕ) (t : Trace) → PassingFit s t → PassingFit s (did (event.Tick moment) ∷ t)
+pub ticked_fits : (s : Messages) (moment : ℕ) (t : Trace) → MessagesFit s t → MessagesFit s (did (event.Tick moment) ∷ t)
 ticked_fits s moment t old = quiet_fits s t (did (event.Tick moment) ∷ t) quiet old
   where
     quiet : IsQuiet t (did (event.Tick moment) ∷ t)
@@ -233,7 +233,7 @@ ticked_fits s moment t old = quiet_fits s t (did (event.Tick moment) ∷ t) quie
       chosen = λ a. refl;
     }
 
-pub started_fits : (s : Passing) (t : Trace) → PassingFit s t → PassingFit s (did event.Start ∷ t)
+pub started_fits : (s : Messages) (t : Trace) → MessagesFit s t → MessagesFit s (did event.Start ∷ t)
 started_fits s t old = quiet_fits s t (did event.Start ∷ t) quiet old
   where
     quiet : IsQuiet t (did event.Start ∷ t)

@@ -1,4 +1,4 @@
--- A number of an attachment never comes again, and a link keeps its address: what consumes at an address behind an entry did so before, or has a number above all attachments.
+-- A number of an attachment never comes again, and a link keeps its address: what consumes at an address after an entry did so before, or has a number above all attachments.
 use Rattle.std.proofs.Common.{◌≡◌, ◌∙◌, ◌+◌, ◌<◌, ◌≤◌, ◌⊎◌, inl, inr, ℕ, Bool, true, false, refl, sym, ap, subst, List, ◌∷◌, Option, Some, None, arith}
 use Rattle.std.specs.Prelude.{◌&&◌, ◌==◌, if◌then◌else◌, bytes_eq, is_some, nat_lt, option_map}
 use Rattle.std.proofs.lemmas.Bool.{ltb-true, ltb-false}
@@ -17,7 +17,7 @@ use Rattle.router_trace.specs.declared.handle.Asked.{Asked}
 use Rattle.router_trace.specs.declared.handle.Attachment.{Attachment}
 use Rattle.router_trace.specs.declared.handle.PeerHandle.{PeerHandle}
 use Rattle.router_trace.specs.Following.{link_of}
-use Rattle.router_trace.specs.Links.{Link, Happened, sends, receives, address_by, asked, attached, attachments, behind_our_flow, behind_our_transfer, behind_their_flow, behind_their_transfer, begins, came_to, ends_handle_in, flowed_from, flowed_to, has_number, heard_link, initial_of, is_handle, is_taken, key_at, link, link_at, link_behind, link_by, link_in, names, names_by, numbered, started, their_handle}
+use Rattle.router_trace.specs.Links.{Link, Happened, sends, receives, address_by, asked, attached, attachments, after_our_flow, after_our_transfer, after_their_flow, after_their_transfer, begins, came_to, ends_handle_in, flowed_from, flowed_to, has_number, heard_link, initial_of, is_handle, is_taken, key_at, link, link_at, link_after, link_by, link_in, names, names_by, numbered, started, their_handle}
 use Rattle.router_trace.specs.Sessions.{maps, theirs}
 use Rattle.router_trace.specs.Trace.{Trace, Entry, Did, Out}
 use Rattle.state_links.specs.Fits.{attachment}
@@ -25,7 +25,7 @@ use Rattle.state_links.proofs.Numbered.{not_next, old_number}
 use Rattle.state_links.proofs.Standing.{stands_where}
 use Rattle.state_pools.specs.Fits.{offers}
 use Rattle.state_messages.specs.Figures.{figure, figure_at, figure_by, figure_on}
-use Rattle.state_messages.specs.Passing.{is_of, last_behind, last_chosen}
+use Rattle.state_messages.specs.Messages.{is_of, last_after, last_chosen}
 use Rattle.state_messages.proofs.Seen.{by_test}
 
 -- a link with this number has a consumer at the address
@@ -94,9 +94,9 @@ started_same going_on a at (receives list) = refl
 heard_stays : (n : ℕ) (a : List ℕ) (body : Perf) (payload : List ℕ) (h : ℕ) (known : ℕ → Option PeerHandle) (v : Option Link)
     → consumes n a v ≡ false → consumes n a (heard_link body payload h known v) ≡ false
 heard_stays n a (perf.Flow f) payload h known v e =
-    if_stays n a (names_by f.handle known h) _ _ (map_stays n a (behind_their_flow f) (λ l. ap (λ b. (l.number == n) && b) (to_same f a l.address l.happened)) v e) e
+    if_stays n a (names_by f.handle known h) _ _ (map_stays n a (after_their_flow f) (λ l. ap (λ b. (l.number == n) && b) (to_same f a l.address l.happened)) v e) e
 heard_stays n a (perf.Transfer x) payload h known v e =
-    if_stays n a (names (known x.handle) h) _ _ (map_stays n a (behind_their_transfer x payload) (λ l. ap (λ b. (l.number == n) && b) (came_same x payload a l.address l.happened)) v e) e
+    if_stays n a (names (known x.handle) h) _ _ (map_stays n a (after_their_transfer x payload) (λ l. ap (λ b. (l.number == n) && b) (came_same x payload a l.address l.happened)) v e) e
 heard_stays n a _ payload h known v e = e
 
 item_stays : (n : ℕ) (a : List ℕ) (i : Item) (o h : ℕ) (channels : ℕ → Option PeerChannel) (handles : ℕ → Option PeerHandle) (v : Option Link)
@@ -121,20 +121,20 @@ put_stays : (n : ℕ) (a : List ℕ) (body : Perf) (own o h number : ℕ) (key :
 put_stays n a (perf.Attach x) own o h number key last v new e =
     if_stays n a ((own == o) && (x.handle == h)) _ _ (attached_other n a number (key x) x last (address_by x.role x) new) e
 put_stays n a (perf.Flow f) own o h number key last v new e =
-    if_stays n a ((own == o) && is_handle f.handle h) _ _ (map_stays n a (behind_our_flow f) (λ l. ap (λ b. (l.number == n) && b) (from_same f a l.address l.happened)) v e) e
+    if_stays n a ((own == o) && is_handle f.handle h) _ _ (map_stays n a (after_our_flow f) (λ l. ap (λ b. (l.number == n) && b) (from_same f a l.address l.happened)) v e) e
 put_stays n a (perf.Transfer x) own o h number key last v new e =
-    if_stays n a ((own == o) && (x.handle == h)) _ _ (map_stays n a (behind_our_transfer x) (λ l. ap (λ b. (l.number == n) && b) (started_same l.going_on a l.address l.happened)) v e) e
+    if_stays n a ((own == o) && (x.handle == h)) _ _ (map_stays n a (after_our_transfer x) (λ l. ap (λ b. (l.number == n) && b) (started_same l.going_on a l.address l.happened)) v e) e
 put_stays n a body own o h number key last v new e = if_stays n a (ends_handle_in body own o h) None v refl e
 
-behind_stays : (n : ℕ) (a : List ℕ) (i : Item) (o h number : ℕ) (key : Attach → LinkKey) (last : Option Asked) (v : Option Link)
-    → (number == n) ≡ false → consumes n a v ≡ false → consumes n a (link_behind i o h number key last v) ≡ false
-behind_stays n a (item.Frame sasl own body payload) o h number key last v new e = put_stays n a body own o h number key last v new e
-behind_stays n a _ o h number key last v new e = e
+after_stays : (n : ℕ) (a : List ℕ) (i : Item) (o h number : ℕ) (key : Attach → LinkKey) (last : Option Asked) (v : Option Link)
+    → (number == n) ≡ false → consumes n a v ≡ false → consumes n a (link_after i o h number key last v) ≡ false
+after_stays n a (item.Frame sasl own body payload) o h number key last v new e = put_stays n a body own o h number key last v new e
+after_stays n a _ o h number key last v new e = e
 
 entry_stays : (x : Entry) (t : Trace) (n : ℕ) (a : List ℕ) (c o h : ℕ) → n ≤ attachments t → consumes n a (link t c o h) ≡ false → consumes n a (link (x ∷ t) c o h) ≡ false
 entry_stays (Did s) t n a c o h low e = event_stays n a s.event c o h (theirs t c) (their_handle t c o) (link t c o h) e
 entry_stays (Out d i) t n a c o h low e =
-    if_stays n a (d == c) _ _ (behind_stays n a i o h (attachments t + 1) (key_at t c) (asked t c) (link t c o h) (not_next (attachments t) n low) e) e
+    if_stays n a (d == c) _ _ (after_stays n a i o h (attachments t + 1) (key_at t c) (asked t c) (link t c o h) (not_next (attachments t) n low) e) e
 entry_stays _ t n a c o h low e = e
 
 first : (b c : Bool) → (b && c) ≡ true → b ≡ true
@@ -192,8 +192,8 @@ is_of_has : (a : List ℕ) (v : Option Link) (n : ℕ) → is_of a v n ≡ true 
 is_of_has a None n e = e
 is_of_has a (Some l) n e = first (l.number == n) (bytes_eq l.address a) e
 
-pub behind_below : (t : Trace) (v : Option Attachment) → ((a : List ℕ) → last_chosen t a ≤ attachments t) → (a : List ℕ) → last_behind t v a ≤ attachments t
-behind_below t None below a = below a
-behind_below t (Some at) below a = by_test (is_of a (link_of t at) at.number)
+pub after_below : (t : Trace) (v : Option Attachment) → ((a : List ℕ) → last_chosen t a ≤ attachments t) → (a : List ℕ) → last_after t v a ≤ attachments t
+after_below t None below a = below a
+after_below t (Some at) below a = by_test (is_of a (link_of t at) at.number)
     (λ e. subst (λ b. (if b then at.number else last_chosen t a) ≤ attachments t) (sym e) (number_below t at (is_of_has a (link_of t at) at.number e)))
     (λ e. subst (λ b. (if b then at.number else last_chosen t a) ≤ attachments t) (sym e) (below a))

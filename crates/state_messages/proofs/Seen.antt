@@ -29,7 +29,7 @@ use Rattle.state_links.specs.Touching.{if_number}
 use Rattle.state_pools.specs.Sharing.{AreNumbered, Figure, consumer, producer}
 use Rattle.state_messages.specs.Figures.{begun_credit, figure, figure_at, figure_by, figure_on, free_of, held, undecided, unused_credit, waiting}
 use Rattle.state_messages.proofs.Numbered.{none_beyond, none_first, number_is}
-use Rattle.state_collections.specs.Slots.{in_slots}
+use Rattle.state_collections.specs.NumberMap.{at_number}
 
 pub by_test : {P : Type 0} (b : Bool) → ((b ≡ true) → P) → ((b ≡ false) → P) → P
 by_test true f g = f refl
@@ -86,8 +86,8 @@ nowhere t n e = by_number (numbered t n) refl e
 
 -- so what the table remembers of a number gives its figure
 pub seen_is : (s : Links) (t : Trace) (n : ℕ) → LinksFit s t
-    → figure t n ≡ seen n (waiting t n) (undecided t n) (held t n) (at s.table.links) (in_slots s.table.names.numbers.entries n)
-seen_is s t n fit = by_entry (in_slots s.table.names.numbers.entries n) (fit.table.names.numbers n)
+    → figure t n ≡ seen n (waiting t n) (undecided t n) (held t n) (at s.table.links) (at_number s.table.names.numbers.entries n)
+seen_is s t n fit = by_entry (at_number s.table.names.numbers.entries n) (fit.table.names.numbers n)
   where
     by_entry : (v : Option Attachment) → Remembers v (numbered t n) (place_of t n)
         → figure t n ≡ seen n (waiting t n) (undecided t n) (held t n) (at s.table.links) v
@@ -99,16 +99,16 @@ seen_is s t n fit = by_entry (in_slots s.table.names.numbers.entries n) (fit.tab
 
 -- A link that is the same in both tables, with equal counts of deliveries, has the same figure.
 pub figure_same : (s u : Links) (t w : Trace) (n : ℕ) → LinksFit s t → LinksFit u w
-    → in_slots s.table.names.numbers.entries n ≡ in_slots u.table.names.numbers.entries n
+    → at_number s.table.names.numbers.entries n ≡ at_number u.table.names.numbers.entries n
     → ((c o h : ℕ) → if_number n (at s.table.links c o h) ≡ if_number n (at u.table.links c o h))
     → waiting t n ≡ waiting w n → undecided t n ≡ undecided w n → held t n ≡ held w n → figure t n ≡ figure w n
 figure_same s u t w n fit fit' numbers links waits pending kept =
     seen_is s t n fit
-    ∙ ap (λ k. seen n k (undecided t n) (held t n) (at s.table.links) (in_slots s.table.names.numbers.entries n)) waits
-    ∙ ap (λ k. seen n (waiting w n) k (held t n) (at s.table.links) (in_slots s.table.names.numbers.entries n)) pending
-    ∙ ap (λ k. seen n (waiting w n) (undecided w n) k (at s.table.links) (in_slots s.table.names.numbers.entries n)) kept
+    ∙ ap (λ k. seen n k (undecided t n) (held t n) (at s.table.links) (at_number s.table.names.numbers.entries n)) waits
+    ∙ ap (λ k. seen n (waiting w n) k (held t n) (at s.table.links) (at_number s.table.names.numbers.entries n)) pending
+    ∙ ap (λ k. seen n (waiting w n) (undecided w n) k (at s.table.links) (at_number s.table.names.numbers.entries n)) kept
     ∙ ap (λ v. seen n (waiting w n) (undecided w n) (held w n) (at s.table.links) v) numbers
-    ∙ by_entry (in_slots u.table.names.numbers.entries n)
+    ∙ by_entry (at_number u.table.names.numbers.entries n)
     ∙ sym (seen_is u w n fit')
   where
     by_entry : (v : Option Attachment)

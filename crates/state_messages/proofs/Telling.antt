@@ -15,7 +15,7 @@ use Rattle.state_links.specs.Looking.{credit_on}
 use Rattle.state_pools.specs.Sharing.{consumer, producer}
 use Rattle.state_messages.specs.declared.grant.LinkGrant.{LinkGrant}
 use Rattle.state_messages.specs.Figures.{figure_by, free_of, held, undecided, unused_by, waiting}
-use Rattle.state_messages.specs.Passing.{grant_at, grant_by, grant_on, grants_on}
+use Rattle.state_messages.specs.Messages.{grant_at, grant_by, grant_on, grants_on}
 use Rattle.state_messages.proofs.Numbered.{number_is}
 use Rattle.state_messages.proofs.Seen.{figure_there}
 
@@ -96,9 +96,9 @@ joined : (xs ys zs : List LinkGrant) → (xs ++ ys) ++ zs ≡ xs ++ (ys ++ zs)
 joined [] ys zs = refl
 joined (x ∷ xs) ys zs = ap (λ ws. x ∷ ws) (joined xs ys zs)
 
-pub nothing_behind : (xs : List LinkGrant) → xs ++ [] ≡ xs
-nothing_behind [] = refl
-nothing_behind (x ∷ xs) = ap (λ ws. x ∷ ws) (nothing_behind xs)
+pub nothing_after : (xs : List LinkGrant) → xs ++ [] ≡ xs
+nothing_after [] = refl
+nothing_after (x ∷ xs) = ap (λ ws. x ∷ ws) (nothing_after xs)
 
 pub told_more : (t : Trace) (sums : List (ProducerId × ℕ)) (i : ℕ) (d : ProducerId × ℕ) (old new all : List LinkGrant) → i < length sums
     → new ≡ old ++ grant_at t (get_or sums i d).0.0 (get_or sums i d).1 (numbered t (get_or sums i d).0.0)
@@ -112,4 +112,4 @@ told_more t sums i d old new all below is before =
 pub told_last : (t : Trace) (sums : List (ProducerId × ℕ)) (i : ℕ) (old all : List LinkGrant) → length sums ≤ i
     → old ++ grants_on t (by_id (drop i sums)) ≡ all → old ≡ all
 told_last t sums i old all over before =
-    sym (nothing_behind old) ∙ sym (at_drop_all (λ ys. old ++ grants_on t (by_id ys)) sums i over) ∙ before
+    sym (nothing_after old) ∙ sym (at_drop_all (λ ys. old ++ grants_on t (by_id ys)) sums i over) ∙ before

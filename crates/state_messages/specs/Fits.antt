@@ -7,36 +7,36 @@ use Rattle.state_pools.specs.Sharing.{Figure}
 use Rattle.router_trace.specs.Trace.{Trace}
 use Rattle.router_trace.specs.Configuration.{distribution}
 use Rattle.router_trace.specs.Links.{attachments}
-use Rattle.state_unsettled.specs.Claiming.{ClaimsFit}
+use Rattle.state_unsettled.specs.Incoming.{IncomingFit}
 use Rattle.state_deliveries.specs.Fits.{DeliveriesFit}
 use Rattle.state_deliveries.specs.Touching as deliveries
 use Rattle.state_links.specs.Fits.{LinksFit}
 use Rattle.state_links.specs.Touching as links
-use Rattle.state_messages.specs.declared.passing.Passing.{Passing}
+use Rattle.state_messages.specs.declared.messages.Messages.{Messages}
 use Rattle.state_messages.specs.Figures.{figure}
-use Rattle.state_messages.specs.Passing.{last_chosen}
+use Rattle.state_messages.specs.Messages.{last_chosen}
 
 -- The pools know what touched links had before, and what all others have now. Addresses are shared as the configuration says,
 -- and these consumers were last chosen; each had attached by then.
-pub record PoolsKnow (s : Passing) (t : Trace) (last : List ℕ → ℕ) : Type 0 where
+pub record PoolsKnow (s : Messages) (t : Trace) (last : List ℕ → ℕ) : Type 0 where
   pub known : ℕ → Option Figure
   pub fits : PoolsFit s.pools (distribution t) known (figure t) last
   pub same : (n : ℕ) → links.is_touched s.links n ≡ false → deliveries.is_touched s.deliveries n ≡ false → known n ≡ figure t n
   pub below : (a : List ℕ) → last a ≤ attachments t
 
 -- all tables agree with the trace, and these consumers were last chosen
-pub record NotedFit (s : Passing) (t : Trace) (last : List ℕ → ℕ) : Type 0 where
+pub record NotedFit (s : Messages) (t : Trace) (last : List ℕ → ℕ) : Type 0 where
   pub links : LinksFit s.links t
   pub deliveries : DeliveriesFit s.deliveries t
-  pub claims : ClaimsFit s.claims t
+  pub incoming : IncomingFit s.incoming t
   pub pools : PoolsKnow s t last
 
 -- all tables agree with the trace
-abbrev pub PassingFit : Passing → Trace → Type 0
-PassingFit s t = NotedFit s t (last_chosen t)
+abbrev pub MessagesFit : Messages → Trace → Type 0
+MessagesFit s t = NotedFit s t (last_chosen t)
 
 -- the pools were told what all links have
-pub record Untouched (s : Passing) : Type 0 where
+pub record Untouched (s : Messages) : Type 0 where
   pub pools : NoneTouched s.pools
   pub links : (n : ℕ) → links.is_touched s.links n ≡ false
   pub deliveries : (n : ℕ) → deliveries.is_touched s.deliveries n ≡ false

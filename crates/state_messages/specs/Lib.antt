@@ -1,6 +1,6 @@
 pub mod Asking
 pub mod Figures
-pub mod Passing
+pub mod Messages
 pub mod Fits
 pub use Rattle.router_trace.specs.Trace
 pub use Rattle.router_trace.specs.Deliveries

@@ -5,16 +5,16 @@ ghost use Rattle.router_trace.specs.Links.{Link as View, has_number, is_attached
 ghost use Rattle.router_trace.specs.Following.{link_of, takes_more};
 ghost use Rattle.state_links.specs.Ends.{link_of as link_of_view};
 ghost use Rattle.state_messages.specs.Asking.{drained_by, drained_state, goes_on};
-ghost use Rattle.state_messages.specs.Fits.{PassingFit};
+ghost use Rattle.state_messages.specs.Fits.{MessagesFit};
 
-use crate::passing::Passing;
+use crate::messages::Messages;
 use router_trace::{Attachment, LinkState};
 use state_links::Link;
 
-impl Passing {
+impl Messages {
     /// Whether an attachment's link can start a waiting delivery: it is attached, no delivery is in progress there, and the peer granted credit.
     pub fn takes_more(&self, at: Attachment) -> bool
-        ensures { (t : List Entry) → PassingFit self.now t → result ≡ takes_more (link_of t at) at.number }
+        ensures { (t : List Entry) → MessagesFit self.now t → result ≡ takes_more (link_of t at) at.number }
     {
         match self.links.link(at) {
             None => false,
@@ -24,7 +24,7 @@ impl Passing {
 
     /// Whether a delivery is in progress on an attachment's link.
     pub fn goes_on(&self, at: Attachment) -> bool
-        ensures { (t : List Entry) → PassingFit self.now t → result ≡ goes_on (link_of t at) at.number }
+        ensures { (t : List Entry) → MessagesFit self.now t → result ≡ goes_on (link_of t at) at.number }
     {
         match self.links.link(at) {
             None => false,
@@ -34,7 +34,7 @@ impl Passing {
 
     /// The link state of the flow that answers a drain at an attachment's place, if the router is the sender there.
     pub fn drained(&self, at: Attachment) -> Option<LinkState>
-        ensures { (t : List Entry) → PassingFit self.now t → result ≡ drained_state at.handle (link_of t at) }
+        ensures { (t : List Entry) → MessagesFit self.now t → result ≡ drained_state at.handle (link_of t at) }
     {
         match self.links.link(at) {
             None => None,
@@ -44,7 +44,7 @@ impl Passing {
 
     /// Whether an attachment still has its link.
     pub fn is_attached(&self, at: Attachment) -> bool
-        ensures { (t : List Entry) → PassingFit self.now t → result ≡ is_attached t at }
+        ensures { (t : List Entry) → MessagesFit self.now t → result ≡ is_attached t at }
     {
         match self.links.link(at) {
             None => false,

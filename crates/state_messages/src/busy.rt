@@ -6,17 +6,17 @@ ghost use Rattle.router_trace.specs.Links.{Link as View};
 ghost use Rattle.router_trace.specs.Following.{goes_on_at, is_busy, is_going_on, link_of};
 ghost use Rattle.state_links.specs.Ends.{link_of as link_of_view};
 ghost use Rattle.state_messages.specs.Asking.{some_go_on};
-ghost use Rattle.state_messages.specs.Fits.{PassingFit};
+ghost use Rattle.state_messages.specs.Fits.{MessagesFit};
 
-use crate::passing::Passing;
+use crate::messages::Messages;
 use router_trace::Attachment;
 use state_links::Link;
 use std::alloc::AllocError;
 
-impl Passing {
+impl Messages {
     /// Whether a delivery is in progress on a session: it has begun, and more frames of it remain to be sent.
     pub fn is_busy(&self, conn: u64, own: u16) -> Result<bool, AllocError>
-        ensures { IfOk result (λ busy. (t : List Entry) → PassingFit self.now t → busy ≡ is_busy t conn own) }
+        ensures { IfOk result (λ busy. (t : List Entry) → MessagesFit self.now t → busy ≡ is_busy t conn own) }
     {
         let numbers = self.deliveries.sending_on(conn, own)?;
         Ok(self.some_go_on(conn, own, numbers.as_slice()))
@@ -24,7 +24,7 @@ impl Passing {
 
     /// Whether one of the deliveries with these numbers is in progress on a session.
     fn some_go_on(&self, conn: u64, own: u16, numbers: &[u64]) -> bool
-        ensures { (t : List Entry) → PassingFit self.now t → result ≡ some_go_on t conn own numbers.now }
+        ensures { (t : List Entry) → MessagesFit self.now t → result ≡ some_go_on t conn own numbers.now }
     {
         for number in numbers {
             if self.is_going_on(conn, own, *number) {
@@ -36,7 +36,7 @@ impl Passing {
 
     /// Whether the delivery with this number is in progress on a session.
     fn is_going_on(&self, conn: u64, own: u16, number: u64) -> bool
-        ensures { (t : List Entry) → PassingFit self.now t → result ≡ is_going_on t conn own number (delivery t number) }
+        ensures { (t : List Entry) → MessagesFit self.now t → result ≡ is_going_on t conn own number (delivery t number) }
     {
         let Some(delivery) = self.deliveries.delivery(number) else {
             return false;
@@ -49,7 +49,7 @@ impl Passing {
 
     /// Whether frames of this delivery remain to be sent on an attachment's link, where `sent` is the delivery on its handle.
     fn is_sent_on(&self, at: Attachment, sent: Option<u64>, number: u64) -> bool
-        ensures { (t : List Entry) → PassingFit self.now t → result ≡ goes_on_at (link_of t at) at.number sent number }
+        ensures { (t : List Entry) → MessagesFit self.now t → result ≡ goes_on_at (link_of t at) at.number sent number }
     {
         match self.links.link(at) {
             None => false,

@@ -3,17 +3,17 @@ ghost use Rattle.std.specs.Prelude.{◌≡◌, List, is_some};
 ghost use Rattle.router_trace.specs.Trace.{Entry};
 ghost use Rattle.router_trace.specs.Links.{durable_key, link};
 ghost use Rattle.state_links.specs.Fits.{LinksFit};
-ghost use Rattle.state_messages.specs.Fits.{PassingFit};
-ghost use Rattle.state_messages.specs.Passing.{lasts};
+ghost use Rattle.state_messages.specs.Fits.{MessagesFit};
+ghost use Rattle.state_messages.specs.Messages.{lasts};
 
-use crate::passing::Passing;
+use crate::messages::Messages;
 use router_trace::Attachment;
 use state_links::Links;
 
-impl Passing {
+impl Messages {
     /// Whether the link on a handle of the router is durable.
     pub fn is_durable(&self, conn: u64, own: u16, handle: u32) -> bool
-        ensures { (t : List Entry) → PassingFit self.now t → result ≡ is_some (durable_key (link t conn own handle)) }
+        ensures { (t : List Entry) → MessagesFit self.now t → result ≡ is_some (durable_key (link t conn own handle)) }
     {
         is_durable(&self.links, conn, own, handle)
     }

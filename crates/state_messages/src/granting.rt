@@ -11,13 +11,13 @@ ghost use Rattle.state_pools.specs.Fits.{NoneTouched, PoolsFit};
 ghost use Rattle.state_pools.specs.Sharing.{Figure};
 ghost use Rattle.route_credit.specs.Pool.{by_id};
 ghost use Rattle.state_messages.specs.Figures.{figure};
-ghost use Rattle.state_messages.specs.Fits.{NotedFit, PassingFit, Untouched};
-ghost use Rattle.state_messages.specs.Passing.{choice_of, consumer_of, grant_at, grant_by, grants, grants_on, last_behind, last_chosen, passing, with_bound};
+ghost use Rattle.state_messages.specs.Fits.{NotedFit, MessagesFit, Untouched};
+ghost use Rattle.state_messages.specs.Messages.{choice_of, consumer_of, grant_at, grant_by, grants, grants_on, last_after, last_chosen, binding_for, with_bound};
 
 use crate::durable::lasts;
 use crate::figures::tell;
 use crate::grant::LinkGrant;
-use crate::passing::Passing;
+use crate::messages::Messages;
 use book_model::RowNumber;
 use bytes::Bytes;
 use route_credit::ProducerId;
@@ -26,7 +26,7 @@ use state_links::{Link, Links};
 use state_pools::Pools;
 use std::alloc::{AllocError, Global};
 
-impl Passing {
+impl Messages {
     /// A link that may have changed since the pools were last told.
     fn touched(&self) -> Option<u64>
         ensures { IfNone result (Untouched self.now) }
@@ -42,7 +42,7 @@ impl Passing {
 
     /// Tells the pools what a link has now.
     fn tell(&mut self, number: u64) -> Result<(), AllocError>
-        ensures { OnOk result ((t : List Entry) → PassingFit self.old t → PassingFit self.new t) }
+        ensures { OnOk result ((t : List Entry) → MessagesFit self.old t → MessagesFit self.new t) }
     {
         tell(&mut self.pools, &self.links, &self.deliveries, number)?;
         self.links.forget_touched(number);
@@ -52,7 +52,7 @@ impl Passing {
 
     /// Tells the pools what all links have now.
     fn tell_all(&mut self) -> Result<(), AllocError>
-        ensures fits { OnOk result ((t : List Entry) → PassingFit self.old t → PassingFit self.new t) }
+        ensures fits { OnOk result ((t : List Entry) → MessagesFit self.old t → MessagesFit self.new t) }
         ensures exact { OnOk result (Untouched self.new) }
     {
         for _turn in 0..u64::MAX {
@@ -74,8 +74,8 @@ impl Passing {
         format: u32,
         payload: Bytes,
     ) -> Result<bool, AllocError>
-        ensures chosen { IfOk result (λ chosen. (t : List Entry) → PassingFit self.old t → chosen ≡ is_some (consumer_of t (link_of t from))) }
-        ensures fits { OnOk result ((t : List Entry) → PassingFit self.old t → PassingFit self.new (with_bound (passing t from origin row format payload) t)) }
+        ensures chosen { IfOk result (λ chosen. (t : List Entry) → MessagesFit self.old t → chosen ≡ is_some (consumer_of t (link_of t from))) }
+        ensures fits { OnOk result ((t : List Entry) → MessagesFit self.old t → MessagesFit self.new (with_bound (binding_for t from origin row format payload) t)) }
     {
         self.tell_all()?;
         match self.choose(from) {
@@ -93,13 +93,13 @@ impl Passing {
                     format,
                     payload,
                 })?;
-                self.claims.bind(origin)?;
+                self.incoming.bind(origin)?;
                 Ok(true)
             }
         }
     }
 
-    /// The consumer that [`Passing::pass`] would choose now for a message of the producer's link on a handle of the router; nothing is noted, so
+    /// The consumer that [`Messages::pass`] would choose now for a message of the producer's link on a handle of the router; nothing is noted, so
     /// asked again it answers the same.
     pub fn consumer_for(
         &mut self,
@@ -107,8 +107,8 @@ impl Passing {
         own: u16,
         handle: u32,
     ) -> Result<Option<Attachment>, AllocError>
-        ensures consumer { IfOk result (λ at. (t : List Entry) → PassingFit self.old t → at ≡ consumer_of t (link t conn own handle)) }
-        ensures fits { OnOk result ((t : List Entry) → PassingFit self.old t → PassingFit self.new t) }
+        ensures consumer { IfOk result (λ at. (t : List Entry) → MessagesFit self.old t → at ≡ consumer_of t (link t conn own handle)) }
+        ensures fits { OnOk result ((t : List Entry) → MessagesFit self.old t → MessagesFit self.new t) }
     {
         self.tell_all()?;
         Ok(self.peek(conn, own, handle))
@@ -116,7 +116,7 @@ impl Passing {
 
     /// The same after the pools were told of all links.
     fn peek(&self, conn: u64, own: u16, handle: u32) -> Option<Attachment>
-        ensures { (t : List Entry) → Untouched self.now → PassingFit self.now t → result ≡ consumer_of t (link t conn own handle) }
+        ensures { (t : List Entry) → Untouched self.now → MessagesFit self.now t → result ≡ consumer_of t (link t conn own handle) }
     {
         let place = Attachment {
             number: 0,
@@ -132,8 +132,8 @@ impl Passing {
 
     /// The consumer chosen for a message of a producer's link, after the pools were told of all links; it is noted as the last one.
     fn choose(&mut self, from: Attachment) -> Option<Attachment>
-        ensures chosen { (t : List Entry) → Untouched self.old → PassingFit self.old t → result ≡ consumer_of t (link_of t from) }
-        ensures fits { (t : List Entry) → Untouched self.old → PassingFit self.old t → NotedFit self.new t (last_behind t result) }
+        ensures chosen { (t : List Entry) → Untouched self.old → MessagesFit self.old t → result ≡ consumer_of t (link_of t from) }
+        ensures fits { (t : List Entry) → Untouched self.old → MessagesFit self.old t → NotedFit self.new t (last_after t result) }
     {
         match self.links.link(from) {
             None => None,
@@ -143,8 +143,8 @@ impl Passing {
 
     /// The grants that the producers of an address are due; empty if no producer is due any.
     pub fn grants(&mut self) -> Result<Vec<LinkGrant>, AllocError>
-        ensures due { IfOk result (λ due. (t : List Entry) → PassingFit self.old t → due.items ≡ grants t) }
-        ensures fits { OnOk result ((t : List Entry) → PassingFit self.old t → PassingFit self.new t) }
+        ensures due { IfOk result (λ due. (t : List Entry) → MessagesFit self.old t → due.items ≡ grants t) }
+        ensures fits { OnOk result ((t : List Entry) → MessagesFit self.old t → MessagesFit self.new t) }
     {
         self.tell_all()?;
         let due = grants_due(self.alloc, &mut self.pools, &self.links)?;
@@ -157,7 +157,7 @@ fn choose_of(pools: &mut Pools, links: &Links, address: &str) -> Option<Attachme
     ensures chosen { (t : List Entry) → LinksFit links.now t → NoneTouched pools.old → PoolsFit pools.old (distribution t) (figure t) (figure t) (last_chosen t)
         → result ≡ option_and_then (numbered t) (choice_of t address.now) }
     ensures fits { (t : List Entry) → LinksFit links.now t → NoneTouched pools.old → PoolsFit pools.old (distribution t) (figure t) (figure t) (last_chosen t)
-        → PoolsFit pools.new (distribution t) (figure t) (figure t) (last_behind t result) }
+        → PoolsFit pools.new (distribution t) (figure t) (figure t) (last_after t result) }
 {
     match pools.choose(address) {
         None => None,

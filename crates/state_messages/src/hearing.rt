@@ -4,7 +4,7 @@ ghost use Rattle.router_trace.specs.Trace.{Entry};
 ghost use Rattle.router_trace.specs.Links.{their_handle, link};
 ghost use Rattle.router_trace.specs.Sessions.{is_channel};
 ghost use Rattle.state_links.specs.Fits.{LinksFit};
-ghost use Rattle.state_unsettled.specs.Claiming.{found_by, found_in, receiving_at};
+ghost use Rattle.state_unsettled.specs.Incoming.{found_by, found_in, receiving_at};
 
 use amqp_model::{Item, Perf};
 use router_trace::LinkAt;

@@ -9,8 +9,8 @@ mod grant;
 mod granting;
 mod hearing;
 mod owing;
-mod passing;
+mod messages;
 mod sharing;
 
 pub use grant::LinkGrant;
-pub use passing::Passing;
+pub use messages::Messages;

@@ -3,16 +3,16 @@ ghost use Rattle.std.specs.Prelude.{◌≡◌, ◌&&◌, ℕ, List, None, IfOk};
 ghost use Rattle.router_trace.specs.Trace.{Entry};
 ghost use Rattle.state_deliveries.specs.Finding.{IsFirst, is_above};
 ghost use Rattle.state_messages.specs.Asking.{is_below, owes_drain, lowest_of};
-ghost use Rattle.state_messages.specs.Fits.{PassingFit};
+ghost use Rattle.state_messages.specs.Fits.{MessagesFit};
 
-use crate::passing::Passing;
+use crate::messages::Messages;
 use router_trace::Attachment;
 use std::alloc::AllocError;
 
-impl Passing {
+impl Messages {
     /// The lowest number, above another, of an attachment whose link owes a drain.
-    pub fn owing_behind(&self, number: Option<u64>) -> Result<Option<u64>, AllocError>
-        ensures { IfOk result (λ owing. (t : List Entry) → PassingFit self.now t → IsFirst (λ n. is_above number n && owes_drain t n) owing) }
+    pub fn owing_after(&self, number: Option<u64>) -> Result<Option<u64>, AllocError>
+        ensures { IfOk result (λ owing. (t : List Entry) → MessagesFit self.now t → IsFirst (λ n. is_above number n && owes_drain t n) owing) }
     {
         let owed = self.links.owed()?;
         Ok(lowest_above(number, owed.as_slice()))

@@ -2,15 +2,15 @@
 ghost use Rattle.std.specs.Prelude.{◌≡◌, List};
 ghost use Rattle.router_trace.specs.Configuration.{distribution, is_multicast};
 ghost use Rattle.router_trace.specs.Trace.{Entry};
-ghost use Rattle.state_messages.specs.Fits.{PassingFit};
+ghost use Rattle.state_messages.specs.Fits.{MessagesFit};
 
-use crate::passing::Passing;
+use crate::messages::Messages;
 use route_table::Distribution;
 
-impl Passing {
+impl Messages {
     /// Whether each message of an address goes to every consumer.
     pub fn is_multicast(&self, address: &str) -> bool
-        ensures { (t : List Entry) → PassingFit self.now t → result ≡ is_multicast (distribution t address.now) }
+        ensures { (t : List Entry) → MessagesFit self.now t → result ≡ is_multicast (distribution t address.now) }
     {
         is_multicast(self.pools.distribution(address))
     }

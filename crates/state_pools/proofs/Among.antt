@@ -104,11 +104,11 @@ module _ {K : Type 0} (read : K → List ℕ) where
   pub popped_alone : (first : Option K) (f : K) → first ≡ Some f → (old : List K) → (0 < length old → false ≡ true) → (a : List ℕ) → slice_cmp nat_cmp a (read f) ≡ Less → (is_it first read a || among old read a) ≡ false
   popped_alone first f e old empty a less = popped_first first f e old a less (none_among old a empty)
 
--- what is below one of two addresses, where that isn't behind the other
+-- what is below one of two addresses, where that isn't after the other
 pub below_both : (one other a : List ℕ) → (slice_cmp nat_cmp other one ≡ Less → ⊥) → slice_cmp nat_cmp a one ≡ Less → slice_cmp nat_cmp a other ≡ Less
-below_both one other a not_behind less = by_order (slice_cmp nat_cmp other one) refl
+below_both one other a not_after less = by_order (slice_cmp nat_cmp other one) refl
   where
     by_order : (o : Ordering) → slice_cmp nat_cmp other one ≡ o → slice_cmp nat_cmp a other ≡ Less
-    by_order Less is = absurd (not_behind is)
+    by_order Less is = absurd (not_after is)
     by_order Equal is = ap (slice_cmp nat_cmp a) (same_bytes other one (sym (is_eq-slice_cmp other one) ∙ ap is_eq is)) ∙ less
     by_order Greater is = nat_list_cmp_total.trans a one other less (nat_list_cmp_total.antisymm one other ∙ ap ordering_reverse is)

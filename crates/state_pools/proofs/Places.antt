@@ -23,8 +23,8 @@ module _ {V : Type 0} where
   no_value (Some v) h = absurd cc
 
   -- where the value in place is at another address
-  pub behind_first : (first : Option (Place V)) (q : List ℕ) (value : Option V) → is_some (first_at first q) ≡ false → value ≡ or_else (first_at first q) value
-  behind_first first q value not_first = sym (ap (λ x. or_else x value) (no_value (first_at first q) not_first))
+  pub after_first : (first : Option (Place V)) (q : List ℕ) (value : Option V) → is_some (first_at first q) ≡ false → value ≡ or_else (first_at first q) value
+  after_first first q value not_first = sym (ap (λ x. or_else x value) (no_value (first_at first q) not_first))
 
   -- and one beyond it is written
   pub more_written : (first : Option (Place V)) (old new : List ℕ → Option V) (q : List ℕ) (w : V) → is_some (first_at first q) ≡ false

@@ -8,8 +8,8 @@ use Rattle.route_credit.specs.Granting.{grants_of}
 use Rattle.route_credit.specs.Links.{link_at}
 use Rattle.route_credit.specs.Pool.{Sharing}
 use Rattle.route_credit.specs.declared.offer.Offer.{Offer}
-use Rattle.state_collections.specs.Slots.{in_slots}
-use Rattle.state_collections.specs.Marks.{has as has_mark, size}
+use Rattle.state_collections.specs.NumberMap.{at_number}
+use Rattle.state_collections.specs.NumberSet.{has as has_mark, size}
 use Rattle.state_pools.specs.Addresses.{pool_or}
 use Rattle.state_pools.specs.ByBytes.{at, has_none}
 use Rattle.route_table.specs.declared.sections.Distribution.{Distribution}
@@ -35,7 +35,7 @@ in_row (Some row) address = at row.pools address
 
 -- the row of the digest of an address
 abbrev pub row_of : ByAddress → List ℕ → Option Row
-row_of pools address = in_slots pools.rows (digest_of address)
+row_of pools address = at_number pools.rows (digest_of address)
 
 -- the pool of an address, with this distribution of addresses
 abbrev pub pool_in : (List ℕ → Distribution) → ByAddress → List ℕ → Sharing
@@ -62,7 +62,7 @@ is_due pools address = is_in pools.due address
 
 -- the address that a link is at
 abbrev pub place_of : Pools → ℕ → Option (List ℕ)
-place_of pools number = option_map (λ seat. seat.address.items) (in_slots pools.seats number)
+place_of pools number = option_map (λ seat. seat.address.items) (at_number pools.seats number)
 
 abbrev pub is_place : Option (List ℕ) → List ℕ → Bool
 is_place None address = false

@@ -91,7 +91,7 @@ impl Addresses {
         let Some(other) = self.more.pop_first() else {
             return Some(first);
         };
-        if is_behind(first.as_slice(), other.as_slice()) {
+        if is_after(first.as_slice(), other.as_slice()) {
             self.first = Some(first);
             return Some(other);
         }
@@ -100,8 +100,8 @@ impl Addresses {
     }
 }
 
-/// Whether an address is behind another in their order.
-fn is_behind(one: &[u8], other: &[u8]) -> bool
+/// Whether an address is after another in their order.
+fn is_after(one: &[u8], other: &[u8]) -> bool
     ensures behind { result ≡ true → slice_cmp nat_cmp other.now one.now ≡ Less }
     ensures before { result ≡ false → slice_cmp nat_cmp other.now one.now ≡ Less → ⊥ }
 {

@@ -4,7 +4,7 @@ ghost use Rattle.route_table.specs.declared.sections.Distribution.{Distribution}
 ghost use Rattle.route_table.specs.Places.{distribution_of};
 ghost use Rattle.route_credit.specs.Granting.{all_granted, choice, grants_of};
 ghost use Rattle.route_credit.specs.Pool.{by_id, chose, has_no_links, no_links, offered, wanted, without_consumer, without_producer};
-ghost use Rattle.state_collections.specs.Slots.{in_slots};
+ghost use Rattle.state_collections.specs.NumberMap.{at_number};
 ghost use Rattle.state_pools.specs.Addresses.{rested, with_pool, without};
 ghost use Rattle.state_pools.specs.Digest.{digest_of};
 ghost use Rattle.state_pools.specs.Fits.{has_no_pools, in_row, pool_in, row_of};
@@ -13,7 +13,7 @@ use crate::digest::digest;
 use crate::row::Row;
 use route_credit::{ConsumerId, ProducerId};
 use route_table::Table;
-use state_collections::Slots;
+use state_collections::NumberMap;
 use std::alloc::{AllocError, Global};
 
 /// So many places stand for rows, each for those of the digests whose remainder it is.
@@ -25,7 +25,7 @@ const PLACES: usize = 1024;
 #[derive(Drop)]
 pub(crate) struct ByAddress {
     alloc: Global,
-    rows: Slots<Row>,
+    rows: NumberMap<Row>,
 }
 
 impl ByAddress {
@@ -34,13 +34,13 @@ impl ByAddress {
     {
         ByAddress {
             alloc,
-            rows: Slots::new(alloc, PLACES),
+            rows: NumberMap::new(alloc, PLACES),
         }
     }
 
     /// Puts the row of a digest.
     fn put(&mut self, digest: u64, row: Row) -> Result<(), AllocError>
-        ensures { OnOk result ((d : ℕ) → in_slots self.new.rows d ≡ (if digest == d then Some row else in_slots self.old.rows d)) }
+        ensures { OnOk result ((d : ℕ) → at_number self.new.rows d ≡ (if digest == d then Some row else at_number self.old.rows d)) }
     {
         let _ = self.rows.insert(digest, row)?;
         Ok(())

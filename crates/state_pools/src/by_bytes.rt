@@ -6,7 +6,7 @@ ghost use Rattle.std.specs.Str.{bytes_eq};
 ghost use Rattle.state_pools.specs.ByBytes.{at, first_at, has_none, LendsAt};
 
 use crate::same::same;
-use state_collections::Kept;
+use state_collections::Boxed;
 use std::alloc::{AllocError, Global};
 use std::collections::BTreeMap;
 
@@ -23,7 +23,7 @@ struct Place<V> {
 #[derive(Drop)]
 pub(crate) struct ByBytes<V> {
     alloc: Global,
-    first: Option<Kept<Place<V>>>,
+    first: Option<Boxed<Place<V>>>,
     more: BTreeMap<Vec<u8>, V>,
 }
 
@@ -73,7 +73,7 @@ impl<V: Drop> ByBytes<V> {
         let place = address.as_slice();
         self.remove(place);
         if self.first.is_none() {
-            self.first = Some(Kept::new(self.alloc, Place { address, value })?);
+            self.first = Some(Boxed::new(self.alloc, Place { address, value })?);
             return Ok(());
         }
         match self.more.insert(address, value) {

@@ -9,7 +9,7 @@ ghost use Rattle.route_table.specs.Places.{FindsAs, Routing, distribution_of};
 ghost use Rattle.route_credit.specs.Granting.{choice, grants_of};
 ghost use Rattle.route_credit.specs.Links.{link_at};
 ghost use Rattle.route_credit.specs.Pool.{by_id};
-ghost use Rattle.state_collections.specs.Marks.{has};
+ghost use Rattle.state_collections.specs.NumberSet.{has};
 ghost use Rattle.state_pools.specs.Digest.{digest_of};
 ghost use Rattle.state_pools.specs.Sets.{count};
 ghost use Rattle.state_pools.specs.Fits.{AgreeBut, chosen_at, is_due, is_place, is_touched, is_granted, NoneTouched, offers, place_of, pool_at, PoolsFit, PoolsFitBut, touched_count};
@@ -21,7 +21,7 @@ use crate::by_address::ByAddress;
 use crate::seat::Seat;
 use route_credit::{ConsumerId, ProducerId};
 use route_table::{Distribution, Table};
-use state_collections::{Marks, Slots};
+use state_collections::{NumberSet, NumberMap};
 use std::alloc::{AllocError, Global};
 
 /// So many places stand for links, each for those of the numbers whose remainder it is.
@@ -38,9 +38,9 @@ pub struct Pools {
     alloc: Global,
     table: Table,
     pools: ByAddress,
-    seats: Slots<Seat>,
+    seats: NumberMap<Seat>,
     due: Addresses,
-    touched: Marks,
+    touched: NumberSet,
 }
 
 /// The credit granted to the producers of an address, in order of attach.
@@ -59,9 +59,9 @@ impl Pools {
             alloc,
             table,
             pools: ByAddress::new(alloc),
-            seats: Slots::new(alloc, SEATS),
+            seats: NumberMap::new(alloc, SEATS),
             due: Addresses::new(alloc),
-            touched: Marks::new(alloc),
+            touched: NumberSet::new(alloc),
         }
     }
 
@@ -291,7 +291,7 @@ impl Pools {
 }
 
 /// Touches each link that was granted credit.
-fn touch_all(touched: &mut Marks, sums: &[(ProducerId, u32)]) -> Result<(), AllocError>
+fn touch_all(touched: &mut NumberSet, sums: &[(ProducerId, u32)]) -> Result<(), AllocError>
     ensures { OnOk result ((n : ℕ) → has touched.new n ≡ (has touched.old n || is_some (link_at (by_id sums.now) n))) }
 {
     for sum in sums {

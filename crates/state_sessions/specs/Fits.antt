@@ -3,13 +3,13 @@ use Rattle.std.specs.Prelude.{◌≡◌, ◌<◌, ◌==◌, ℕ, Bool, true, fal
 use Rattle.std.specs.Ordering.{nat_cmp}
 use Rattle.std.specs.BTreeMap.{get}
 use Rattle.std.specs.BTreeSet.{contains}
-use Rattle.state_collections.specs.Slots.{in_slots}
+use Rattle.state_collections.specs.NumberMap.{at_number}
 use Rattle.amqp_model.specs.declared.perf.Begin.{Begin}
 use Rattle.amqp_model.specs.declared.perf.Perf.{Perf}
 use Rattle.amqp_model.specs.declared.perf.Perf.TheVariants as perf
 use Rattle.amqp_session.specs.declared.states.BeginState.{BeginState}
 use Rattle.amqp_session.specs.declared.window.Window.{Window}
-use Rattle.amqp_session.specs.Figures.{window_of, begun, behind_their_flow, behind_their_transfer}
+use Rattle.amqp_session.specs.Figures.{window_of, begun, after_their_flow, after_their_transfer}
 use Rattle.amqp_session.specs.Session.{Session}
 use Rattle.router_trace.specs.declared.channel.PeerChannel.{PeerChannel}
 use Rattle.state_sessions.specs.declared.connection.ConnectionSessions.{ConnectionSessions}
@@ -31,11 +31,11 @@ answered_in (Some s) o = get nat_cmp s.answered o
 
 abbrev pub theirs_in : Option ConnectionSessions → ℕ → Option PeerChannel
 theirs_in None p = None
-theirs_in (Some s) p = in_slots s.theirs p
+theirs_in (Some s) p = at_number s.theirs p
 
 abbrev pub window_in : Option ConnectionSessions → ℕ → Option Window
 window_in None o = None
-window_in (Some s) o = in_slots s.windows o
+window_in (Some s) o = at_number s.windows o
 
 -- the window of a session
 abbrev pub window_by : Option Session → Option Window
@@ -43,8 +43,8 @@ window_by v = option_map window_of v
 
 -- what a performative of the peer does to the window of its session
 abbrev pub heard_in_window : Perf → Window → Window
-heard_in_window (perf.Flow f) w = behind_their_flow (flow_state f) w
-heard_in_window (perf.Transfer x) w = behind_their_transfer w
+heard_in_window (perf.Flow f) w = after_their_flow (flow_state f) w
+heard_in_window (perf.Transfer x) w = after_their_transfer w
 heard_in_window _ w = w
 
 -- the marks after a window was touched
@@ -72,8 +72,8 @@ pub record RowsFit (known : ℕ → Option ConnectionSessions) (t : Trace) : Typ
 
 -- the table of sessions agrees with the trace
 pub record SessionsFit (s : Sessions) (t : Trace) : Type 0 where
-  pub rows : RowsFit (in_slots s.rows) t
-  pub marks : Marked (in_slots s.rows) (contains nat_cmp s.narrow)
+  pub rows : RowsFit (at_number s.rows) t
+  pub marks : Marked (at_number s.rows) (contains nat_cmp s.narrow)
 
 -- a list of one value, if there is one
 abbrev pub listed : {A : Type 0} → Option A → List A

@@ -3,10 +3,10 @@ ghost use Rattle.std.specs.Prelude.{◌≡◌, ◌==◌, ℕ, Option, None, Some
 ghost use Rattle.amqp_session.specs.Session.{Session};
 ghost use Rattle.std.specs.Ordering.{nat_cmp};
 ghost use Rattle.std.specs.BTreeMap.{get};
-ghost use Rattle.state_collections.specs.Slots.{in_slots};
-ghost use Rattle.amqp_session.specs.Figures.{behind_our_flow, behind_our_transfer};
+ghost use Rattle.state_collections.specs.NumberMap.{at_number};
+ghost use Rattle.amqp_session.specs.Figures.{after_our_flow, after_our_transfer};
 ghost use Rattle.router_trace.specs.Trace.{puts_of};
-ghost use Rattle.router_trace.specs.Sessions.{begin_state, flow_state, offered_in, behind_their_end, place_by, is_channel, maps};
+ghost use Rattle.router_trace.specs.Sessions.{begin_state, flow_state, offered_in, after_their_end, place_by, is_channel, maps};
 ghost use Rattle.state_sessions.specs.Windows.{is_narrow_window, is_narrow_at, flow_due};
 ghost use Rattle.state_sessions.specs.Fits.{listed, heard_in_window, heard_window, begun_window, window_by, found_of};
 ghost use Rattle.router_trace.specs.declared.channel.PeerChannel.TheVariants.{Mapped, Ending};
@@ -15,7 +15,7 @@ use crate::place::Place;
 use amqp_model::{Begin, Flow, Perf};
 use amqp_session::{BeginState, FlowState, Serial, Window};
 use router_trace::{ConnectionId, Outgoing, PeerChannel, SESSION_WINDOW, flow_item};
-use state_collections::Slots;
+use state_collections::NumberMap;
 use std::alloc::{AllocError, Global};
 use std::collections::BTreeMap;
 
@@ -33,9 +33,9 @@ pub struct ConnectionSessions {
     // by the router's channel, the peer's channel whose begin it answered
     answered: BTreeMap<u16, u16>,
     // by the peer's channel, what it stands for
-    theirs: Slots<PeerChannel>,
+    theirs: NumberMap<PeerChannel>,
     // by the router's channel, its session's windows
-    windows: Slots<Window>,
+    windows: NumberMap<Window>,
 }
 
 /// What a begin says of its sender's end.
@@ -60,8 +60,8 @@ pub fn flow_state(flow: &Flow) -> FlowState
 }
 
 /// The router's channel that a peer's channel stands for.
-fn mapped(theirs: &Slots<PeerChannel>, channel: u16) -> Option<u16>
-    ensures { (o : ℕ) → is_channel result o ≡ maps (in_slots theirs.now channel) o }
+fn mapped(theirs: &NumberMap<PeerChannel>, channel: u16) -> Option<u16>
+    ensures { (o : ℕ) → is_channel result o ≡ maps (at_number theirs.now channel) o }
 {
     match theirs.get(u64::from(channel)) {
         Some(PeerChannel::Mapped(own)) => Some(*own),
@@ -70,8 +70,8 @@ fn mapped(theirs: &Slots<PeerChannel>, channel: u16) -> Option<u16>
 }
 
 /// Applies a performative of the peer to the window of its session.
-fn hear_in(windows: &mut Slots<Window>, own: Option<u16>, perf: &Perf)
-    ensures { (o : ℕ) → in_slots windows.new o ≡ heard_window perf.now (is_channel own o) (in_slots windows.old o) }
+fn hear_in(windows: &mut NumberMap<Window>, own: Option<u16>, perf: &Perf)
+    ensures { (o : ℕ) → at_number windows.new o ≡ heard_window perf.now (is_channel own o) (at_number windows.old o) }
 {
     let Some(own) = own else {
         return;
@@ -99,21 +99,21 @@ impl ConnectionSessions {
     pub fn new(alloc: Global) -> ConnectionSessions
         ensures offered { result.offered ≡ None }
         ensures answered { (o : ℕ) → get nat_cmp result.answered o ≡ None }
-        ensures theirs { (p : ℕ) → in_slots result.theirs p ≡ None }
-        ensures windows { (o : ℕ) → in_slots result.windows o ≡ None }
+        ensures theirs { (p : ℕ) → at_number result.theirs p ≡ None }
+        ensures windows { (o : ℕ) → at_number result.windows o ≡ None }
     {
         ConnectionSessions {
             offered: None,
             answered: BTreeMap::new(alloc),
-            theirs: Slots::new(alloc, PLACES),
-            windows: Slots::new(alloc, PLACES),
+            theirs: NumberMap::new(alloc, PLACES),
+            windows: NumberMap::new(alloc, PLACES),
         }
     }
 
     /// What is on a channel of the peer.
     pub fn place(&self, channel: u16) -> Place
-        ensures { (known : ℕ → Option Session) → ((o : ℕ) → in_slots self.now.windows o ≡ window_by (known o))
-            → result ≡ found_of (place_by (in_slots self.now.theirs channel) known) }
+        ensures { (known : ℕ → Option Session) → ((o : ℕ) → at_number self.now.windows o ≡ window_by (known o))
+            → result ≡ found_of (place_by (at_number self.now.theirs channel) known) }
     {
         match self.theirs.get(u64::from(channel)) {
             None => Place::Nowhere,
@@ -130,25 +130,25 @@ impl ConnectionSessions {
 
     /// The router's channel that a channel of the peer stands for.
     pub fn own_channel(&self, channel: u16) -> Option<u16>
-        ensures { (o : ℕ) → is_channel result o ≡ maps (in_slots self.now.theirs channel) o }
+        ensures { (o : ℕ) → is_channel result o ≡ maps (at_number self.now.theirs channel) o }
     {
         mapped(&self.theirs, channel)
     }
 
     /// The windows of the session on a channel of the router.
     pub fn window(&self, own: u16) -> Option<Window>
-        ensures { result ≡ in_slots self.now.windows own }
+        ensures { result ≡ at_number self.now.windows own }
     {
         self.windows.get(u64::from(own)).copied()
     }
 
     /// Handles a performative received on the peer's channel. Returns whether its session's window is narrow now.
     pub fn hear(&mut self, channel: u16, perf: &Perf) -> bool
-        ensures narrow { result ≡ is_narrow_at (in_slots self.old.theirs channel) (in_slots self.new.windows) }
+        ensures narrow { result ≡ is_narrow_at (at_number self.old.theirs channel) (at_number self.new.windows) }
         ensures offered { self.new.offered ≡ offered_in perf.now self.old.offered }
         ensures answered { self.new.answered ≡ self.old.answered }
-        ensures theirs { (p : ℕ) → in_slots self.new.theirs p ≡ behind_their_end perf.now channel p (in_slots self.old.theirs p) }
-        ensures windows { (o : ℕ) → in_slots self.new.windows o ≡ heard_window perf.now (maps (in_slots self.old.theirs channel) o) (in_slots self.old.windows o) }
+        ensures theirs { (p : ℕ) → at_number self.new.theirs p ≡ after_their_end perf.now channel p (at_number self.old.theirs p) }
+        ensures windows { (o : ℕ) → at_number self.new.windows o ≡ heard_window perf.now (maps (at_number self.old.theirs channel) o) (at_number self.old.windows o) }
     {
         let own = mapped(&self.theirs, channel);
         hear_in(&mut self.windows, own, perf);
@@ -167,7 +167,7 @@ impl ConnectionSessions {
 
     /// Whether the window of a session is narrow: half of what its peer may send is used up.
     pub fn is_narrow(&self, own: u16) -> bool
-        ensures { result ≡ is_narrow_window (in_slots self.now.windows own) }
+        ensures { result ≡ is_narrow_window (at_number self.now.windows own) }
     {
         match self.windows.get(u64::from(own)) {
             None => false,
@@ -177,7 +177,7 @@ impl ConnectionSessions {
 
     /// The flow that is due on a session because its window is narrow.
     pub fn due(&self, conn: u64, own: u16) -> Option<Outgoing>
-        ensures { (known : ℕ → Option Session) → ((o : ℕ) → in_slots self.now.windows o ≡ window_by (known o))
+        ensures { (known : ℕ → Option Session) → ((o : ℕ) → at_number self.now.windows o ≡ window_by (known o))
             → flow_due conn own (known own) ≡ puts_of (listed result) }
     {
         let mut window = *self.windows.get(u64::from(own))?;
@@ -192,11 +192,11 @@ impl ConnectionSessions {
 
     /// The router begins a session on its channel `own`. Returns whether its window is narrow.
     pub fn begin(&mut self, own: u16, begin: &Begin) -> Result<bool, AllocError>
-        ensures narrow { IfOk result (λ narrow. narrow ≡ is_narrow_window (in_slots self.new.windows own)) }
+        ensures narrow { IfOk result (λ narrow. narrow ≡ is_narrow_window (at_number self.new.windows own)) }
         ensures offered { self.new.offered ≡ self.old.offered }
         ensures answered { OnOk result ((o : ℕ) → get nat_cmp self.new.answered o ≡ (if own == o then begin.now.remote_channel else get nat_cmp self.old.answered o)) }
-        ensures theirs { OnOk result ((p : ℕ) → in_slots self.new.theirs p ≡ (if is_channel begin.now.remote_channel p then Some (Mapped own) else in_slots self.old.theirs p)) }
-        ensures windows { OnOk result ((o : ℕ) → in_slots self.new.windows o ≡ (if own == o then begun_window self.old.offered begin.now else in_slots self.old.windows o)) }
+        ensures theirs { OnOk result ((p : ℕ) → at_number self.new.theirs p ≡ (if is_channel begin.now.remote_channel p then Some (Mapped own) else at_number self.old.theirs p)) }
+        ensures windows { OnOk result ((o : ℕ) → at_number self.new.windows o ≡ (if own == o then begun_window self.old.offered begin.now else at_number self.old.windows o)) }
     {
         set(&mut self.answered, own, begin.remote_channel)?;
         if let Some(channel) = begin.remote_channel {
@@ -216,8 +216,8 @@ impl ConnectionSessions {
     pub fn end(&mut self, own: u16)
         ensures offered { self.new.offered ≡ self.old.offered }
         ensures answered { (o : ℕ) → get nat_cmp self.new.answered o ≡ (if own == o then None else get nat_cmp self.old.answered o) }
-        ensures theirs { (p : ℕ) → in_slots self.new.theirs p ≡ (if is_channel (get nat_cmp self.old.answered own) p then option_map (λ v. Ending) (in_slots self.old.theirs p) else in_slots self.old.theirs p) }
-        ensures windows { (o : ℕ) → in_slots self.new.windows o ≡ (if own == o then None else in_slots self.old.windows o) }
+        ensures theirs { (p : ℕ) → at_number self.new.theirs p ≡ (if is_channel (get nat_cmp self.old.answered own) p then option_map (λ v. Ending) (at_number self.old.theirs p) else at_number self.old.theirs p) }
+        ensures windows { (o : ℕ) → at_number self.new.windows o ≡ (if own == o then None else at_number self.old.windows o) }
     {
         let _ = self.windows.remove(u64::from(own));
         let Some(channel) = self.answered.remove(&own) else {
@@ -230,11 +230,11 @@ impl ConnectionSessions {
 
     /// The router sends a flow with its window on its channel `own`. Returns whether the window is narrow.
     pub fn tell(&mut self, own: u16, flow: &Flow) -> bool
-        ensures narrow { result ≡ is_narrow_window (in_slots self.new.windows own) }
+        ensures narrow { result ≡ is_narrow_window (at_number self.new.windows own) }
         ensures offered { self.new.offered ≡ self.old.offered }
         ensures answered { self.new.answered ≡ self.old.answered }
         ensures theirs { self.new.theirs ≡ self.old.theirs }
-        ensures windows { (o : ℕ) → in_slots self.new.windows o ≡ (if own == o then option_map (behind_our_flow flow.now.incoming_window) (in_slots self.old.windows o) else in_slots self.old.windows o) }
+        ensures windows { (o : ℕ) → at_number self.new.windows o ≡ (if own == o then option_map (after_our_flow flow.now.incoming_window) (at_number self.old.windows o) else at_number self.old.windows o) }
     {
         if let Some(window) = self.windows.get_mut(u64::from(own)) {
             let _ = window.flow_state(flow.incoming_window);
@@ -247,7 +247,7 @@ impl ConnectionSessions {
         ensures offered { self.new.offered ≡ self.old.offered }
         ensures answered { self.new.answered ≡ self.old.answered }
         ensures theirs { self.new.theirs ≡ self.old.theirs }
-        ensures windows { (o : ℕ) → in_slots self.new.windows o ≡ (if own == o then option_map behind_our_transfer (in_slots self.old.windows o) else in_slots self.old.windows o) }
+        ensures windows { (o : ℕ) → at_number self.new.windows o ≡ (if own == o then option_map after_our_transfer (at_number self.old.windows o) else at_number self.old.windows o) }
     {
         if let Some(window) = self.windows.get_mut(u64::from(own)) {
             window.note_sent();
@@ -271,11 +271,11 @@ fn set(map: &mut BTreeMap<u16, u16>, key: u16, value: Option<u16>) -> Result<(),
 
 /// Gives a session this window, or removes it.
 fn set_window(
-    windows: &mut Slots<Window>,
+    windows: &mut NumberMap<Window>,
     own: u16,
     window: Option<Window>,
 ) -> Result<(), AllocError>
-    ensures { OnOk result ((o : ℕ) → in_slots windows.new o ≡ (if own == o then window else in_slots windows.old o)) }
+    ensures { OnOk result ((o : ℕ) → at_number windows.new o ≡ (if own == o then window else at_number windows.old o)) }
 {
     let Some(window) = window else {
         let _ = windows.remove(u64::from(own));

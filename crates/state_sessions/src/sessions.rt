@@ -2,7 +2,7 @@
 ghost use Rattle.std.specs.Prelude.{◌≡◌, ◌<◌, ◌∷◌, ◌++◌, List, ℕ, Bool, true, false, is_some, OnOk};
 ghost use Rattle.std.specs.Ordering.{nat_cmp};
 ghost use Rattle.std.specs.BTreeSet.{contains};
-ghost use Rattle.state_collections.specs.Slots.{in_slots};
+ghost use Rattle.state_collections.specs.NumberMap.{at_number};
 ghost use Rattle.router_trace.specs.Trace.{Beginning};
 ghost use Rattle.router_trace.specs.Configuration.{beginning};
 ghost use Rattle.router_trace.specs.Trace.{Entry, Out, did, puts_of};
@@ -22,7 +22,7 @@ use crate::rows;
 use amqp_model::{Begin, Flow, Item, Perf};
 use amqp_session::Window;
 use router_trace::{ConnectionId, Outgoing};
-use state_collections::Slots;
+use state_collections::NumberMap;
 use std::alloc::{AllocError, Global};
 use std::collections::BTreeSet;
 
@@ -39,7 +39,7 @@ const PLACES: usize = 64;
 #[derive(Drop)]
 pub struct Sessions {
     alloc: Global,
-    rows: Slots<ConnectionSessions>,
+    rows: NumberMap<ConnectionSessions>,
     // the connections that may have a narrow window
     narrow: BTreeSet<u64>,
 }
@@ -51,7 +51,7 @@ impl Sessions {
     {
         Sessions {
             alloc,
-            rows: Slots::new(alloc, PLACES),
+            rows: NumberMap::new(alloc, PLACES),
             narrow: BTreeSet::new(alloc),
         }
     }
@@ -98,7 +98,7 @@ impl Sessions {
 
     /// The windows of a session.
     pub fn window(&self, conn: u64, own: u16) -> Option<Window>
-        ensures { result ≡ window_in (in_slots self.now.rows conn) own }
+        ensures { result ≡ window_in (at_number self.now.rows conn) own }
     {
         match self.rows.get(conn) {
             None => None,
@@ -151,7 +151,7 @@ impl Sessions {
 
     /// Whether a connection has a narrow window.
     fn has_narrow(&self, conn: u64) -> bool
-        ensures { result ≡ false → (o : ℕ) → o < 15 → is_narrow_window (window_in (in_slots self.now.rows conn) o) ≡ false }
+        ensures { result ≡ false → (o : ℕ) → o < 15 → is_narrow_window (window_in (at_number self.now.rows conn) o) ≡ false }
     {
         for own in 0..CHANNEL_COUNT {
             if self.is_narrow(conn, own) {
@@ -163,7 +163,7 @@ impl Sessions {
 
     /// Whether the window of a session is narrow.
     fn is_narrow(&self, conn: u64, own: u16) -> bool
-        ensures { result ≡ is_narrow_window (window_in (in_slots self.now.rows conn) own) }
+        ensures { result ≡ is_narrow_window (window_in (at_number self.now.rows conn) own) }
     {
         match self.rows.get(conn) {
             None => false,
@@ -260,7 +260,7 @@ impl Sessions {
     }
 }
 
-/// Marks a connection that has a narrow window.
+/// NumberSet a connection that has a narrow window.
 fn mark(marks: &mut BTreeSet<u64>, conn: u64, narrow: bool) -> Result<(), AllocError>
     ensures { OnOk result ((c : ℕ) → contains nat_cmp marks.new c ≡ with_mark conn narrow (contains nat_cmp marks.old) c) }
 {

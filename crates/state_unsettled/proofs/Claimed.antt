@@ -10,7 +10,7 @@ use Rattle.amqp_model.specs.declared.perf.Role.TheVariants.{Sender, Receiver}
 use Rattle.amqp_session.specs.Ranges.{in_range, has}
 use Rattle.router_trace.specs.Claims.{Claim}
 use Rattle.router_trace.specs.Deliveries.{last_of}
-use Rattle.state_unsettled.specs.Claiming.{IsSmall, is_on, unless_on, let_go_at, settled_by_role, settled_at}
+use Rattle.state_unsettled.specs.Incoming.{IsSmall, is_on, unless_on, let_go_at, settled_by_role, settled_at}
 use Rattle.router_trace.proofs.Numbers.{equal_back}
 
 -- a freed claim stays free

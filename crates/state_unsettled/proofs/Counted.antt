@@ -8,7 +8,7 @@ use Rattle.router_trace.specs.Deliveries.{is_number}
 use Rattle.router_trace.specs.Settling.{is_unbound_on}
 use Rattle.state_collections.specs.declared.by_session.BySession.{BySession}
 use Rattle.state_unsettled.specs.declared.by_link.ByLink.{ByLink}
-use Rattle.state_unsettled.specs.Claiming.{unbound_handle}
+use Rattle.state_unsettled.specs.Incoming.{unbound_handle}
 use Rattle.state_unsettled.specs.Standing.{count_at, IsCounted}
 use Rattle.router_trace.specs.Counting.{IsCount}
 use Rattle.state_collections.specs.Ids.{at_id}

@@ -9,8 +9,8 @@ use Rattle.router_trace.specs.Claims.{Claim, claims, claim, bound_claim, claimed
 use Rattle.router_trace.specs.Deliveries.{is_number}
 use Rattle.router_trace.specs.Settling.{is_unbound_on, is_of_link, unbound}
 use Rattle.router_trace.specs.Trace.{Trace}
-use Rattle.state_unsettled.specs.declared.claims.Claims.{Claims}
-use Rattle.state_unsettled.specs.Claiming.{ClaimsFit, IsSmall, unbound_handle, stand_of, unless_on}
+use Rattle.state_unsettled.specs.declared.incoming.IncomingDeliveries.{IncomingDeliveries}
+use Rattle.state_unsettled.specs.Incoming.{IncomingFit, IsSmall, unbound_handle, stand_of, unless_on}
 use Rattle.state_unsettled.specs.Standing.{count_at, link_of, unbound_of}
 use Rattle.state_collections.specs.Ids.{at_id}
 use Rattle.router_trace.proofs.Numbers.{count_is}
@@ -142,7 +142,7 @@ marked_end test none true false h old next first last marked ended gone = ended 
 marked_end test none false own h old next first last marked ended gone = ended ∙ marked ∙ ap (test h) (sym gone)
 
 -- how many there are
-pub unbound_count : (s : Claims) (t : Trace) (c o h : ℕ) → ClaimsFit s t → count_at s.by_link c o h ≡ unbound t c o h
+pub unbound_count : (s : IncomingDeliveries) (t : Trace) (c o h : ℕ) → IncomingFit s t → count_at s.by_link c o h ≡ unbound t c o h
 unbound_count s t c o h fit =
     count_is (2 ^ 32) (λ id. is_unbound_on h (claims t c o id)) (λ id e. low id (at_id s.ids c o id) (fit.small c o id) (ap (is_unbound_on h) (fit.ids c o id) ∙ e)) (count_at s.by_link c o h)
     (count_same (λ id. is_unbound_on h (at_id s.ids c o id)) (λ id. is_unbound_on h (claims t c o id)) (λ id. ap (is_unbound_on h) (fit.ids c o id)) (count_at s.by_link c o h) (fit.marked.unbound c o h))

@@ -9,8 +9,8 @@ use Rattle.router_trace.specs.Settling.{is_of_link, is_tag, is_tagged_on, uses_t
 use Rattle.router_trace.specs.Trace.{Trace}
 use Rattle.router_trace.proofs.Numbers.{not_true, none_below}
 use Rattle.state_unsettled.specs.declared.by_link.OfLink.{OfLink}
-use Rattle.state_unsettled.specs.declared.claims.Claims.{Claims}
-use Rattle.state_unsettled.specs.Claiming.{ClaimsFit, IsSmall, TellsAny, tagged_at}
+use Rattle.state_unsettled.specs.declared.incoming.IncomingDeliveries.{IncomingDeliveries}
+use Rattle.state_unsettled.specs.Incoming.{IncomingFit, IsSmall, TellsAny, tagged_at}
 use Rattle.state_unsettled.specs.Standing.{has_id}
 use Rattle.state_collections.specs.Ids.{at_id}
 use Rattle.state_collections.specs.Places.{at}
@@ -70,7 +70,7 @@ of_link h tag (Some v) e = both_first (v.handle == h) (is_tag v.tag tag) e
 small_test : (n : ℕ) → n < 2 ^ 32 → nat_lt n 4294967296 ≡ true
 small_test n l = grind (arith, nat_tests, l)
 
-pub uses_is : (s : Claims) (t : Trace) (c o h : ℕ) (tag : List ℕ) (v : Option OfLink) (r : Bool) → ClaimsFit s t → v ≡ at s.by_link.rows c o h
+pub uses_is : (s : IncomingDeliveries) (t : Trace) (c o h : ℕ) (tag : List ℕ) (v : Option OfLink) (r : Bool) → IncomingFit s t → v ≡ at s.by_link.rows c o h
     → TellsAny (has_id v) (tagged_at h tag (at_id s.ids c o)) r → r ≡ uses_tag t c o h tag
 uses_is s t c o h tag v true fit is one =
     let tagged : is_tagged_on h tag (at_id s.ids c o one.0) ≡ true = both_second (nat_lt one.0 4294967296) (is_tagged_on h tag (at_id s.ids c o one.0)) one.1 in

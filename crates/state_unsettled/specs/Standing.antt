@@ -5,7 +5,7 @@ use Rattle.router_trace.specs.Deliveries.{is_number}
 use Rattle.state_unsettled.specs.declared.by_link.ByLink.{ByLink}
 use Rattle.state_unsettled.specs.declared.by_link.OfLink.{OfLink}
 use Rattle.state_unsettled.specs.declared.by_link.Stand.{Stand}
-use Rattle.state_collections.specs.Marks.{has}
+use Rattle.state_collections.specs.NumberSet.{has}
 use Rattle.state_collections.specs.Places.{at}
 
 -- the handle of a link, and of a link whose unbound claims count it

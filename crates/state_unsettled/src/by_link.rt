@@ -3,10 +3,10 @@ ghost use Rattle.std.specs.Prelude.{◌≡◌, ◌==◌, ◌+◌, ◌-◌, ℕ, 
 ghost use Rattle.std.specs.Option.{option_map};
 ghost use Rattle.router_trace.specs.Deliveries.{is_number};
 ghost use Rattle.state_unsettled.specs.Standing.{count_at, is_marked, link_of, unbound_of, IsCounted};
-ghost use Rattle.state_collections.specs.Marks.{has};
+ghost use Rattle.state_collections.specs.NumberSet.{has};
 ghost use Rattle.state_collections.specs.Places.{at};
 
-use state_collections::{ByHandle, Marks};
+use state_collections::{ByHandle, NumberSet};
 use std::alloc::{AllocError, Global};
 
 /// Where a claim stands.
@@ -24,7 +24,7 @@ pub(crate) struct OfLink {
     /// How many of them are unbound.
     unbound: usize,
     /// The ids of all.
-    pub(crate) ids: Marks,
+    pub(crate) ids: NumberSet,
 }
 
 impl OfLink {
@@ -35,7 +35,7 @@ impl OfLink {
     {
         OfLink {
             unbound: 0,
-            ids: Marks::new(alloc),
+            ids: NumberSet::new(alloc),
         }
     }
 

@@ -1,4 +1,4 @@
--- In every trace of the router a message with a row is bound behind the act that admits it.
+-- In every trace of the router a message with a row is bound after the act that admits it.
 use Rattle.std.proofs.Common.{◌≡◌, ◌∙◌, sym, ap, refl, subst, ℕ, ◌+◌, Bool, true, false, List, [], ◌∷◌, ◌++◌, append-nil}
 use Rattle.std.specs.Prelude.{◌||◌, if◌then◌else◌, Option, Some, None, is_none, option_map, unwrap_or, map, filter}
 use Rattle.amqp_model.specs.declared.perf.Perf.{Perf}
@@ -33,7 +33,7 @@ use Rattle.router_trace.specs.Links.{Link, link, link_place, durable_key, free_h
 use Rattle.router_trace.specs.Sessions.{free_channel, theirs}
 use Rattle.router_trace.specs.Settling.{part_of}
 use Rattle.router_trace.specs.Trace.{Entry, Booked, did, step_of}
-use Rattle.state_messages.specs.Passing.{choice_of, consumer_of, binding_to}
+use Rattle.state_messages.specs.Messages.{choice_of, consumer_of, binding_to}
 use Rattle.reply_rows.specs.declared.answer.Answer.{Answer}
 use Rattle.reply_rows.specs.declared.answer.Answer.TheVariants.{Nothing, Taken}
 use Rattle.reply_rows.specs.Booking.{answer_at}
@@ -201,7 +201,7 @@ whole_is_bound after c own handle d row payload x is =
           carried = sym (ap (λ (y : Binding). y.payload) same);
         }
 
--- behind the event that completed it
+-- after the event that completed it
 
 abbrev nothing : Option Part
 nothing = None
@@ -215,31 +215,31 @@ unended [] o x is = (refl, is)
 unended (d ∷ ds) o x is = absurd (none_not_some is)
 
 -- views that an event's acts leave as they are
-link_behind : (acts : List Act) (e : Event) (t : List Entry) (c own handle : ℕ) → link (did e ∷ Booked acts (due t e) ∷ t) c own handle ≡ link (without_acts t e) c own handle
-link_behind acts e t c own handle = refl
+link_after : (acts : List Act) (e : Event) (t : List Entry) (c own handle : ℕ) → link (did e ∷ Booked acts (due t e) ∷ t) c own handle ≡ link (without_acts t e) c own handle
+link_after acts e t c own handle = refl
 
-claimed_behind : (acts : List Act) (e : Event) (t : List Entry) (c own handle : ℕ) (v : Option ℕ)
+claimed_after : (acts : List Act) (e : Event) (t : List Entry) (c own handle : ℕ) (v : Option ℕ)
     → claimed_id (did e ∷ Booked acts (due t e) ∷ t) c own handle v ≡ claimed_id (without_acts t e) c own handle v
-claimed_behind acts e t c own handle None = refl
-claimed_behind acts e t c own handle (Some id) = refl
+claimed_after acts e t c own handle None = refl
+claimed_after acts e t c own handle (Some id) = refl
 
-consumer_behind : (acts : List Act) (e : Event) (t : List Entry) (l : Option Link) → consumer_of (did e ∷ Booked acts (due t e) ∷ t) l ≡ consumer_of (without_acts t e) l
+consumer_after : (acts : List Act) (e : Event) (t : List Entry) (l : Option Link) → consumer_of (did e ∷ Booked acts (due t e) ∷ t) l ≡ consumer_of (without_acts t e) l
 unfolding choice_of
-consumer_behind acts e t None = refl
-consumer_behind acts e t (Some l) = refl
+consumer_after acts e t None = refl
+consumer_after acts e t (Some l) = refl
 
--- the answer to an item behind the acts of its event
-pub answer_behind : (acts : List Act) (ends : List ℕ) (t : List Entry) (full : Bool) (b : BookView) (c : ℕ) (p : Conn) (i : Item) → answer_at full b (Booked acts ends ∷ t) c p i ≡ answer_at full b t c p i
+-- the answer to an item after the acts of its event
+pub answer_after : (acts : List Act) (ends : List ℕ) (t : List Entry) (full : Bool) (b : BookView) (c : ℕ) (p : Conn) (i : Item) → answer_at full b (Booked acts ends ∷ t) c p i ≡ answer_at full b t c p i
 unfolding free_handle first_free_below free_channel
-answer_behind acts ends t full b c p (item.Frame sasl channel body payload) = by body
+answer_after acts ends t full b c p (item.Frame sasl channel body payload) = by body
   where
     by : (body : Perf) → answer_at full b (Booked acts ends ∷ t) c p (item.Frame sasl channel body payload) ≡ answer_at full b t c p (item.Frame sasl channel body payload)
     by (perf.Attach a) = refl
     by (perf.Transfer x) = refl
     by _ = refl
-answer_behind acts ends t full b c p _ = refl
+answer_after acts ends t full b c p _ = refl
 
--- the message that is bound behind an event whose acts admit its row
+-- the message that is bound after an event whose acts admit its row
 admitted_there : (t : List Entry) (e : Event) (c own handle : ℕ) (d : Told) (payload : List ℕ) (x : Binding) (row : RowNumber) (y : Admission)
     → acts_of t e ≡ Admit y ∷ [] → admit_refusal (book_in t) y ≡ None → y.row ≡ row
     → CameAt (booked t e) (did e ∷ booked t e) c own handle d x.payload
@@ -268,14 +268,14 @@ admitted_there t e c own handle d payload x row y alone applies number came whol
   where
     origin : x.origin ≡ Some (origin_of (from_link c own handle is.place) whole.id)
     origin =
-        is.origin ∙ ap (option_map (origin_of (from_link c own handle is.place))) (claimed_behind (acts_of t e) e t c own handle d.id ∙ whole.claimed)
+        is.origin ∙ ap (option_map (origin_of (from_link c own handle is.place))) (claimed_after (acts_of t e) e t c own handle d.id ∙ whole.claimed)
 
     from : terminus_for (book_in t) (durable_key (link (did e ∷ booked t e) c own handle)) ≡ Some y.producer
-    from = ap (λ (l : Option Link). terminus_for (book_in t) (durable_key l)) (link_behind (acts_of t e) e t c own handle) ∙ whole.producer
+    from = ap (λ (l : Option Link). terminus_for (book_in t) (durable_key l)) (link_after (acts_of t e) e t c own handle) ∙ whole.producer
 
     same : whole.at ≡ x.consumer
     same =
-        some_same (sym whole.chosen ∙ sym (consumer_behind (acts_of t e) e t (link (without_acts t e) c own handle)) ∙ is.chosen)
+        some_same (sym whole.chosen ∙ sym (consumer_after (acts_of t e) e t (link (without_acts t e) c own handle)) ∙ is.chosen)
 
 -- it came whole
 came_there : (t : List Entry) (from : ConnectionId) (i : Item) (p : Conn) (own handle : ℕ) (d : Told) (payload : List ℕ)
@@ -360,7 +360,7 @@ item_elim id t from i x Q comes is = by (standing (found t e from.0)) refl is
     by : (v : Option Conn) → standing (found t e from.0) ≡ v → item_bound (booked t e) after from.0 i v ≡ Some x → Q
     by None stands is = absurd (none_not_some is)
     by (Some p) stands is =
-        by_answer p (answer_of (booked t e) from.0 p i) stands (sym (answer_behind (acts_of t e) (due t e) t (finds_full (journaled t) t e) (book_in t) from.0 p i)) is
+        by_answer p (answer_of (booked t e) from.0 p i) stands (sym (answer_after (acts_of t e) (due t e) t (finds_full (journaled t) t e) (book_in t) from.0 p i)) is
 
 pub bound_row : (id : List ℕ) (t : List Entry) (e : Event) (x : Binding) → bound_by (booked t e) (heard id (booked t e) (step_of e)) e ≡ Some x
     → RowIsAdmitted (heard id (booked t e) (step_of e)) x
@@ -429,8 +429,8 @@ item_next id t from i row p own handle d payload adm stands answer part open_end
     let same : heard id at (step_of e) ≡ u = ap (λ (ds : List ℕ). ends id ds u) open_ended in
     let after : List Entry = heard id at (step_of e) in
     let answered : answer_of at from.0 p i ≡ Taken own handle =
-    answer_behind (acts_of t e) (due t e) t full b from.0 p i ∙ ap (λ (f : Bool). answer_at f b t from.0 p i) adm.room ∙ answer in
-    let chosen : consumer_of u (link u from.0 own handle) ≡ Some whole.at = consumer_behind (acts_of t e) e t (link (without_acts t e) from.0 own handle) ∙ whole.chosen in
+    answer_after (acts_of t e) (due t e) t full b from.0 p i ∙ ap (λ (f : Bool). answer_at f b t from.0 p i) adm.room ∙ answer in
+    let chosen : consumer_of u (link u from.0 own handle) ≡ Some whole.at = consumer_after (acts_of t e) e t (link (without_acts t e) from.0 own handle) ∙ whole.chosen in
     record {
       binding = binding_to u (option_map (origin_of (from_link from.0 own handle there.0)) (claimed_id u from.0 own handle d.id)) (Some row) (unwrap_or d.format 0) payload whole.at;
       is =

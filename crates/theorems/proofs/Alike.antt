@@ -7,8 +7,8 @@ use Rattle.router_trace.specs.declared.event.Event.{Event}
 use Rattle.router_trace.specs.declared.event.Event.TheVariants as event
 use Rattle.router_trace.specs.declared.condition.Condition.TheVariants.{ResourceLimitExceeded}
 use Rattle.router_trace.specs.Trace.{Entry, Out, Put, did, goes, each_to, puts, ups, step_of}
-use Rattle.router_trace.specs.Connection.{Connection, conn, behind, with_item, took, unless_empty, drained, is_live, has, due, found, live_of, at_event}
-use Rattle.state_messages.specs.Passing.{with_bound}
+use Rattle.router_trace.specs.Connection.{Connection, conn, phase_after, with_item, took, unless_empty, drained, is_live, has, due, found, live_of, at_event}
+use Rattle.state_messages.specs.Messages.{with_bound}
 use Rattle.router_reply.specs.Replies.{closing_of, ends as ends_of, heard, bound_by, own_row, replied}
 use Rattle.router_reply.specs.Acts.{booked}
 use Rattle.router_core.specs.Replies.{answered, handled}
@@ -40,7 +40,7 @@ alike_on t u v c first rest = record {
 over_item : (i : Item) (v : Option Connection) → is_live v ≡ false → is_live (option_map (with_item i) v) ≡ false
 over_item i None h = refl
 over_item i (Some v) h =
-    by_test (behind i v.phase).closed (λ e. rw e refl) (λ e. let was : v.phase.closed ≡ false = stays i v.phase e in absurd (true≢false (rw was at h)))
+    by_test (phase_after i v.phase).closed (λ e. rw e refl) (λ e. let was : v.phase.closed ≡ false = stays i v.phase e in absurd (true≢false (rw was at h)))
 
 over_put : (b : Bool) (i : Item) (v : Option Connection) → is_live v ≡ false → is_live (if b then option_map (with_item i) v else v) ≡ false
 over_put true i v h = over_item i v h

@@ -26,11 +26,11 @@ use Rattle.router_trace.specs.Sessions.{theirs}
 use Rattle.router_trace.specs.Peers.{largest_frame}
 use Rattle.router_trace.specs.Following.{tells, sends_due, drains_due}
 use Rattle.state_sessions.specs.Windows.{windows}
-use Rattle.state_messages.specs.Passing.{grants_due, with_bound}
+use Rattle.state_messages.specs.Messages.{grants_due, with_bound}
 use Rattle.reply_rows.specs.declared.answer.Answer.{Answer}
 use Rattle.reply_rows.specs.declared.answer.Answer.TheVariants.{Attach, Refuse, Taken, Settle}
 use Rattle.reply_rows.specs.Rows.{said}
-use Rattle.router_reply.specs.Replies.{closing_of, ends, heard, refused, bound_for, item_put, behind_answer, item_bound, item_row, bound_by, own_row, replied_behind, replied}
+use Rattle.router_reply.specs.Replies.{closing_of, ends, heard, refused, bound_for, item_put, after_answer, item_bound, item_row, bound_by, own_row, replied_after, replied}
 use Rattle.router_reply.specs.Acts.{found_journal, full_at, answer_of, booked}
 use Rattle.router_core.specs.Replies.{answered, handled}
 use Rattle.core_machine.specs.Moves.{took_one}
@@ -76,7 +76,7 @@ ends_handled id (c ∷ cs) t v is =
 -- an answer to an item: what is bound, and what is put
 
 abbrev Behind : List ℕ → List Entry → List Entry → ℕ → Conn → Item → Answer → Type 0
-Behind id t after c p i a = Sound (behind_answer id t after c p i a)
+Behind id t after c p i a = Sound (after_answer id t after c p i a)
 
 quiet_answer : (id : List ℕ) (t after : List Entry) (c : ℕ) (p : Conn) (i : Item) (a : Answer) → Sound after → bound_for t after c i a ≡ None
     → QuietPut (item_put id t after c p i a) → Behind id t after c p i a
@@ -141,7 +141,7 @@ item_sound id t after s from p i sound came just = by i came
 -- an event's own row
 
 row_sound : (id : List ℕ) (t after : List Entry) (s : Step) (e : Event) → Sound after → s.event ≡ e → just_handled after ≡ Some (record { step = s; found = t })
-    → Sound (replied_behind id t after e)
+    → Sound (replied_after id t after e)
 row_sound id t after s (event.Item c i) sound is just = by (standing (found t (event.Item c i) c.0))
   where
     by : (p : Option Conn) → Sound (goes (item_row id t after c.0 i p) (with_bound (item_bound t after c.0 i p) after))

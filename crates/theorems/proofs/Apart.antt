@@ -17,7 +17,7 @@ use Rattle.router_trace.specs.Sessions.{session}
 use Rattle.router_trace.specs.Refusing.{refuses}
 use Rattle.state_sessions.specs.Windows.{flows_below, windows}
 use Rattle.router_state.specs.Tables.{beat_if}
-use Rattle.state_messages.specs.Passing.{grants_due, with_bound}
+use Rattle.state_messages.specs.Messages.{grants_due, with_bound}
 use Rattle.reply_rows.specs.Finding.{finds}
 use Rattle.router_reply.specs.Replies.{heard, bound_by, own_row, replied}
 use Rattle.router_after.specs.After.{widened}

@@ -38,5 +38,5 @@ settled_apply b ds numbers x ordered =
 pub admission_applies : (b : BookView) (x : Admission) → first_fault b (admission_acts b x) ≡ None
 admission_applies b x = unless_applies b (Admit x) (admit_refusal b x) refl
 
-pub ordered_behind : (b : BookView) (acts : List Act) → IsOrdered b → first_fault b acts ≡ None → IsOrdered (effects b acts)
-ordered_behind b acts ordered applies = (acts_follow b acts ordered applies).ordered
+pub ordered_after : (b : BookView) (acts : List Act) → IsOrdered b → first_fault b acts ≡ None → IsOrdered (effects b acts)
+ordered_after b acts ordered applies = (acts_follow b acts ordered applies).ordered

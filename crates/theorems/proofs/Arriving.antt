@@ -25,7 +25,7 @@ use Rattle.router_trace.specs.DeliveryFrames.{kept_outcome, outcome_item}
 use Rattle.router_trace.specs.Sessions.{theirs}
 use Rattle.router_trace.specs.Links.{Link, LinkPlace, Happened, link, link_place}
 use Rattle.router_trace.specs.Settling.{is_claimed_on, unbound, part_on, part_by, part_of}
-use Rattle.state_messages.specs.Passing.{consumer_of, binding_to, with_bound}
+use Rattle.state_messages.specs.Messages.{consumer_of, binding_to, with_bound}
 use Rattle.reply_transfers.specs.Transfers.{claimed_id, from_link, origin_of, lasts_on, may_pass, fresh_bound, whole_put, whole_bound, part_put, part_bound, let_go, released_by, released, unbound_put, ignored_put}
 use Rattle.router_reply.specs.Replies.{row_found}
 use Rattle.theorems.specs.Came.{Handled, just_handled, bound_since, CameWhole, ComesFrom, HasRowOn}

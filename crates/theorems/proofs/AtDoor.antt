@@ -20,7 +20,7 @@ use Rattle.router_trace.specs.Connection.{conn, is_live}
 use Rattle.router_trace.specs.Refusing.{refuses, rises}
 use Rattle.router_core.specs.Replies.{handled}
 use Rattle.core_machine.specs.Moves.{Taking, items_of, took_one}
-use Rattle.core_door.specs.Door.{Verdict, says, passes, ends, door, door_behind}
+use Rattle.core_door.specs.Door.{Verdict, says, passes, ends, door, door_after}
 use Rattle.router_play.specs.Script.{Scene, opening, refused, say, say_all, out_line, with_socket, with_trace, stream_of, hand, judged_by, enter_at, enter_by, enter, enter_all, Reads, BytesCome, made, make, told, lose_by, lose, Takes, is_last, close_if, take_one, take_all, Plays}
 use Rattle.router_core.specs.Moves.{ins, outs}
 use Rattle.theorems.specs.Order.{is_header, begins_with_header, HeaderFirst, NothingBeforeHeader}
@@ -127,7 +127,7 @@ kept_at_door c s k new known at was =
 judged_doored : (c : ConnectionId) (i : Item) (k : Socket) (d : DoorState) (s : Scene) (v : Verdict) → s.sockets c.0 ≡ Some k → k.door ≡ Some d
     → door d i ≡ v → Doored s → Doored (judged_by c i k d s v)
 judged_doored c i k d s (says items) known at_door is was =
-    let new : Socket = record { door = Some (door_behind d i); reader = k.reader }
+    let new : Socket = record { door = Some (door_after d i); reader = k.reader }
     in let none : ins s.trace c.0 ≡ []
     = subst (λ (o : Option DoorState). AtDoor s.trace c.0 o) at_door (subst (λ (o : Option Socket). AtSocket s.trace c.0 o) known (was.stands c.0))
     in said (map (out_line c) items) (with_socket c (Some new) s) (kept_at_door c s k new known none was)

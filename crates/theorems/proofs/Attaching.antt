@@ -16,7 +16,7 @@ use Rattle.router_trace.specs.declared.condition.Condition.TheVariants.{FrameSiz
 use Rattle.router_trace.specs.declared.handle.Attachment.{Attachment}
 use Rattle.router_trace.specs.Durable.{is_durable}
 use Rattle.router_trace.specs.Trace.{Trace, Out, goes, each_to}
-use Rattle.router_trace.specs.Deliveries.{Delivery, delivery, source, is_gone_with, behind_origin, ended, decided_at_end, suspended_at_end, sender, forsaken, either_origin}
+use Rattle.router_trace.specs.Deliveries.{Delivery, delivery, source, is_gone_with, after_origin, ended, decided_at_end, suspended_at_end, sender, forsaken, either_origin}
 use Rattle.router_trace.specs.LinkFrames.{other, source_answer, target_answer, plain_answer, lasting_by, answer_to, refused_source, refused_target, refusal_of, attach_item, detach_item, fits}
 use Rattle.router_trace.specs.Links.{Link, answered_handle, asked, address_by, link, has_number, is_attached, if_attached, key_at, last_of_key, holder, is_free_handle, first_free_below, free_handle, highest_handle, attached, attachments}
 use Rattle.router_trace.specs.Peers.{largest_frame}
@@ -27,7 +27,7 @@ use Rattle.state_deliveries.specs.Stepping.{is_gone, changed}
 use Rattle.reply_rows.specs.Booking.{wanted_key}
 use Rattle.router_reply.specs.Acts.{book_in}
 use Rattle.router_reply.specs.Deciding.{stolen_from}
-use Rattle.router_reply.specs.Replies.{stolen_by, attach_answer, taken_behind, taken, refused}
+use Rattle.router_reply.specs.Replies.{stolen_by, attach_answer, taken_after, taken, refused}
 use Rattle.state_connections.proofs.Lists.{by_test}
 use Rattle.theorems.proofs.Changing.{Alike, leaves_changed, alike_ends}
 use Rattle.theorems.proofs.Facts.{RowFact, fact_moved}
@@ -107,17 +107,17 @@ source_ended closed d = by d.suspended (d.lasting && not closed)
     by false false = refl
 
 source_spared : (closed : Bool) (gone_is : Attachment → Bool) (d : Delivery) (p : Origin) → source d ≡ Some p → gone_is p.link ≡ false
-    → source (behind_origin gone_is (if gone_is d.link then ended closed d else d)) ≡ Some p
+    → source (after_origin gone_is (if gone_is d.link then ended closed d else d)) ≡ Some p
 source_spared closed gone_is d p from spared = by (gone_is d.link)
   where
-    kept : (e : Delivery) → source e ≡ Some p → source (behind_origin gone_is e) ≡ Some p
+    kept : (e : Delivery) → source e ≡ Some p → source (after_origin gone_is e) ≡ Some p
     kept e is = on (is_gone_with gone_is (sender e)) (ap (λ (o : Option Origin). is_gone_with gone_is (either_origin o e.early)) is ∙ spared)
       where
         on : (b : Bool) → b ≡ false → source (if b then forsaken e else e) ≡ Some p
         on true f = absurd (clash f)
         on false f = is
 
-    by : (b : Bool) → source (behind_origin gone_is (if b then ended closed d else d)) ≡ Some p
+    by : (b : Bool) → source (after_origin gone_is (if b then ended closed d else d)) ≡ Some p
     by true = kept (ended closed d) (source_ended closed d ∙ from)
     by false = kept d from
 
@@ -256,7 +256,7 @@ taken_kept t u c own a at was = by (holder u (key_at u c (answer_to a 0))) refl
     key_then : (x : Attachment) (h : ℕ) → key_at (Out x.conn.0 (detach_item x.channel x.handle false (Some Stolen)) ∷ u) c (answer_to a h) ≡ key
     key_then x h = by_test (x.conn.0 == c) (λ e. rw e (at.key h)) (λ e. rw e (at.key h))
 
-    by : (v : Option Attachment) → holder u (key_at u c (answer_to a 0)) ≡ v → Kept (goes (taken_behind u c own a (stolen_by v)) u) []
+    by : (v : Option Attachment) → holder u (key_at u c (answer_to a 0)) ≡ v → Kept (goes (taken_after u c own a (stolen_by v)) u) []
     by None is = put_answer u c own (largest_frame u c) a key at.key (moved None is) at.came (dropped (holder t key) refl (moved None is) was)
     by (Some x) is =
         let holds : holder u key ≡ Some x = moved (Some x) is in

@@ -19,7 +19,7 @@ use Rattle.book_model.specs.declared.terminus.Terminus.{Terminus}
 use Rattle.book_model.specs.Book.{BookView, row_at, terminus_at, terminus_of, is_from, is_undecided as is_open_row, decided, forgotten, effects, first_fault}
 use Rattle.gate_journal.specs.Ordered.{IsOrdered}
 use Rattle.journal_store.specs.declared.acting.TerminusAct.{TerminusAct}
-use Rattle.journal_store.specs.Acting.{journal_outcome, outcome_for, is_among, settles, decided_to, decided_by, forgotten_by, rows_behind, terminus_acts, event_acts as settled_acts}
+use Rattle.journal_store.specs.Acting.{journal_outcome, outcome_for, is_among, settles, decided_to, decided_by, forgotten_by, rows_after, terminus_acts, event_acts as settled_acts}
 use Rattle.journal_store.proofs.Makes.{effects_more}
 use Rattle.journal_store.proofs.Rowwise.{Leaves as Left}
 use Rattle.journal_store.proofs.Settled.{settles_leave}
@@ -44,7 +44,7 @@ use Rattle.reply_rows.specs.declared.answer.Answer.TheVariants.{Detach}
 use Rattle.router_reply.specs.Acts.{event_answer, answer_acts, planned_acts, admitted_acts, or_admits, event_acts, finds_full, journaled, book_in, acts_of}
 use Rattle.router_reply.specs.Admitting.{event_admission, admits}
 use Rattle.router_reply.specs.Deciding.{lost, listed, ended_by, session_found, event_changes, decided as decided_in, sent_by, sent_from, closed_terminus, forgotten as forgotten_at, terminus_of_event}
-use Rattle.theorems.proofs.Applying.{settled_apply, admission_applies, ordered_behind}
+use Rattle.theorems.proofs.Applying.{settled_apply, admission_applies, ordered_after}
 use Rattle.theorems.proofs.Changing.{Leaves, leaves_by}
 use Rattle.theorems.proofs.Decisions.{decided_of, settled_is_done, among_rows}
 use Rattle.theorems.proofs.Facts.{kept_form, IsHeld, Agrees, RowFact, Facts}
@@ -57,7 +57,7 @@ use Rattle.theorems.proofs.Undecided.{ends_keep}
 clash : false ≡ true → ⊥
 clash e = cc
 
--- a row behind what is decided and forgotten
+-- a row after what is decided and forgotten
 
 decide_step : (t : Trace) (b : BookView) (ds : List Decision) (r : ℕ) (row : ARow) (d e : Delivery) → Leaves d e → d.presettled ≡ false → row.number.0 ≡ r
     → outcome_for r ds ≡ option_map kept_outcome (if is_undecided d then e.outcome else None) → IsHeld t b row d → Agrees t b (decided_by ds row) e
@@ -156,7 +156,7 @@ settle_step t b ds numbers r (Some row) d e leaves open_one number outcome done 
     by None is agrees = agrees
     by (Some x) is agrees = forget_step t b numbers r x e (decided_number ds row x is ∙ number row refl) done agrees
 
--- over the book behind all acts of the event, and the trace behind them
+-- over the book after all acts of the event, and the trace after them
 
 book_step : (t : Trace) (acts : List Act) (full : List ℕ) (b c : BookView) (r : ℕ) (v : Option ARow) (e : Delivery) → row_at r b.rows ≡ v → Stays b c → Agrees t b v e → Agrees (Booked acts full ∷ t) c v e
 book_step t acts full b c r None e found stays was = was
@@ -184,7 +184,7 @@ termini_step t b c (Some row) e same was = record {
       record { key = at.key; durable = at.durable; at = at.at; found = ap (terminus_of at.key) same ∙ at.found; number = at.number; role = at.role };
 }
 
--- the book behind what is decided and forgotten, and that behind all acts
+-- the book after what is decided and forgotten, and that after all acts
 
 nothing_done : (b : BookView) → effects b [] ≡ b
 unfolding effects
@@ -215,7 +215,7 @@ all_stay b ds numbers x admitted ordered stay = by (settled_acts b ds numbers x)
         subst (λ (c : BookView). Stays c (effects b admitted)) (sym same) stay
     by (act ∷ acts) is =
         subst (λ (c : BookView). Stays between c) (sym (effects_more b (settles b ds numbers) (terminus_acts between x)) ∙ ap (effects b) is)
-        (terminus_stays between x (ordered_behind b (settles b ds numbers) ordered (settles_leave b ds numbers ordered.rows_rise).applies))
+        (terminus_stays between x (ordered_after b (settles b ds numbers) ordered (settles_leave b ds numbers ordered.rows_rise).applies))
 
 -- what its producer isn't done with isn't forgotten
 
@@ -280,14 +280,14 @@ forgotten_is_done t b n d r (event.Item c (item.Frame true channel body payload)
 forgotten_is_done t b n d r (event.Item c _) answer standing ordered agrees there name among p from = clash among
 forgotten_is_done t b n d r _ answer standing ordered agrees there name among p from = clash among
 
--- the facts behind the acts of an event that isn't the start
+-- the facts after the acts of an event that isn't the start
 
 abbrev IsPlanned : Bool → Trace → Event → Type 0
 IsPlanned full t e = planned_acts full (book_in t) t e ≡ answer_acts (book_in t) t e (event_answer full (book_in t) t e)
 
-facts_behind : (full : Bool) (t : Trace) (e : Event) → IsPlanned full t e → Standing t → IsOrdered (book_in t) → Facts t []
+facts_after : (full : Bool) (t : Trace) (e : Event) → IsPlanned full t e → Standing t → IsOrdered (book_in t) → Facts t []
     → Facts (Booked (event_acts full (book_in t) t e) (due t e) ∷ t) (event_changes t e (event_answer full (book_in t) t e))
-facts_behind full t e planned standing ordered was n d r there name =
+facts_after full t e planned standing ordered was n d r there name =
     let fact : RowFact t b r d = was n d r there name in
     let leaves : Leaves d after = leaves_by xs d in
     let first : Agrees t b (settled ds numbers (row_at r.0 b.rows)) after =
@@ -325,7 +325,7 @@ facts_behind full t e planned standing ordered was n d r there name =
     between : BookView
     between = effects b (settles b ds numbers)
 
-    left : Left b (settles b ds numbers) (rows_behind ds numbers b.rows)
+    left : Left b (settles b ds numbers) (rows_after ds numbers b.rows)
     left = settles_leave b ds numbers ordered.rows_rise
 
     acts : List Act
@@ -370,7 +370,7 @@ acts_apply t e ordered = by (planned_acts full (book_in t) t e) (planned_apply f
     by (act ∷ acts) applies = applies
 
 pub ordered_acts : (t : Trace) (e : Event) → IsOrdered (book_in t) → IsOrdered (book_in (Booked (acts_of t e) (due t e) ∷ t))
-ordered_acts t e ordered = ordered_behind (book_in t) (acts_of t e) ordered (acts_apply t e ordered)
+ordered_acts t e ordered = ordered_after (book_in t) (acts_of t e) ordered (acts_apply t e ordered)
 
 -- the answer that an event gets, and the changes that it brings
 abbrev pub answer_for : Trace → Event → Answer
@@ -381,7 +381,7 @@ changes_of t e = event_changes t e (answer_for t e)
 
 pub booked_facts : (t : Trace) (e : Event) → Standing t → IsOrdered (book_in t) → (e ≡ event.Start → (n : ℕ) → delivery t n ≡ None) → Facts t [] → Facts (Booked (acts_of t e) (due t e) ∷ t) (changes_of t e)
 booked_facts t event.Start standing ordered none was = λ n d r there name. absurd (none_not_some (sym (none refl n) ∙ there))
-booked_facts t (event.Item c i) standing ordered none was = facts_behind (finds_full (journaled t) t (event.Item c i)) t (event.Item c i) refl standing ordered was
-booked_facts t (event.Up c p) standing ordered none was = facts_behind (finds_full (journaled t) t (event.Up c p)) t (event.Up c p) refl standing ordered was
-booked_facts t (event.Down c) standing ordered none was = facts_behind (finds_full (journaled t) t (event.Down c)) t (event.Down c) refl standing ordered was
-booked_facts t (event.Tick ms) standing ordered none was = facts_behind (finds_full (journaled t) t (event.Tick ms)) t (event.Tick ms) refl standing ordered was
+booked_facts t (event.Item c i) standing ordered none was = facts_after (finds_full (journaled t) t (event.Item c i)) t (event.Item c i) refl standing ordered was
+booked_facts t (event.Up c p) standing ordered none was = facts_after (finds_full (journaled t) t (event.Up c p)) t (event.Up c p) refl standing ordered was
+booked_facts t (event.Down c) standing ordered none was = facts_after (finds_full (journaled t) t (event.Down c)) t (event.Down c) refl standing ordered was
+booked_facts t (event.Tick ms) standing ordered none was = facts_after (finds_full (journaled t) t (event.Tick ms)) t (event.Tick ms) refl standing ordered was

@@ -12,7 +12,7 @@ use Rattle.amqp_model.specs.declared.item.Item.TheVariants as item
 use Rattle.router_trace.specs.declared.binding.Binding.{Binding}
 use Rattle.router_trace.specs.declared.binding.DeliveryName.{DeliveryName}
 use Rattle.router_trace.specs.Trace.{Entry, Did, Out, Took, Bound, Booked, Began}
-use Rattle.router_trace.specs.Deliveries.{Delivery, bindings, name_in, number_named, delivery, sending, named, unless_over, behind_frame, closes, ended_by, put_in, behind_put, behind_event, carried, tag_in, is_number, channels_found}
+use Rattle.router_trace.specs.Deliveries.{Delivery, bindings, name_in, number_named, delivery, sending, named, unless_over, after_frame, closes, ended_by, put_in, after_put, after_event, carried, tag_in, is_number, channels_found}
 use Rattle.theorems.specs.OneConsumer.{IsOf, WhileThere}
 use Rattle.theorems.specs.Each.{EachOut}
 use Rattle.theorems.specs.Carried.{HasSmallNumbers, BeginsOrGoesOn, CarriesMessage, CarriesWhatWasBound, bytes_by, bytes_out, IsBeginning, GoesInOrder, CompletesMessage}
@@ -49,40 +49,40 @@ unmoved_left = record {
 
 frame_moves : (c : ℕ) (sasl : Bool) (own : ℕ) (x : Transfer) (payload : List ℕ) (t : List Entry) (n : ℕ) (d : Delivery)
     → is_number (carried (number_named t) (tag_in x) (sending t c own x.handle)) n ≡ true
-    → Unmoved (behind_frame x (length payload) d) (behind_put (number_named t) (item.Frame sasl own (perf.Transfer x) payload) c n (sending t c) d)
+    → Unmoved (after_frame x (length payload) d) (after_put (number_named t) (item.Frame sasl own (perf.Transfer x) payload) c n (sending t c) d)
 frame_moves c sasl own x payload t n d e =
-    subst (λ (f : Delivery). Unmoved f (behind_put (number_named t) (item.Frame sasl own (perf.Transfer x) payload) c n (sending t c) d)) (here (is_number (carried (number_named t) (tag_in x) (sending t c own x.handle)) n) e)
+    subst (λ (f : Delivery). Unmoved f (after_put (number_named t) (item.Frame sasl own (perf.Transfer x) payload) c n (sending t c) d)) (here (is_number (carried (number_named t) (tag_in x) (sending t c own x.handle)) n) e)
     (ends_left Unmoved unmoved_left false (ended_by (item.Frame sasl own (perf.Transfer x) payload) c) (put_in (number_named t) (perf.Transfer x) c own n (sending t c) (length payload) d))
   where
-    here : (b : Bool) → b ≡ true → (if b then behind_frame x (length payload) d else d) ≡ behind_frame x (length payload) d
+    here : (b : Bool) → b ≡ true → (if b then after_frame x (length payload) d else d) ≡ after_frame x (length payload) d
     here true e = refl
     here false e = absurd cc
 
 other_frame : (c : ℕ) (sasl : Bool) (own : ℕ) (x : Transfer) (payload : List ℕ) (t : List Entry) (n : ℕ) (d : Delivery)
     → is_number (carried (number_named t) (tag_in x) (sending t c own x.handle)) n ≡ false
-    → Unmoved d (behind_put (number_named t) (item.Frame sasl own (perf.Transfer x) payload) c n (sending t c) d)
+    → Unmoved d (after_put (number_named t) (item.Frame sasl own (perf.Transfer x) payload) c n (sending t c) d)
 other_frame c sasl own x payload t n d e =
-    subst (λ (f : Delivery). Unmoved f (behind_put (number_named t) (item.Frame sasl own (perf.Transfer x) payload) c n (sending t c) d)) (here (is_number (carried (number_named t) (tag_in x) (sending t c own x.handle)) n) e)
+    subst (λ (f : Delivery). Unmoved f (after_put (number_named t) (item.Frame sasl own (perf.Transfer x) payload) c n (sending t c) d)) (here (is_number (carried (number_named t) (tag_in x) (sending t c own x.handle)) n) e)
     (ends_left Unmoved unmoved_left false (ended_by (item.Frame sasl own (perf.Transfer x) payload) c) (put_in (number_named t) (perf.Transfer x) c own n (sending t c) (length payload) d))
   where
-    here : (b : Bool) → b ≡ false → (if b then behind_frame x (length payload) d else d) ≡ d
+    here : (b : Bool) → b ≡ false → (if b then after_frame x (length payload) d else d) ≡ d
     here true e = absurd cc
     here false e = refl
 
 -- an item is a transfer, or advances no delivery and carries nothing
 pub item_elim : (i : Item) (P : Item → Type 0)
     → ((sasl : Bool) (own : ℕ) (x : Transfer) (payload : List ℕ) → P (item.Frame sasl own (perf.Transfer x) payload))
-    → (((numbers : DeliveryName → Option ℕ) (c n : ℕ) (sent : ℕ → ℕ → Option ℕ) (d : Delivery) → Unmoved d (behind_put numbers i c n sent d))
+    → (((numbers : DeliveryName → Option ℕ) (c n : ℕ) (sent : ℕ → ℕ → Option ℕ) (d : Delivery) → Unmoved d (after_put numbers i c n sent d))
     → ((numbers : DeliveryName → Option ℕ) (n : ℕ) (sent : ℕ → ℕ → Option ℕ) (bytes : List ℕ) → bytes_by numbers i n sent bytes ≡ bytes) → P i) → P i
 item_elim (item.Frame sasl own body payload) P transfer other = by body other
   where
     by : (body : Perf)
-        → (((numbers : DeliveryName → Option ℕ) (c n : ℕ) (sent : ℕ → ℕ → Option ℕ) (d : Delivery) → Unmoved d (behind_put numbers (item.Frame sasl own body payload) c n sent d))
+        → (((numbers : DeliveryName → Option ℕ) (c n : ℕ) (sent : ℕ → ℕ → Option ℕ) (d : Delivery) → Unmoved d (after_put numbers (item.Frame sasl own body payload) c n sent d))
         → ((numbers : DeliveryName → Option ℕ) (n : ℕ) (sent : ℕ → ℕ → Option ℕ) (bytes : List ℕ) → bytes_by numbers (item.Frame sasl own body payload) n sent bytes ≡ bytes) → P (item.Frame sasl own body payload))
         → P (item.Frame sasl own body payload)
     by (perf.Transfer x) other = transfer sasl own x payload
     by (perf.Disposition x) other =
-        other (λ numbers c n sent d. unmoved_left.next d (put_in numbers (perf.Disposition x) c own n sent (length payload) d) (behind_put numbers (item.Frame sasl own (perf.Disposition x) payload) c n sent d)
+        other (λ numbers c n sent d. unmoved_left.next d (put_in numbers (perf.Disposition x) c own n sent (length payload) d) (after_put numbers (item.Frame sasl own (perf.Disposition x) payload) c n sent d)
         (told_left Unmoved unmoved_left x.role x c own d)
         (ends_left Unmoved unmoved_left false (ended_by (item.Frame sasl own (perf.Disposition x) payload) c) (put_in numbers (perf.Disposition x) c own n sent (length payload) d)))
         (λ numbers n sent bytes. refl)
@@ -103,7 +103,7 @@ moves_unstarted f v unmoved was e there none =
 
 pub did_unstarted : (t : List Entry) (s : _) → Unstarted t → Unstarted (Did s ∷ t)
 did_unstarted t s was n =
-    moves_unstarted (behind_event s.event (channels_found t) (named t) n) (delivery t n) (λ d. event_left Unmoved unmoved_left s.event (channels_found t) (named t) n d) (was n)
+    moves_unstarted (after_event s.event (channels_found t) (named t) n) (delivery t n) (λ d. event_left Unmoved unmoved_left s.event (channels_found t) (named t) n d) (was n)
 
 pub bound_unstarted : (t : List Entry) (b : Binding) → Unstarted t → Unstarted (Bound b ∷ t)
 bound_unstarted t b was n d there none =
@@ -147,12 +147,12 @@ has_id t c own x payload n d is number there none = by is.of.id refl is.begins_o
 pub out_unstarted : (t : List Entry) (c : ℕ) (i : Item) → CarriesWhatWasBound t c i → Unstarted t → Unstarted (Out c i ∷ t)
 out_unstarted t c i =
     item_elim i (λ i. CarriesWhatWasBound t c i → Unstarted t → Unstarted (Out c i ∷ t)) by_transfer
-    (λ moves bytes is was n. moves_unstarted (behind_put (number_named t) i c n (sending t c)) (delivery t n) (moves (number_named t) c n (sending t c)) (was n))
+    (λ moves bytes is was n. moves_unstarted (after_put (number_named t) i c n (sending t c)) (delivery t n) (moves (number_named t) c n (sending t c)) (was n))
   where
     by_transfer : (sasl : Bool) (own : ℕ) (x : Transfer) (payload : List ℕ) → CarriesMessage t c own x payload → Unstarted t
         → Unstarted (Out c (item.Frame sasl own (perf.Transfer x) payload) ∷ t)
     by_transfer sasl own x payload is was n e there none =
-        let d = of_what (behind_put (number_named t) (item.Frame sasl own (perf.Transfer x) payload) c n (sending t c)) (delivery t n) e there
+        let d = of_what (after_put (number_named t) (item.Frame sasl own (perf.Transfer x) payload) c n (sending t c)) (delivery t n) e there
         in by_test (is_number (carried (number_named t) (tag_in x) (sending t c own x.handle)) n)
         (λ test. let moved = frame_moves c sasl own x payload t n d.0 test
         in absurd (has_id t c own x payload n d.0 is (number_is (carried (number_named t) (tag_in x) (sending t c own x.handle)) n test) d.1
@@ -236,7 +236,7 @@ unmoved_went bytes d e was same = was ∙ ap (λ (k : ℕ). take k d.payload) (s
 out_went : (t : List Entry) (c n : ℕ) (i : Item) → HasSmallNumbers t → AllWent t n → CarriesWhatWasBound t c i → AllWent (Out c i ∷ t) n
 out_went t c n i small was =
     item_elim i (λ i. CarriesWhatWasBound t c i → AllWent (Out c i ∷ t) n) by_transfer
-    (λ moves bytes is e there. by_other (behind_put (number_named t) i c n (sending t c)) (bytes_by (number_named t) i n (sending t c) (bytes_out t n)) (moves (number_named t) c n (sending t c)) (bytes (number_named t) n (sending t c) (bytes_out t n)) e there)
+    (λ moves bytes is e there. by_other (after_put (number_named t) i c n (sending t c)) (bytes_by (number_named t) i n (sending t c) (bytes_out t n)) (moves (number_named t) c n (sending t c)) (bytes (number_named t) n (sending t c) (bytes_out t n)) e there)
   where
     by_other : (f : Delivery → Delivery) (bytes : List ℕ) → ((d : Delivery) → Unmoved d (f d)) → bytes ≡ bytes_out t n
         → (e : Delivery) → option_and_then (λ d. unless_over (f d)) (delivery t n) ≡ Some e → bytes ≡ take e.sent e.payload
@@ -247,13 +247,13 @@ out_went t c n i small was =
     by_transfer : (sasl : Bool) (own : ℕ) (x : Transfer) (payload : List ℕ) → CarriesMessage t c own x payload
         → AllWent (Out c (item.Frame sasl own (perf.Transfer x) payload) ∷ t) n
     by_transfer sasl own x payload is e there =
-        let d = of_what (behind_put (number_named t) (item.Frame sasl own (perf.Transfer x) payload) c n (sending t c)) (delivery t n) e there
+        let d = of_what (after_put (number_named t) (item.Frame sasl own (perf.Transfer x) payload) c n (sending t c)) (delivery t n) e there
         in by_test (is_number (carried (number_named t) (tag_in x) (sending t c own x.handle)) n)
-        (λ test. let moved : Unmoved (behind_frame x (length payload) d.0) e
-        = subst (λ (g : Delivery). Unmoved (behind_frame x (length payload) d.0) g) (sym d.2) (frame_moves c sasl own x payload t n d.0 test)
+        (λ test. let moved : Unmoved (after_frame x (length payload) d.0) e
+        = subst (λ (g : Delivery). Unmoved (after_frame x (length payload) d.0) g) (sym d.2) (frame_moves c sasl own x payload t n d.0 test)
         in let number = number_is (carried (number_named t) (tag_in x) (sending t c own x.handle)) n test
         in let all : bytes_out t n ++ payload ≡ take e.sent e.payload
-        = unmoved_went (bytes_out t n ++ payload) (behind_frame x (length payload) d.0) e
+        = unmoved_went (bytes_out t n ++ payload) (after_frame x (length payload) d.0) e
         (joined d.0 (bytes_out t n) payload (was d.0 d.1) (next_bytes t c own x payload n d.0 is small number d.1)) moved
         in rw test all)
         (λ test. let same : Unmoved d.0 e = subst (λ (g : Delivery). Unmoved d.0 g) (sym d.2) (other_frame c sasl own x payload t n d.0 test)
@@ -262,7 +262,7 @@ out_went t c n i small was =
 pub went : (u : List Entry) (n : ℕ) → AllCarried u → HasSmallNumbers u → AllWent u n
 went [] n all small d there = absurd cc
 went (Did s ∷ t) n all small d there =
-    let was = of_what (behind_event s.event (channels_found t) (named t) n) (delivery t n) d there
+    let was = of_what (after_event s.event (channels_found t) (named t) n) (delivery t n) d there
     in unmoved_went (bytes_out t n) was.0 d (went t n all small was.0 was.1)
     (subst (λ (g : Delivery). Unmoved was.0 g) (sym was.2) (event_left Unmoved unmoved_left s.event (channels_found t) (named t) n was.0))
 went (Out c i ∷ t) n all small d there = out_went t c n i small (went t n all.1 small) all.0 d there

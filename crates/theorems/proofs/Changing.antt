@@ -16,7 +16,7 @@ use Rattle.amqp_model.specs.declared.item.Item.TheVariants as item
 use Rattle.router_trace.specs.declared.binding.DeliveryName.{DeliveryName}
 use Rattle.router_trace.specs.declared.binding.Origin.{Origin}
 use Rattle.router_trace.specs.declared.handle.Attachment.{Attachment}
-use Rattle.router_trace.specs.Deliveries.{Delivery, failed, source, untold, unsettled, is_undecided, is_gone_with, behind_ends, ended, decided_at_end, suspended_at_end, closes, ended_by, put_in, behind_put, behind_frame, told, is_meant, origin_id, is_number, carried, tag_in, stands_on, sender, forsaken}
+use Rattle.router_trace.specs.Deliveries.{Delivery, failed, source, untold, unsettled, is_undecided, is_gone_with, after_ends, ended, decided_at_end, suspended_at_end, closes, ended_by, put_in, after_put, after_frame, told, is_meant, origin_id, is_number, carried, tag_in, stands_on, sender, forsaken}
 use Rattle.state_deliveries.specs.declared.change.Change.{Change}
 use Rattle.state_deliveries.specs.declared.change.Change.TheVariants as change
 use Rattle.state_deliveries.specs.declared.change.Gone.TheVariants as gone
@@ -76,9 +76,9 @@ leaves_ended closed d = by d.suspended refl
         (record { named = refl; settled = refl; comes = λ p from. from; stays = λ s was. was; sleeps = λ none asleep. absurd (clash (sym asleep ∙ is)) })
         (record { named = refl; settled = refl; comes = λ p from. from; stays = λ s was. kept d.outcome s was; sleeps = λ none asleep. absurd (clash (sym asleep ∙ is)) })
 
-pub leaves_ends : (closed : Bool) (gone : Attachment → Bool) (d : Delivery) → Leaves d (behind_ends closed gone d)
+pub leaves_ends : (closed : Bool) (gone : Attachment → Bool) (d : Delivery) → Leaves d (after_ends closed gone d)
 leaves_ends closed gone d =
-    leaves_on d (if gone d.link then ended closed d else d) (behind_ends closed gone d) (leaves_if (gone d.link) d (ended closed d) d (leaves_ended closed d) (leaves_it d))
+    leaves_on d (if gone d.link then ended closed d else d) (after_ends closed gone d) (leaves_if (gone d.link) d (ended closed d) d (leaves_ended closed d) (leaves_it d))
     (leaves_if (is_gone_with gone (sender (if gone d.link then ended closed d else d))) (if gone d.link then ended closed d else d) (forsaken (if gone d.link then ended closed d else d))
     (if gone d.link then ended closed d else d) (leaves_forsaken (if gone d.link then ended closed d else d)) (leaves_it (if gone d.link then ended closed d else d)))
 
@@ -124,16 +124,16 @@ always true = refl
 always false = refl
 
 pub closed_is : (numbers : DeliveryName → Option ℕ) (sasl : Bool) (own : ℕ) (x : AClose) (payload : List ℕ) (c n : ℕ) (sent : ℕ → ℕ → Option ℕ) (d : Delivery)
-    → behind_put numbers (item.Frame sasl own (perf.Close x) payload) c n sent d ≡ changed (change.Ends (gone.Connection c) false) d
+    → after_put numbers (item.Frame sasl own (perf.Close x) payload) c n sent d ≡ changed (change.Ends (gone.Connection c) false) d
 closed_is numbers sasl own x payload c n sent d =
     same_ends false (ended_by (item.Frame sasl own (perf.Close x) payload) c) (is_gone (gone.Connection c)) (λ a. always (a.conn.0 == c)) d
 
 pub end_is : (numbers : DeliveryName → Option ℕ) (sasl : Bool) (own : ℕ) (x : AnEnd) (payload : List ℕ) (c n : ℕ) (sent : ℕ → ℕ → Option ℕ) (d : Delivery)
-    → behind_put numbers (item.Frame sasl own (perf.End x) payload) c n sent d ≡ changed (change.Ends (gone.Session c own) false) d
+    → after_put numbers (item.Frame sasl own (perf.End x) payload) c n sent d ≡ changed (change.Ends (gone.Session c own) false) d
 end_is numbers sasl own x payload c n sent d = refl
 
 pub detach_is : (numbers : DeliveryName → Option ℕ) (sasl : Bool) (own : ℕ) (x : ADetach) (payload : List ℕ) (c n : ℕ) (sent : ℕ → ℕ → Option ℕ) (d : Delivery)
-    → behind_put numbers (item.Frame sasl own (perf.Detach x) payload) c n sent d ≡ changed (change.Ends (gone.Link c own x.handle) x.closed) d
+    → after_put numbers (item.Frame sasl own (perf.Detach x) payload) c n sent d ≡ changed (change.Ends (gone.Link c own x.handle) x.closed) d
 detach_is numbers sasl own x payload c n sent d = refl
 
 -- what stays of a delivery whose outcome is not changed
@@ -161,9 +161,9 @@ alike_forsaken : (d : Delivery) → Alike d (forsaken d)
 alike_forsaken d = record { named = refl; settled = refl; outcome = refl; comes = λ p is. absurd (none_not_some is) }
 
 -- the end of links among which an undecided delivery's isn't
-pub alike_ends : (closed : Bool) (gone : Attachment → Bool) (d : Delivery) → d.presettled ≡ false → (is_undecided d ≡ true → gone d.link ≡ false) → Alike d (behind_ends closed gone d)
+pub alike_ends : (closed : Bool) (gone : Attachment → Bool) (d : Delivery) → d.presettled ≡ false → (is_undecided d ≡ true → gone d.link ≡ false) → Alike d (after_ends closed gone d)
 alike_ends closed gone d open_one spared =
-    alike_on d (if gone d.link then ended closed d else d) (behind_ends closed gone d) (on (gone d.link) refl)
+    alike_on d (if gone d.link then ended closed d else d) (after_ends closed gone d) (on (gone d.link) refl)
     (alike_if (is_gone_with gone (sender (if gone d.link then ended closed d else d))) (if gone d.link then ended closed d else d) (forsaken (if gone d.link then ended closed d else d))
     (if gone d.link then ended closed d else d) (alike_forsaken (if gone d.link then ended closed d else d)) (alike_it (if gone d.link then ended closed d else d) (if gone d.link then ended closed d else d) refl))
   where
@@ -196,12 +196,12 @@ alike_told Receiver x c o d =
     (alike_if x.settled d (untold d) (unsettled d) (alike_untold d) (record { named = refl; settled = refl; outcome = refl; comes = λ p from. from })) (alike_it d d refl)
 alike_told Sender x c o d = alike_it d d refl
 
-alike_frame : (x : Transfer) (count : ℕ) (d : Delivery) → d.presettled ≡ false → Alike d (behind_frame x count d)
+alike_frame : (x : Transfer) (count : ℕ) (d : Delivery) → d.presettled ≡ false → Alike d (after_frame x count d)
 alike_frame x count d open_one = record { named = refl; settled = refl; outcome = rw open_one refl; comes = λ p from. from }
 
 alike_put : (numbers : DeliveryName → Option ℕ) (body : Perf) (c own n : ℕ) (sent : ℕ → ℕ → Option ℕ) (count : ℕ) (d : Delivery) → d.presettled ≡ false → Alike d (put_in numbers body c own n sent count d)
 alike_put numbers (perf.Transfer x) c own n sent count d open_one =
-    alike_if (is_number (carried numbers (tag_in x) (sent own x.handle)) n) d (behind_frame x count d) d (alike_frame x count d open_one) (alike_it d d refl)
+    alike_if (is_number (carried numbers (tag_in x) (sent own x.handle)) n) d (after_frame x count d) d (alike_frame x count d open_one) (alike_it d d refl)
 alike_put numbers (perf.Disposition x) c own n sent count d open_one = alike_told x.role x c own d
 alike_put numbers _ c own n sent count d open_one = alike_it d d refl
 
@@ -210,7 +210,7 @@ same_open : (numbers : DeliveryName → Option ℕ) (body : Perf) (c own n : ℕ
     → (is_undecided (put_in numbers body c own n sent count d) ≡ is_undecided d) × ((put_in numbers body c own n sent count d).link ≡ d.link)
 same_open numbers (perf.Transfer x) c own n sent count d open_one = by (is_number (carried numbers (tag_in x) (sent own x.handle)) n)
   where
-    by : (b : Bool) → (is_undecided (if b then behind_frame x count d else d) ≡ is_undecided d) × ((if b then behind_frame x count d else d).link ≡ d.link)
+    by : (b : Bool) → (is_undecided (if b then after_frame x count d else d) ≡ is_undecided d) × ((if b then after_frame x count d else d).link ≡ d.link)
     by true = (rw open_one refl, refl)
     by false = (refl, refl)
 same_open numbers (perf.Disposition x) c own n sent count d open_one = role x.role
@@ -226,12 +226,12 @@ same_open numbers (perf.Disposition x) c own n sent count d open_one = role x.ro
 same_open numbers _ c own n sent count d open_one = (refl, refl)
 
 pub alike_item : (numbers : DeliveryName → Option ℕ) (i : Item) (c n : ℕ) (sent : ℕ → ℕ → Option ℕ) (d : Delivery) → d.presettled ≡ false
-    → (is_undecided d ≡ true → ended_by i c d.link ≡ false) → Alike d (behind_put numbers i c n sent d)
+    → (is_undecided d ≡ true → ended_by i c d.link ≡ false) → Alike d (after_put numbers i c n sent d)
 alike_item numbers (item.Frame sasl own body payload) c n sent d open_one spared =
     let put : Delivery = put_in numbers body c own n sent (length payload) d in
     let same = same_open numbers body c own n sent (length payload) d open_one in
     let first : Alike d put = alike_put numbers body c own n sent (length payload) d open_one in
-    alike_on d put (behind_put numbers (item.Frame sasl own body payload) c n sent d) first
+    alike_on d put (after_put numbers (item.Frame sasl own body payload) c n sent d) first
     (alike_ends (closes body) (ended_by (item.Frame sasl own body payload) c) put (first.settled ∙ open_one)
     (λ u. ap (ended_by (item.Frame sasl own body payload) c) same.1 ∙ spared (sym same.0 ∙ u)))
 alike_item numbers _ c n sent d open_one spared = alike_it d d refl

@@ -13,7 +13,7 @@ use Rattle.router_trace.specs.Trace.{Trace}
 use Rattle.router_trace.specs.Links.{Link, Happened, sends, receives, numbered, attachments}
 use Rattle.router_trace.specs.Following.{link_of, is_sending}
 use Rattle.state_messages.specs.Figures.{figure, figure_at, figure_by, figure_on}
-use Rattle.state_messages.specs.Passing.{choice_of, consumer_of, pool_of}
+use Rattle.state_messages.specs.Messages.{choice_of, consumer_of, pool_of}
 use Rattle.state_messages.proofs.Numbered.{number_is}
 use Rattle.state_messages.proofs.Seen.{are_numbered}
 use Rattle.state_connections.proofs.Lists.{by_test}

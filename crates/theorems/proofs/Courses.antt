@@ -11,7 +11,7 @@ use Rattle.router_trace.specs.declared.event.Event.TheVariants as event
 use Rattle.router_trace.specs.Trace.{Entry, newest, step_of}
 use Rattle.router_trace.specs.Refusing.{rises}
 use Rattle.core_door.specs.declared.door.Door.{Door as DoorState}
-use Rattle.core_door.specs.Door.{Verdict, says, passes, ends, door, door_behind}
+use Rattle.core_door.specs.Door.{Verdict, says, passes, ends, door, door_after}
 use Rattle.theorems.proofs.Plain.{plain}
 use Rattle.theorems.proofs.Takes.{plain_handled}
 use Rattle.core_player.specs.declared.script.Step.{Step}
@@ -56,7 +56,7 @@ tell e p = if plain_refuses p.trace e then p else on_trace (plain_handled p.id p
 
 -- items
 abbrev pub judge : ConnectionId → Item → Spot → DoorState → Course → Verdict → Course
-judge c i k d p (says items) = with_spot c.0 (Some (record { door = Some (door_behind d i); stream = k.stream })) p
+judge c i k d p (says items) = with_spot c.0 (Some (record { door = Some (door_after d i); stream = k.stream })) p
 judge c i k d p (passes user) =
     tell (event.Item c i) (tell (event.Up c (record { user = user; role = d.role })) (with_spot c.0 (Some (record { door = None; stream = k.stream })) p))
 judge c i k d p (ends items) = with_spot c.0 None p

@@ -10,7 +10,7 @@ use Rattle.router_trace.specs.declared.event.Event.{Event}
 use Rattle.router_trace.specs.declared.event.Event.TheVariants as event
 use Rattle.router_trace.specs.Trace.{Trace, Did, Out, Step, goes, puts, each_to, ups}
 use Rattle.router_trace.specs.Connection.{Connection, conn, ended, fresh, has, is_full, is_due, due, due_of, unless_due, live_of, at_event, with_item}
-use Rattle.router_trace.specs.Deliveries.{Delivery, delivery, named, number_named, sending, ended_by as put_ends, behind_event, channels_found}
+use Rattle.router_trace.specs.Deliveries.{Delivery, delivery, named, number_named, sending, ended_by as put_ends, after_event, channels_found}
 use Rattle.router_trace.specs.Frames.{error_of, header_item, open_item, close_item, begin_item, end_item, flow_item, closing}
 use Rattle.router_trace.specs.LinkFrames.{detach_item, link_flow_item}
 use Rattle.router_trace.specs.declared.channel.PeerChannel.{PeerChannel}
@@ -175,10 +175,10 @@ answer_rest t (event.Item c i) = ended_by t c.0 i (answer_for t (event.Item c i)
 answer_rest t _ = []
 
 did_kept : (s : Step) (t : Trace) (xs ys : List Change)
-    → ((n : ℕ) (d : Delivery) → delivery t n ≡ Some d → changed_by ys (behind_event s.event (channels_found t) (named t) n d) ≡ changed_by xs d) → Kept t xs → Kept (Did s ∷ t) ys
+    → ((n : ℕ) (d : Delivery) → delivery t n ≡ Some d → changed_by ys (after_event s.event (channels_found t) (named t) n d) ≡ changed_by xs d) → Kept t xs → Kept (Did s ∷ t) ys
 did_kept s t xs ys same was = record {
   law = was.law;
-  facts = did_facts s t xs ys was.standing (λ n d there. alike_it (changed_by xs d) (changed_by ys (behind_event s.event (channels_found t) (named t) n d)) (same n d there)) was.facts;
+  facts = did_facts s t xs ys was.standing (λ n d there. alike_it (changed_by xs d) (changed_by ys (after_event s.event (channels_found t) (named t) n d)) (same n d there)) was.facts;
   standing = did_standing s t was.standing;
   named = did_named s t was.named;
   ordered = was.ordered;
@@ -189,7 +189,7 @@ changed_more [] ys d = refl
 changed_more (x ∷ xs) ys d = changed_more xs ys (changed x d)
 
 came_same : (t : Trace) (c : ConnectionId) (i : Item) (answer : Answer) (n : ℕ) (d : Delivery) → AreNamed t → delivery t n ≡ Some d
-    → changed_by (map lost (due t (event.Item c i)) ++ ended_by t c.0 i answer) (behind_event (event.Item c i) (channels_found (booked t (event.Item c i))) (named t) n d)
+    → changed_by (map lost (due t (event.Item c i)) ++ ended_by t c.0 i answer) (after_event (event.Item c i) (channels_found (booked t (event.Item c i))) (named t) n d)
     ≡ changed_by (event_changes t (event.Item c i) answer) d
 came_same t c i answer n d names there =
     let first : List Change = listed (heard_change c.0 (session_found t c i) i) in
@@ -211,7 +211,7 @@ more_nothing : (xs : List Change) (d e : Delivery) → e ≡ d → changed_by (x
 more_nothing xs d e same = ap (λ (zs : List Change). changed_by zs e) (append-nil xs) ∙ ap (changed_by xs) same
 
 event_same : (t : Trace) (e : Event) (n : ℕ) (d : Delivery) → AreNamed t → delivery t n ≡ Some d
-    → changed_by (map lost (due t e) ++ answer_rest t e) (behind_event e (channels_found (booked t e)) (named t) n d) ≡ changed_by (changes_of t e) d
+    → changed_by (map lost (due t e) ++ answer_rest t e) (after_event e (channels_found (booked t e)) (named t) n d) ≡ changed_by (changes_of t e) d
 event_same t (event.Item c i) n d names there = came_same t c i (answer_for t (event.Item c i)) n d names there
 event_same t (event.Down c) n d names there = ap (λ (zs : List Change). changed_by zs (changed (lost c.0) d)) (append-nil (map lost (due t (event.Down c))))
 event_same t (event.Up c p) n d names there = more_nothing (map lost (due t (event.Up c p))) d d refl

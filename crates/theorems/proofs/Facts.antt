@@ -1,4 +1,4 @@
--- What the book has of the deliveries with rows: each row that its producer isn't done with is there, and has the outcome that its delivery has behind the changes
+-- What the book has of the deliveries with rows: each row that its producer isn't done with is there, and has the outcome that its delivery has after the changes
 -- that are still to come.
 use Rattle.std.proofs.Common.{◌≡◌, ◌∙◌, sym, ap, refl, subst, ℕ, ◌+◌, ◌<◌, true, false, List, [], ◌∷◌}
 use Rattle.std.specs.Prelude.{◌==◌, Option, Some, None, option_map}
@@ -17,7 +17,7 @@ use Rattle.router_trace.specs.declared.binding.Origin.{Origin}
 use Rattle.router_trace.specs.declared.handle.Attachment.{Attachment}
 use Rattle.router_trace.specs.Trace.{Trace, Entry, Did, Out, Took, Bound, Step}
 use Rattle.router_trace.specs.DeliveryFrames.{kept_outcome}
-use Rattle.router_trace.specs.Deliveries.{Delivery, source, bindings, bound, name_in, name_of, number_named, delivery, sending, named, behind_put, behind_event, channels_found}
+use Rattle.router_trace.specs.Deliveries.{Delivery, source, bindings, bound, name_in, name_of, number_named, delivery, sending, named, after_put, after_event, channels_found}
 use Rattle.router_trace.specs.Following.{link_of}
 use Rattle.router_trace.specs.Links.{durable_key}
 use Rattle.state_deliveries.specs.declared.change.Change.{Change}
@@ -59,7 +59,7 @@ pub record RowFact (t : Trace) (b : BookView) (r : RowNumber) (e : Delivery) : T
   pub known : r.0 < b.next_row
   pub agrees : Agrees t b (row_at r.0 b.rows) e
 
--- each delivery with a row, as it will be behind these changes
+-- each delivery with a row, as it will be after these changes
 abbrev pub Facts : Trace → List Change → Type 0
 Facts t xs = (n : ℕ) (d : Delivery) (r : RowNumber) → delivery t n ≡ Some d → d.name ≡ Row r → RowFact t (book_in t) r (changed_by xs d)
 
@@ -83,31 +83,31 @@ fact_moved t u b r e f alike stays was = record {
 }
 
 pub did_facts : (s : Step) (t : List Entry) (xs ys : List Change) → Standing t
-    → ((n : ℕ) (d : Delivery) → delivery t n ≡ Some d → Alike (changed_by xs d) (changed_by ys (behind_event s.event (channels_found t) (named t) n d)))
+    → ((n : ℕ) (d : Delivery) → delivery t n ≡ Some d → Alike (changed_by xs d) (changed_by ys (after_event s.event (channels_found t) (named t) n d)))
     → Facts t xs → Facts (Did s ∷ t) ys
 did_facts s t xs ys standing alike was n e r now name =
-    let before = of_what (behind_event s.event (channels_found t) (named t) n) (delivery t n) e now in
+    let before = of_what (after_event s.event (channels_found t) (named t) n) (delivery t n) e now in
     let w = was_did s t n e now in
     let d : Delivery = before.0 in
     let same : d ≡ w.before = some_same (sym before.1 ∙ w.there) in
     let called : d.name ≡ Row r = ap (λ (x : Delivery). x.name) same ∙ sym w.follows.name ∙ name in
     subst (λ (x : Delivery). RowFact (Did s ∷ t) (book_in t) r (changed_by ys x)) (sym before.2)
-    (fact_moved t (Did s ∷ t) (book_in t) r (changed_by xs d) (changed_by ys (behind_event s.event (channels_found t) (named t) n d)) (alike n d before.1)
+    (fact_moved t (Did s ∷ t) (book_in t) r (changed_by xs d) (changed_by ys (after_event s.event (channels_found t) (named t) n d)) (alike n d before.1)
     (λ p key from durable. did_durable s t p.link key durable (w.keeps p ((leaves_by ys e).comes p (ap (λ (x : Delivery). source (changed_by ys x)) before.2 ∙ from))))
     (was n d r before.1 called))
 
 pub out_facts : (c : ℕ) (i : Item) (t : List Entry) (xs ys : List Change) → Standing t → IsFresh t c i
-    → ((n : ℕ) (d : Delivery) → delivery t n ≡ Some d → (changed_by xs d).presettled ≡ false → Alike (changed_by xs d) (changed_by ys (behind_put (number_named t) i c n (sending t c) d)))
+    → ((n : ℕ) (d : Delivery) → delivery t n ≡ Some d → (changed_by xs d).presettled ≡ false → Alike (changed_by xs d) (changed_by ys (after_put (number_named t) i c n (sending t c) d)))
     → Facts t xs → Facts (Out c i ∷ t) ys
 out_facts c i t xs ys standing fresh alike was n e r now name =
-    let before = of_what (behind_put (number_named t) i c n (sending t c)) (delivery t n) e now in
+    let before = of_what (after_put (number_named t) i c n (sending t c)) (delivery t n) e now in
     let w = was_out c i t n e now in
     let d : Delivery = before.0 in
     let same : d ≡ w.before = some_same (sym before.1 ∙ w.there) in
     let called : d.name ≡ Row r = ap (λ (x : Delivery). x.name) same ∙ sym w.follows.name ∙ name in
     let fact : RowFact t (book_in t) r (changed_by xs d) = was n d r before.1 called in
     subst (λ (x : Delivery). RowFact (Out c i ∷ t) (book_in t) r (changed_by ys x)) (sym before.2)
-    (fact_moved t (Out c i ∷ t) (book_in t) r (changed_by xs d) (changed_by ys (behind_put (number_named t) i c n (sending t c) d)) (alike n d before.1 fact.settled)
+    (fact_moved t (Out c i ∷ t) (book_in t) r (changed_by xs d) (changed_by ys (after_put (number_named t) i c n (sending t c) d)) (alike n d before.1 fact.settled)
     (λ p key from durable. out_durable c i t fresh standing p.link key durable (w.keeps p ((leaves_by ys e).comes p (ap (λ (x : Delivery). source (changed_by ys x)) before.2 ∙ from))))
     fact)
 

@@ -18,7 +18,7 @@ use Rattle.router_trace.specs.declared.event.Event.{Event}
 use Rattle.router_trace.specs.declared.event.Event.TheVariants as event
 use Rattle.router_trace.specs.declared.handle.Attachment.{Attachment}
 use Rattle.router_trace.specs.Trace.{Entry, Did, Out, Took, Booked, Bound, Began}
-use Rattle.router_trace.specs.Deliveries.{Delivery, bindings, name_in, same_name, number_named, unless_called, delivery, sending, named, is_over, unless_over, behind_frame, decided, source, untold, unsettled, told, ended, decided_at_end, suspended_at_end, closes, is_undecided, is_meant, is_named, decision, terminal, is_gone_with, behind_origin, behind_ends, ended_by, put_in, behind_put, carried, tag_in, is_number, is_on, is_settled_at, disposed, heard_in, heard, lost_with, behind_event, origin_id, channels_found, sender, forsaken}
+use Rattle.router_trace.specs.Deliveries.{Delivery, bindings, name_in, same_name, number_named, unless_called, delivery, sending, named, is_over, unless_over, after_frame, decided, source, untold, unsettled, told, ended, decided_at_end, suspended_at_end, closes, is_undecided, is_meant, is_named, decision, terminal, is_gone_with, after_origin, after_ends, ended_by, put_in, after_put, carried, tag_in, is_number, is_on, is_settled_at, disposed, heard_in, heard, lost_with, after_event, origin_id, channels_found, sender, forsaken}
 use Rattle.theorems.specs.OneConsumer.{IsOrNone, WhileThere}
 use Rattle.state_connections.proofs.Lists.{by_test}
 
@@ -38,7 +38,7 @@ choice : (R : Delivery → Delivery → Type 0) (b : Bool) (d e f : Delivery) �
 choice R true d e f first second = first
 choice R false d e f first second = second
 
-origin_left : (R : Delivery → Delivery → Type 0) → Left R → (gone : Attachment → Bool) (d : Delivery) → R d (behind_origin gone d)
+origin_left : (R : Delivery → Delivery → Type 0) → Left R → (gone : Attachment → Bool) (d : Delivery) → R d (after_origin gone d)
 origin_left R left gone d = choice R (is_gone_with gone (sender d)) d (forsaken d) d (left.forsaken d) (left.same d)
 
 ended_left : (R : Delivery → Delivery → Type 0) → Left R → (closed : Bool) (d : Delivery) → R d (ended closed d)
@@ -46,9 +46,9 @@ ended_left R left closed d =
     choice R d.suspended d d (if d.lasting && not closed then suspended_at_end d else decided_at_end d) (left.same d)
     (choice R (d.lasting && not closed) d (suspended_at_end d) (decided_at_end d) (left.suspended d) (left.ended d))
 
-pub ends_left : (R : Delivery → Delivery → Type 0) → Left R → (closed : Bool) (gone : Attachment → Bool) (d : Delivery) → R d (behind_ends closed gone d)
+pub ends_left : (R : Delivery → Delivery → Type 0) → Left R → (closed : Bool) (gone : Attachment → Bool) (d : Delivery) → R d (after_ends closed gone d)
 ends_left R left closed gone d =
-    left.next d (if gone d.link then ended closed d else d) (behind_ends closed gone d) (choice R (gone d.link) d (ended closed d) d (ended_left R left closed d) (left.same d))
+    left.next d (if gone d.link then ended closed d else d) (after_ends closed gone d) (choice R (gone d.link) d (ended closed d) d (ended_left R left closed d) (left.same d))
     (origin_left R left gone (if gone d.link then ended closed d else d))
 
 pub told_left : (R : Delivery → Delivery → Type 0) → Left R → (role : Role) (x : Disposition) (c o : ℕ) (d : Delivery) → R d (told role x c o d)
@@ -59,19 +59,19 @@ told_left R left Sender x c o d = left.same d
 
 -- and across frames too
 abbrev pub Frames : (Delivery → Delivery → Type 0) → Type 0
-Frames R = (x : Transfer) (count : ℕ) (d : Delivery) → R d (behind_frame x count d)
+Frames R = (x : Transfer) (count : ℕ) (d : Delivery) → R d (after_frame x count d)
 
 perf_left : (R : Delivery → Delivery → Type 0) → Left R → Frames R → (numbers : DeliveryName → Option ℕ) (body : Perf) (c own n : ℕ) (sent : ℕ → ℕ → Option ℕ) (count : ℕ) (d : Delivery)
     → R d (put_in numbers body c own n sent count d)
 perf_left R left frames numbers (perf.Transfer x) c own n sent count d =
-    choice R (is_number (carried numbers (tag_in x) (sent own x.handle)) n) d (behind_frame x count d) d (frames x count d) (left.same d)
+    choice R (is_number (carried numbers (tag_in x) (sent own x.handle)) n) d (after_frame x count d) d (frames x count d) (left.same d)
 perf_left R left frames numbers (perf.Disposition x) c own n sent count d = told_left R left x.role x c own d
 perf_left R left frames numbers _ c own n sent count d = left.same d
 
 pub item_left : (R : Delivery → Delivery → Type 0) → Left R → Frames R → (numbers : DeliveryName → Option ℕ) (i : Item) (c n : ℕ) (sent : ℕ → ℕ → Option ℕ) (d : Delivery)
-    → R d (behind_put numbers i c n sent d)
+    → R d (after_put numbers i c n sent d)
 item_left R left frames numbers (item.Frame sasl own body payload) c n sent d =
-    left.next d (put_in numbers body c own n sent (length payload) d) (behind_put numbers (item.Frame sasl own body payload) c n sent d)
+    left.next d (put_in numbers body c own n sent (length payload) d) (after_put numbers (item.Frame sasl own body payload) c n sent d)
     (perf_left R left frames numbers body c own n sent (length payload) d)
     (ends_left R left (closes body) (ended_by (item.Frame sasl own body payload) c) (put_in numbers body c own n sent (length payload) d))
 item_left R left frames numbers _ c n sent d = left.same d
@@ -100,7 +100,7 @@ heard_left R left (item.Frame sasl channel body payload) c known names n d =
 heard_left R left _ c known names n d = left.same d
 
 pub event_left : (R : Delivery → Delivery → Type 0) → Left R
-    → (e : Event) (known : ℕ → ℕ → Option PeerChannel) (names : ℕ → ℕ → ℕ → Option ℕ) (n : ℕ) (d : Delivery) → R d (behind_event e known names n d)
+    → (e : Event) (known : ℕ → ℕ → Option PeerChannel) (names : ℕ → ℕ → ℕ → Option ℕ) (n : ℕ) (d : Delivery) → R d (after_event e known names n d)
 event_left R left (event.Item c i) known names n d = heard_left R left i c.0 (known c.0) (names c.0) n d
 event_left R left (event.Down c) known names n d = ends_left R left false (lost_with c.0) d
 event_left R left _ known names n d = left.same d
@@ -150,11 +150,11 @@ follows_left = record {
 frames_follow : Frames Follows
 frames_follow x count d = record { name = refl; link = refl; payload = refl; format = refl; presettled = refl; lasting = refl; origin = inl refl }
 
-pub item_follows : (numbers : DeliveryName → Option ℕ) (i : Item) (c n : ℕ) (sent : ℕ → ℕ → Option ℕ) (d : Delivery) → Follows d (behind_put numbers i c n sent d)
+pub item_follows : (numbers : DeliveryName → Option ℕ) (i : Item) (c n : ℕ) (sent : ℕ → ℕ → Option ℕ) (d : Delivery) → Follows d (after_put numbers i c n sent d)
 item_follows numbers i c n sent d = item_left Follows follows_left frames_follow numbers i c n sent d
 
 pub event_follows : (e : Event) (known : ℕ → ℕ → Option PeerChannel) (names : ℕ → ℕ → ℕ → Option ℕ) (n : ℕ) (d : Delivery)
-    → Follows d (behind_event e known names n d)
+    → Follows d (after_event e known names n d)
 event_follows e known names n d = event_left Follows follows_left e known names n d
 
 -- the same for a delivery that may exist
@@ -195,8 +195,8 @@ uncalled_follow name (Some d) = by (same_name d.name name)
     by false = same d
 
 pub entry_follows : (e : Entry) (t : List Entry) (n : ℕ) → n ≤ bindings t → AllFollow (delivery t n) (delivery (e ∷ t) n)
-entry_follows (Did s) t n given = changed (behind_event s.event (channels_found t) (named t) n) (event_follows s.event (channels_found t) (named t) n) (delivery t n)
-entry_follows (Out c i) t n given = changed (behind_put (number_named t) i c n (sending t c)) (item_follows (number_named t) i c n (sending t c)) (delivery t n)
+entry_follows (Did s) t n given = changed (after_event s.event (channels_found t) (named t) n) (event_follows s.event (channels_found t) (named t) n) (delivery t n)
+entry_follows (Out c i) t n given = changed (after_put (number_named t) i c n (sending t c)) (item_follows (number_named t) i c n (sending t c)) (delivery t n)
 entry_follows (Took c k) t n given = all_same (delivery t n)
 entry_follows (Began g) t n given = all_same (delivery t n)
 entry_follows (Booked acts full) t n given = all_same (delivery t n)

@@ -28,7 +28,7 @@ use Rattle.router_trace.specs.Clocks.{terms, terms_at, written, needs_beat}
 use Rattle.router_trace.specs.Following.{tells, sends_due, drains_due}
 use Rattle.state_sessions.specs.Windows.{is_narrow, flow_due, flows_below, windows_over, windows}
 use Rattle.router_state.specs.Tables.{beat_if, beats_over}
-use Rattle.state_messages.specs.Passing.{grants_due, with_bound}
+use Rattle.state_messages.specs.Messages.{grants_due, with_bound}
 use Rattle.router_after.specs.After.{followed}
 use Rattle.reply_rows.specs.Rows.{said}
 use Rattle.reply_transfers.specs.Transfers.{part_put, settled_answers}

@@ -20,7 +20,7 @@ use Rattle.router_trace.specs.Trace.{Entry, Did, Out, Put, Step, goes}
 use Rattle.router_trace.specs.Links.{Link, link, is_lost, their_handle}
 use Rattle.router_trace.specs.Sessions.{maps, theirs}
 use Rattle.router_trace.specs.Deliveries.{last_of, number_named, named_in, named_by, named}
-use Rattle.router_trace.specs.Claims.{Claim, claimed_on, claimed, settled_by, answered_by, claim_in, claim_by, claim_at, claim_behind_in, claim_behind, claims}
+use Rattle.router_trace.specs.Claims.{Claim, claimed_on, claimed, settled_by, answered_by, claim_in, claim_by, claim_at, claim_after_in, claim_after, claims}
 use Rattle.state_connections.proofs.Lists.{by_test}
 use Rattle.router_core.proofs.Attachless.{Unlinked, Unnamed}
 use Rattle.theorems.proofs.WindowsKept.{is_transfer_in, is_transfer, NonePut}
@@ -98,16 +98,16 @@ pub unclaimed_did : (c : ℕ) (t : List Entry) (s : Step) → Unlinked c t → U
 unclaimed_did c t s unlinked was o id =
     unclaimed_at s.event c o (theirs t c) (their_handle t c o) (link t c o) id (claims t c o id) (unlinked o) (was o id)
 
-unclaimed_perf : (body : Perf) (own o id : ℕ) (v : Option Claim) → v ≡ None → claim_behind_in body own o id v ≡ None
+unclaimed_perf : (body : Perf) (own o id : ℕ) (v : Option Claim) → v ≡ None → claim_after_in body own o id v ≡ None
 unclaimed_perf (perf.Disposition x) own o id v e =
     by_test (own == o) (λ q. rw q (answered_none x.role x id v e)) (λ q. rw q e)
-unclaimed_perf body own o id v e = ap (λ (w : Option Claim). claim_behind_in body own o id w) e ∙ none body
+unclaimed_perf body own o id v e = ap (λ (w : Option Claim). claim_after_in body own o id w) e ∙ none body
   where
-    none : (body : Perf) → claim_behind_in body own o id None ≡ None
+    none : (body : Perf) → claim_after_in body own o id None ≡ None
     none (perf.Disposition x) = by_test (own == o) (λ q. rw q (answered_none x.role x id None refl)) (λ q. rw q refl)
     none _ = refl
 
-unclaimed_item : (i : Item) (o id : ℕ) (v : Option Claim) → v ≡ None → claim_behind i o id v ≡ None
+unclaimed_item : (i : Item) (o id : ℕ) (v : Option Claim) → v ≡ None → claim_after i o id v ≡ None
 unclaimed_item (item.Frame sasl own body payload) o id v e = unclaimed_perf body own o id v e
 unclaimed_item _ o id v e = e
 

@@ -13,7 +13,7 @@ use Rattle.router_trace.specs.declared.event.Event.{Event}
 use Rattle.router_trace.specs.declared.event.Event.TheVariants as event
 use Rattle.router_trace.specs.Refusing.{rises}
 use Rattle.core_door.specs.declared.door.Door.{Door as DoorState}
-use Rattle.core_door.specs.Door.{Verdict, says, passes, ends, door, door_behind}
+use Rattle.core_door.specs.Door.{Verdict, says, passes, ends, door, door_after}
 use Rattle.core_player.specs.declared.script.Step.{Step}
 use Rattle.core_player.specs.declared.script.Step.TheVariants as step
 use Rattle.theorems.specs.Pieces.{in_front, with_bytes, joined}
@@ -36,7 +36,7 @@ tell_waits : (e : Event) (p : Course) → Waits p → Waits (tell e p)
 tell_waits e p waits n = subst (λ (o : Option Spot). Less (stream_at o)) (sym (tell_spots e p n)) (waits n)
 
 judge_waits : (c : ConnectionId) (i : Item) (k : Spot) (d : DoorState) (p : Course) → Less k.stream → Waits p → (v : Verdict) → Waits (judge c i k d p v)
-judge_waits c i k d p here waits (says items) = spot_waits c.0 (Some (record { door = Some (door_behind d i); stream = k.stream })) p here waits
+judge_waits c i k d p here waits (says items) = spot_waits c.0 (Some (record { door = Some (door_after d i); stream = k.stream })) p here waits
 judge_waits c i k d p here waits (passes user) =
     let inside : Course = with_spot c.0 (Some (record { door = None; stream = k.stream })) p
     in let up : Event = event.Up c (record { user = user; role = d.role })

@@ -37,15 +37,15 @@ use Rattle.router_trace.specs.declared.event.Event.{Event}
 use Rattle.router_trace.specs.declared.event.Event.TheVariants as event
 use Rattle.router_trace.specs.declared.handle.Attachment.{Attachment}
 use Rattle.state_sessions.specs.Windows.{windows}
-use Rattle.state_messages.specs.Passing.{grants_due, with_bound}
+use Rattle.state_messages.specs.Messages.{grants_due, with_bound}
 use Rattle.reply_rows.specs.declared.answer.Answer.{Answer}
 use Rattle.reply_rows.specs.declared.answer.Answer.TheVariants.{Nothing, Header, Open, Close, CloseWith, Begin, End, Flow, Attach, Refuse, Detach, LinkFlow, Taken, Settle}
 use Rattle.reply_rows.specs.Booking.{wanted_key, wanted_address, wants_durable, new_terminus, has_room, durable_refusal, volatile_refusal, refuse_on, booked_attach, book_refusal, answer_at}
 use Rattle.reply_rows.specs.Finding.{finds}
 use Rattle.reply_rows.specs.Rows.{said, item_reply}
-use Rattle.router_reply.specs.Acts.{Journaled, live_answer, event_answer, answer_acts, admitted_acts, or_admits, finds_full, journaled, book_in, acts_of, book_behind, booked, answer_of}
+use Rattle.router_reply.specs.Acts.{Journaled, live_answer, event_answer, answer_acts, admitted_acts, or_admits, finds_full, journaled, book_in, acts_of, book_after_event, booked, answer_of}
 use Rattle.router_reply.specs.Deciding.{decided, forgotten}
-use Rattle.router_reply.specs.Replies.{closing_of, ends, heard, stolen_by, attach_answer, taken_behind, taken, refused, bound_by, item_put, item_row, own_row, replied}
+use Rattle.router_reply.specs.Replies.{closing_of, ends, heard, stolen_by, attach_answer, taken_after, taken, refused, bound_by, item_put, item_row, own_row, replied}
 use Rattle.state_connections.proofs.Lists.{by_test}
 use Rattle.router_core.specs.Attaches.{is_attach_in, is_attach}
 use Rattle.router_core.specs.Moves.{Goes, IsTrace}
@@ -201,15 +201,15 @@ room_with (Some x) a room may = absurd (none_is (none_with (Some x) a room may))
     none_is : {y : Terminus} → Some y ≡ None → ⊥
     none_is e = cc
 
--- the answer to an attach behind the acts of its event
-answer_behind : (acts : List Act) (full : List ℕ) (t : List Entry) (c : ℕ) (p : Conn) (sasl : Bool) (channel : ℕ) (a : AnAttach) (payload : List ℕ)
+-- the answer to an attach after the acts of its event
+answer_after : (acts : List Act) (full : List ℕ) (t : List Entry) (c : ℕ) (p : Conn) (sasl : Bool) (channel : ℕ) (a : AnAttach) (payload : List ℕ)
     → answer_of (Booked acts full ∷ t) c p (item.Frame sasl channel (perf.Attach a) payload)
     ≡ answer_at (finds_full (journaled t) t (event.Item (record { 0 = c }) (item.Frame sasl channel (perf.Attach a) payload))) (book_in t) t c p (item.Frame sasl channel (perf.Attach a) payload)
 unfolding free_handle first_free_below free_channel
-answer_behind acts full t c p sasl channel a payload = refl
+answer_after acts full t c p sasl channel a payload = refl
 
 record Makes (t : List Entry) (e : Event) (c : ℕ) (a : AnAttach) : Type 0 where
-  made : terminus_of (wanted_key t c a) (book_behind t e).termini ≡ Some (new_terminus (book_in t) (wanted_key t c a) (wanted_address a))
+  made : terminus_of (wanted_key t c a) (book_after_event t e).termini ≡ Some (new_terminus (book_in t) (wanted_key t c a) (wanted_address a))
 
 makes : (t : List Entry) (from : ConnectionId) (sasl : Bool) (channel : ℕ) (a : AnAttach) (payload : List ℕ) (p : Conn) (own : ℕ)
     → standing (found t (event.Item from (item.Frame sasl channel (perf.Attach a) payload)) from.0) ≡ Some p
@@ -223,7 +223,7 @@ makes t from sasl channel a payload p own stands answers wants =
     let x : Terminus = new_terminus b key (wanted_address a) in
     let full : Bool = finds_full (journaled t) t e in
     let admitted : List Act = admitted_acts full b t e in
-    let at : answer_at full b t from.0 p i ≡ Attach own = sym (answer_behind (acts_of t e) (due t e) t from.0 p sasl channel a payload) ∙ answers in
+    let at : answer_at full b t from.0 p i ≡ Attach own = sym (answer_after (acts_of t e) (due t e) t from.0 p sasl channel a payload) ∙ answers in
     let answer : event_answer full b t e ≡ Attach own = ap (live_answer full b t from.0 i) stands ∙ at in
     let only = attach_only (free_handle t from.0) (book_refusal full b t from.0 a) (item_reply p (finds t from.0) i) own at in
     let refusal : durable_refusal (terminus_of key b.termini) a (has_room full b x) ≡ None =
@@ -301,10 +301,10 @@ bound_book : (b : Option Binding) (t : List Entry) → journaled (with_bound b t
 bound_book None t = refl
 bound_book (Some b) t = refl
 
--- a trace in which the attach of an event can be answered: the connection's names are as before the event, and the book is behind its acts
+-- a trace in which the attach of an event can be answered: the connection's names are as before the event, and the book is after its acts
 pub record Stands (t : List Entry) (e : Event) (c : ℕ) (w : List Entry) : Type 0 where
   pub names : SameNames t w c
-  pub book : book_in w ≡ book_behind t e
+  pub book : book_in w ≡ book_after_event t e
 
 pub key_there : (t w : List Entry) (c : ℕ) (a : AnAttach) (h : ℕ) → SameNames t w c → key_at w c (answer_to a h) ≡ wanted_key t c a
 key_there t w c a h names =
@@ -320,17 +320,17 @@ asked_kept : (t w : List Entry) (e : Event) (c : ℕ) (a : AnAttach) (h : ℕ) �
 asked_kept t w e c a h made stands =
     subst (λ (k : LinkKey). Asks (answer_to a h) (terminus_of k (book_in w).termini)) (sym (key_there t w c a h stands.names))
     (subst (λ (b : BookView). Asks (answer_to a h) (terminus_of key b.termini)) (sym stands.book)
-    (answer_kept a h (terminus_of key (book_behind t e).termini) (by_test (wants_durable a) durable other_link)))
+    (answer_kept a h (terminus_of key (book_after_event t e).termini) (by_test (wants_durable a) durable other_link)))
   where
     key : LinkKey
     key = wanted_key t c a
 
     Wanted : Bool → Type 0
-    Wanted d = kept_if d (address_by (other a.role) a) (terminus_of key (book_behind t e).termini)
+    Wanted d = kept_if d (address_by (other a.role) a) (terminus_of key (book_after_event t e).termini)
 
     durable : wants_durable a ≡ true → Wanted (wants_durable a)
     durable wants =
-        subst Wanted (sym wants) (made_kept (book_in t) key a (terminus_of key (book_behind t e).termini) (made wants).made)
+        subst Wanted (sym wants) (made_kept (book_in t) key a (terminus_of key (book_after_event t e).termini) (made wants).made)
 
     other_link : wants_durable a ≡ false → Wanted (wants_durable a)
     other_link wants = subst Wanted (sym wants) tt
@@ -349,7 +349,7 @@ answer_there t w e c own largest (Some h) a made stands was = by (fits largest (
 taken_kept : (t u w : List Entry) (e : Event) (c own : ℕ) (a : AnAttach) → Answers t e c a → Stands t e c w → Kept w → Kept (goes (taken u c own a) w)
 taken_kept t u w e c own a made stands was = by (holder u (key_at u c (answer_to a 0)))
   where
-    by : (x : Option Attachment) → Kept (goes (taken_behind u c own a (stolen_by x)) w)
+    by : (x : Option Attachment) → Kept (goes (taken_after u c own a (stolen_by x)) w)
     by None = answer_there t w e c own (largest_frame u c) (free_handle u c own) a made stands was
     by (Some x) =
         let out : Item = detach_item x.channel x.handle false (Some Stolen) in

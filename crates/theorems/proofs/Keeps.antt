@@ -21,7 +21,7 @@ use Rattle.router_trace.specs.declared.binding.Origin.{Origin}
 use Rattle.router_trace.specs.Trace.{Trace, Out, Took, Put, goes, each_to}
 use Rattle.router_trace.specs.Connection.{live}
 use Rattle.router_trace.specs.DeliveryFrames.{kept_outcome}
-use Rattle.router_trace.specs.Deliveries.{Delivery, either_origin, source, bindings, has_row, number_named, delivery, sending, is_undecided, ended_by, behind_put}
+use Rattle.router_trace.specs.Deliveries.{Delivery, either_origin, source, bindings, has_row, number_named, delivery, sending, is_undecided, ended_by, after_put}
 use Rattle.router_trace.specs.Following.{is_to_be_told, outcome_to, tell, tells_of, tells, sends_due, drains_due}
 use Rattle.router_trace.specs.Links.{ends_handle_in}
 use Rattle.router_trace.specs.Sessions.{session}
@@ -29,7 +29,7 @@ use Rattle.state_sessions.specs.Windows.{is_narrow, flow_due, flows_below, windo
 use Rattle.state_deliveries.specs.declared.change.Change.{Change}
 use Rattle.state_deliveries.specs.Deciding.{changed_by}
 use Rattle.state_deliveries.specs.Stepping.{changed}
-use Rattle.state_messages.specs.Passing.{grants_due}
+use Rattle.state_messages.specs.Messages.{grants_due}
 use Rattle.router_reply.specs.Acts.{book_in}
 use Rattle.state_connections.proofs.Lists.{by_test}
 use Rattle.router_core.proofs.Due.{first_elim, goes_on_link, AllOnLinks, drains_on}
@@ -49,7 +49,7 @@ use Rattle.theorems.proofs.Standing.{Standing, fresh_in, IsFresh, out_standing, 
 clash : true ≡ false → ⊥
 clash e = cc
 
--- behind an entry of an event, while these changes of it are still to come
+-- after an entry of an event, while these changes of it are still to come
 pub record Kept (t : Trace) (xs : List Change) : Type 0 where
   pub law : EachOut OutcomeIsKept t
   pub facts : Facts t xs
@@ -98,20 +98,20 @@ quiet_kept c i t fresh quiet spares was = record {
 
 -- one that is the next of the changes to come, and one that changes nothing
 pub next_kept : (c : ℕ) (i : Item) (t : Trace) (x : Change) (ys : List Change) → IsFresh t c i → is_sent i ≡ false → OutcomeIsKept t c i
-    → ((n : ℕ) (d : Delivery) → behind_put (number_named t) i c n (sending t c) d ≡ changed x d) → Kept t (x ∷ ys) → Kept (Out c i ∷ t) ys
+    → ((n : ℕ) (d : Delivery) → after_put (number_named t) i c n (sending t c) d ≡ changed x d) → Kept t (x ∷ ys) → Kept (Out c i ∷ t) ys
 next_kept c i t x ys fresh quiet keeps is was = record {
   law = (keeps, was.law);
-  facts = out_facts c i t (x ∷ ys) ys was.standing fresh (λ n d there settled. alike_it (changed_by ys (changed x d)) (changed_by ys (behind_put (number_named t) i c n (sending t c) d)) (ap (changed_by ys) (is n d))) was.facts;
+  facts = out_facts c i t (x ∷ ys) ys was.standing fresh (λ n d there settled. alike_it (changed_by ys (changed x d)) (changed_by ys (after_put (number_named t) i c n (sending t c) d)) (ap (changed_by ys) (is n d))) was.facts;
   standing = out_standing c i t fresh was.standing;
   named = out_named c i t quiet was.named;
   ordered = was.ordered;
 }
 
 pub same_kept : (c : ℕ) (i : Item) (t : Trace) (ys : List Change) → IsFresh t c i → is_sent i ≡ false → OutcomeIsKept t c i
-    → ((n : ℕ) (d : Delivery) → behind_put (number_named t) i c n (sending t c) d ≡ d) → Kept t ys → Kept (Out c i ∷ t) ys
+    → ((n : ℕ) (d : Delivery) → after_put (number_named t) i c n (sending t c) d ≡ d) → Kept t ys → Kept (Out c i ∷ t) ys
 same_kept c i t ys fresh quiet keeps is was = record {
   law = (keeps, was.law);
-  facts = out_facts c i t ys ys was.standing fresh (λ n d there settled. alike_it (changed_by ys d) (changed_by ys (behind_put (number_named t) i c n (sending t c) d)) (ap (changed_by ys) (is n d))) was.facts;
+  facts = out_facts c i t ys ys was.standing fresh (λ n d there settled. alike_it (changed_by ys d) (changed_by ys (after_put (number_named t) i c n (sending t c) d)) (ap (changed_by ys) (is n d))) was.facts;
   standing = out_standing c i t fresh was.standing;
   named = out_named c i t quiet was.named;
   ordered = was.ordered;

@@ -29,14 +29,14 @@ use Rattle.router_trace.specs.Links.{link_place, free_handle}
 use Rattle.router_trace.specs.Peers.{largest_frame}
 use Rattle.router_trace.specs.Sessions.{theirs}
 use Rattle.router_trace.specs.Settling.{part_of}
-use Rattle.state_messages.specs.Passing.{with_bound}
+use Rattle.state_messages.specs.Messages.{with_bound}
 use Rattle.reply_rows.specs.declared.answer.Answer.{Answer}
 use Rattle.reply_rows.specs.declared.answer.Answer.TheVariants.{Attach, Refuse, Taken}
 use Rattle.reply_rows.specs.Booking.{answer_at}
 use Rattle.router_state.specs.Tables.{beat_if, beats_over}
 use Rattle.router_reply.specs.Acts.{live_answer, finds_full, journaled, book_in, acts_of, booked, answer_of}
 use Rattle.router_reply.specs.Deciding.{ended_by}
-use Rattle.router_reply.specs.Replies.{closing_of, ends, heard, bound_for, item_put, item_bound, item_row, bound_by, own_row, replied_behind, replied}
+use Rattle.router_reply.specs.Replies.{closing_of, ends, heard, bound_for, item_put, item_bound, item_row, bound_by, own_row, replied_after, replied}
 use Rattle.router_core.specs.declared.driving.Sent.{Sent}
 use Rattle.router_core.specs.Moves.{Goes, IsTrace}
 use Rattle.core_machine.specs.Moves.{Move, handles, takes}
@@ -49,7 +49,7 @@ use Rattle.router_core.proofs.Following.{all_keep}
 use Rattle.theorems.specs.Carried.{HasSmallNumbers}
 use Rattle.theorems.specs.Always.{GoesInTurn}
 use Rattle.theorems.specs.Kept.{may_be_decided, times_in, times_decided, IsDecidedOnce, EachOutcomeIsKept, EachRowIsDecidedOnce}
-use Rattle.theorems.proofs.Admitted.{answer_behind}
+use Rattle.theorems.proofs.Admitted.{answer_after}
 use Rattle.theorems.proofs.AllSound.{handled_sound}
 use Rattle.theorems.proofs.Answering.{IfAttach, attach_answered, attach_finds, taken_receives, may_bind}
 use Rattle.theorems.proofs.Attaching.{AttachAt, taken_kept, refused_kept}
@@ -168,7 +168,7 @@ beats_plain t now (c ∷ cs) =
     plain_both (beat_if (needs_beat (terms t c) (written t c) now) c) (beats_over t now cs) (beat_plain (needs_beat (terms t c) (written t c) now) c) (beats_plain t now cs)
 
 event_rows : (id : List ℕ) (t : Trace) (s : Step) (e : Event) → s.event ≡ e → MayBind (ends id (due t e) (Did s ∷ booked t e)) (bound_by (booked t e) (ends id (due t e) (Did s ∷ booked t e)) e)
-    → Kept (ends id (due t e) (Did s ∷ booked t e)) (answer_rest t e) → Kept (replied_behind id (booked t e) (ends id (due t e) (Did s ∷ booked t e)) e) []
+    → Kept (ends id (due t e) (Did s ∷ booked t e)) (answer_rest t e) → Kept (replied_after id (booked t e) (ends id (due t e) (Did s ∷ booked t e)) e) []
 event_rows id t s (event.Item from i) is may was = by (standing (found t e from.0)) refl may was
   where
     e : Event
@@ -187,7 +187,7 @@ event_rows id t s (event.Item from i) is may was = by (standing (found t e from.
         → Kept (goes (item_row id at u from.0 i v) (with_bound (item_bound at u from.0 i v) u)) []
     by None here may was = was
     by (Some p) here may was =
-        let same : answer_of at from.0 p i ≡ answer_at full (book_in t) t from.0 p i = answer_behind (acts_of t e) (due t e) t full (book_in t) from.0 p i in
+        let same : answer_of at from.0 p i ≡ answer_at full (book_in t) t from.0 p i = answer_after (acts_of t e) (due t e) t full (book_in t) from.0 p i in
         item_rows id t s from i is p here (answer_of at from.0 p i) (sym same) may (subst (λ (y : Answer). Kept u (ended_by t from.0 i y)) (sym same) was)
 event_rows id t s (event.Down c) is may was = was
 event_rows id t s (event.Tick ms) is may was =

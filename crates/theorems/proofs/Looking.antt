@@ -125,7 +125,7 @@ forgotten_keeps r = by (is_some r.outcome)
     by true s e = absurd cc
     by false s e = (let is : record r { forgotten = true } ≡ s = cc in ap number_of_row (sym is))
 
--- the row of a number behind a change of one row
+-- the row of a number after a change of one row
 pub found_with : (m n : ℕ) (change : Row → Option Row) → ((r : Row) → KeepsNumber r (change r)) → (rs : List Row) → Rises number_of_row rs
     → row_at n (with_row m change rs) ≡ (if n == m then option_and_then change (row_at n rs) else row_at n rs)
 found_with m n change keeps rs up = found_through (one m change) (one_keeps m change keeps) n rs up ∙ by (row_at n rs) refl
@@ -143,7 +143,7 @@ found_with m n change keeps rs up = found_through (one m change) (one_keeps m ch
         either true = refl
         either false = refl
 
--- behind a row that is new
+-- after a row that is new
 pub found_before : (n : ℕ) (rs : List Row) (x : Row) → n < number_of_row x → row_at n (rs ++ x ∷ []) ≡ row_at n rs
 found_before n rs x low = find-append (λ r. r.number.0 == n) rs (x ∷ []) ∙ by (row_at n rs)
   where

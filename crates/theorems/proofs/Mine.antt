@@ -13,12 +13,12 @@ use Rattle.router_trace.specs.declared.event.Event.TheVariants as event
 use Rattle.router_trace.specs.Trace.{Entry, Did, Out, Took, Bound, Booked, Began, Put, goes, ups}
 use Rattle.router_trace.specs.Connection.{conn, fresh, standing, due, has, found, live_of}
 use Rattle.router_trace.specs.Clocks.{moment, moment_at, terms, terms_at, written, written_at, channel_max_of}
-use Rattle.router_trace.specs.Sessions.{unless_close, offered, offered_at, answered_channel, answered_at, answered_by, theirs, theirs_at, theirs_behind, session, session_at, behind_item, place, place_by, free_channel, is_free, channels}
+use Rattle.router_trace.specs.Sessions.{unless_close, offered, offered_at, answered_channel, answered_at, answered_by, theirs, theirs_at, theirs_after, session, session_at, after_item, place, place_by, free_channel, is_free, channels}
 use Rattle.reply_rows.specs.Finding.{free_for}
 use Rattle.router_core.specs.Moves.{outs}
 use Rattle.theorems.specs.Alone.{is_about, own_part, comes_up}
 use Rattle.state_connections.proofs.Lists.{by_test}
-use Rattle.theorems.proofs.Plain.{stand, stand_behind, plain_at, standing_item, standing_took, standing_at}
+use Rattle.theorems.proofs.Plain.{stand, stand_after, plain_at, standing_item, standing_took, standing_at}
 
 -- events about others change nothing
 
@@ -79,7 +79,7 @@ else_plain event.Start c n v h = refl
 abbrev pub apart : List Entry → ℕ → Option Conn
 apart [] c = None
 apart (Did s ∷ t) c = plain_at s.event c 0 (apart t c)
-apart (Out d i ∷ t) c = if d == c then option_and_then (stand_behind i) (apart t c) else apart t c
+apart (Out d i ∷ t) c = if d == c then option_and_then (stand_after i) (apart t c) else apart t c
 apart (Took d n ∷ t) c = apart t c
 apart (Bound b ∷ t) c = apart t c
 apart (Booked acts full ∷ t) c = apart t c
@@ -144,7 +144,7 @@ own_theirs (Did s ∷ t) c p =
     by_test (is_about c s.event) (λ e. rw e (ap (theirs_at s.event c p) (own_theirs t c p)))
     (λ e. rw e (else_theirs s.event c p (theirs t c p) e ∙ own_theirs t c p))
 own_theirs (Out d i ∷ t) c p =
-    by_test (d == c) (λ e. rw e (rw e (λ j. theirs_behind i p (λ o. own_answered t c o j) (own_theirs t c p j)))) (λ e. rw e (own_theirs t c p))
+    by_test (d == c) (λ e. rw e (rw e (λ j. theirs_after i p (λ o. own_answered t c o j) (own_theirs t c p j)))) (λ e. rw e (own_theirs t c p))
 own_theirs (Took d n ∷ t) c p = own_theirs t c p
 own_theirs (Bound b ∷ t) c p = own_theirs t c p
 own_theirs (Booked acts full ∷ t) c p = own_theirs t c p
@@ -156,7 +156,7 @@ own_session (Did s ∷ t) c o =
     by_test (is_about c s.event) (λ e. rw e (λ j. session_at s.event c o (λ p. own_theirs t c p j) (own_session t c o j)))
     (λ e. rw e (else_session s.event c o (theirs t c) (session t c o) e ∙ own_session t c o))
 own_session (Out d i ∷ t) c o =
-    by_test (d == c) (λ e. rw e (rw e (λ j. behind_item i o (own_offered t c j) (own_session t c o j)))) (λ e. rw e (own_session t c o))
+    by_test (d == c) (λ e. rw e (rw e (λ j. after_item i o (own_offered t c j) (own_session t c o j)))) (λ e. rw e (own_session t c o))
 own_session (Took d n ∷ t) c o = own_session t c o
 own_session (Bound b ∷ t) c o = own_session t c o
 own_session (Booked acts full ∷ t) c o = own_session t c o
@@ -185,7 +185,7 @@ own_apart : (t : List Entry) (c : ℕ) → apart t c ≡ apart (own_part c t) c
 own_apart [] c = refl
 own_apart (Did s ∷ t) c =
     by_test (is_about c s.event) (λ e. rw e (ap (plain_at s.event c 0) (own_apart t c))) (λ e. rw e (else_plain s.event c 0 (apart t c) e ∙ own_apart t c))
-own_apart (Out d i ∷ t) c = by_test (d == c) (λ e. rw e (rw e (ap (option_and_then (stand_behind i)) (own_apart t c)))) (λ e. rw e (own_apart t c))
+own_apart (Out d i ∷ t) c = by_test (d == c) (λ e. rw e (rw e (ap (option_and_then (stand_after i)) (own_apart t c)))) (λ e. rw e (own_apart t c))
 own_apart (Took d n ∷ t) c = own_apart t c
 own_apart (Bound b ∷ t) c = own_apart t c
 own_apart (Booked acts full ∷ t) c = own_apart t c
@@ -228,7 +228,7 @@ stood_apart (Did s ∷ t) c eased =
     ∙ plain_taken s.event c n (standing (conn t c)) (λ up. sym (ap (λ (p : Option Conn). is_some p) stands) ∙ eased.0.1 up)
     ∙ ap (plain_at s.event c 0) (stood_apart t c eased.1)
 stood_apart (Out d i ∷ t) c eased =
-    standing_item (d == c) i (conn t c) ∙ ap (λ (v : Option Conn). if d == c then option_and_then (stand_behind i) v else v) (stood_apart t c eased)
+    standing_item (d == c) i (conn t c) ∙ ap (λ (v : Option Conn). if d == c then option_and_then (stand_after i) v else v) (stood_apart t c eased)
 stood_apart (Took d n ∷ t) c eased = standing_took (d == c) n (conn t c) ∙ stood_apart t c eased
 stood_apart (Bound b ∷ t) c eased = stood_apart t c eased
 stood_apart (Booked acts full ∷ t) c eased = stood_apart t c eased

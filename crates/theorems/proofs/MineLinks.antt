@@ -9,7 +9,7 @@ use Rattle.router_trace.specs.declared.event.Event.TheVariants as event
 use Rattle.router_trace.specs.Trace.{Entry, Did, Out, Took, Bound, Booked, Began}
 use Rattle.route_table.specs.Places.{distribution_of}
 use Rattle.router_trace.specs.Configuration.{routing, is_multicast}
-use Rattle.router_trace.specs.Links.{asked, asked_at, is_lost, answers_by, answered_handle, their_handle_at, their_handle_behind, their_handle, link_place_by, handle_max_at, told_handle_max, most_behind, highest_handle, is_free_handle, first_free_below, free_handle}
+use Rattle.router_trace.specs.Links.{asked, asked_at, is_lost, answers_by, answered_handle, their_handle_at, their_handle_after, their_handle, link_place_by, handle_max_at, told_handle_max, most_after, highest_handle, is_free_handle, first_free_below, free_handle}
 use Rattle.router_trace.specs.Claims.{claims}
 use Rattle.router_trace.specs.Sessions.{unless_close, place}
 use Rattle.reply_rows.specs.Rows.{Finds}
@@ -83,7 +83,7 @@ own_handle (Did s ∷ t) c o p =
     (λ e. rw e (else_handle s.event c o p _ (their_handle t c o p) e ∙ own_handle t c o p))
 own_handle (Out d i ∷ t) c o p =
     by_test (d == c)
-    (λ e. rw e (rw e (λ j. their_handle_behind i o p (λ h. own_answers t c o h j) (own_asked t c j) (own_handle t c o p j))))
+    (λ e. rw e (rw e (λ j. their_handle_after i o p (λ h. own_answers t c o h j) (own_asked t c j) (own_handle t c o p j))))
     (λ e. rw e (own_handle t c o p))
 own_handle (Took d n ∷ t) c o p = own_handle t c o p
 own_handle (Bound b ∷ t) c o p = own_handle t c o p
@@ -106,7 +106,7 @@ own_highest (Did s ∷ t) c o =
     by_test (is_about c s.event) (λ e. rw e (ap (unless_lost (is_lost s.event c)) (own_highest t c o)))
     (λ e. rw e (ap (λ (b : Bool). unless_lost b (highest_handle t c o)) (else_lost s.event c e) ∙ own_highest t c o))
 own_highest (Out d i ∷ t) c o =
-    by_test (d == c) (λ e. rw e (rw e (λ j. most_behind i o (own_told t c j) (own_highest t c o j)))) (λ e. rw e (own_highest t c o))
+    by_test (d == c) (λ e. rw e (rw e (λ j. most_after i o (own_told t c j) (own_highest t c o j)))) (λ e. rw e (own_highest t c o))
 own_highest (Took d n ∷ t) c o = own_highest t c o
 own_highest (Bound b ∷ t) c o = own_highest t c o
 own_highest (Booked acts full ∷ t) c o = own_highest t c o

@@ -20,7 +20,7 @@ use Rattle.router_trace.specs.Peers.{largest_frame}
 use Rattle.router_trace.specs.Sessions.{session}
 use Rattle.router_trace.specs.DeliveryFrames.{first_transfer, later_transfer, with_more, part_frame, filled, next_frame, largest_out, rest_of}
 use Rattle.router_trace.specs.Following.{link_of, is_busy, is_open, is_used, is_going, is_there, is_wide, goes_on_at, takes_more, can_start, can_go, place_to_go, transfer_of, send, send_of, sends_due}
-use Rattle.router_trace.specs.Deliveries.{Delivery, bindings, name_in, number_named, number_tagged, delivery, sending, named, named_in, named_by, next_id, is_id, carried, tag_in, tag_of, tagged, is_number, is_undecided, behind_frame, put_in, behind_put, behind_event, ended_by, closes, source, told, is_meant, origin_id, untold, unsettled, channels_found}
+use Rattle.router_trace.specs.Deliveries.{Delivery, bindings, name_in, number_named, number_tagged, delivery, sending, named, named_in, named_by, next_id, is_id, carried, tag_in, tag_of, tagged, is_number, is_undecided, after_frame, put_in, after_put, after_event, ended_by, closes, source, told, is_meant, origin_id, untold, unsettled, channels_found}
 use Rattle.state_deliveries.proofs.Called.{there_named, uncalled}
 use Rattle.state_deliveries.proofs.Puts.{no_ends}
 use Rattle.state_connections.proofs.Lists.{by_test}
@@ -58,7 +58,7 @@ same_id = record {
 
 pub did_named : (s : Step) (t : List Entry) → AreNamed t → AreNamed (Did s ∷ t)
 did_named s t was n id e now undecided has =
-    let before = of_what (behind_event s.event (channels_found t) (named t) n) (delivery t n) e now in
+    let before = of_what (after_event s.event (channels_found t) (named t) n) (delivery t n) e now in
     let w = was_did s t n e now in
     let same : w.before ≡ before.0 = some_same (sym w.there ∙ before.1) in
     let had : w.before.id ≡ Some id = ap (λ (d : Delivery). d.id) same ∙ sym (event_left SameId same_id s.event (channels_found t) (named t) n before.0) ∙ sym (ap (λ (d : Delivery). d.id) before.2) ∙ has in
@@ -101,13 +101,13 @@ perf_id numbers (perf.Disposition x) c own n sent count d quiet = role x.role
     role Sender = refl
 perf_id numbers _ c own n sent count d quiet = refl
 
-item_id : (numbers : DeliveryName → Option ℕ) (i : Item) (c n : ℕ) (sent : ℕ → ℕ → Option ℕ) (d : Delivery) → is_sent i ≡ false → (behind_put numbers i c n sent d).id ≡ d.id
+item_id : (numbers : DeliveryName → Option ℕ) (i : Item) (c n : ℕ) (sent : ℕ → ℕ → Option ℕ) (d : Delivery) → is_sent i ≡ false → (after_put numbers i c n sent d).id ≡ d.id
 item_id numbers (item.Frame sasl own body payload) c n sent d quiet =
     ends_left SameId same_id (closes body) (ended_by (item.Frame sasl own body payload) c) (put_in numbers body c own n sent (length payload) d)
     ∙ perf_id numbers body c own n sent (length payload) d quiet
 item_id numbers _ c n sent d quiet = refl
 
--- names behind an item, on the session of a link that it doesn't end
+-- names after an item, on the session of a link that it doesn't end
 stays_named : (c : ℕ) (i : Item) (t : List Entry) (a : Attachment) (id n : ℕ) → is_sent i ≡ false → ended_by i c a ≡ false → named t a.conn.0 a.channel id ≡ Some n → named (Out c i ∷ t) a.conn.0 a.channel id ≡ Some n
 stays_named c i t a id n quiet spared is =
     by_test (c == a.conn.0)
@@ -123,7 +123,7 @@ stays_named c i t a id n quiet spared is =
 
 pub out_named : (c : ℕ) (i : Item) (t : List Entry) → is_sent i ≡ false → AreNamed t → AreNamed (Out c i ∷ t)
 out_named c i t quiet was n id e now undecided has =
-    let before = of_what (behind_put (number_named t) i c n (sending t c)) (delivery t n) e now in
+    let before = of_what (after_put (number_named t) i c n (sending t c)) (delivery t n) e now in
     let w = was_out c i t n e now in
     let same : w.before ≡ before.0 = some_same (sym w.there ∙ before.1) in
     let had : w.before.id ≡ Some id = ap (λ (d : Delivery). d.id) same ∙ sym (item_id (number_named t) i c n (sending t c) before.0 quiet) ∙ sym (ap (λ (d : Delivery). d.id) before.2) ∙ has in
@@ -146,15 +146,15 @@ pub record IsNaming (t : List Entry) (n : ℕ) (d : Delivery) (x : Transfer) : T
 with_more_too : (t : List Entry) (n : ℕ) (d : Delivery) (x : Transfer) → IsNaming t n d x → IsNaming t n d (with_more x)
 with_more_too t n d x is = record { carries = is.carries; fresh = is.fresh; tells = is.tells; unused = is.unused }
 
--- behind a frame
+-- after a frame
 
 never_ends : (b : Bool) → (b && false) ≡ false
 never_ends true = refl
 never_ends false = refl
 
-id_behind : (x : Transfer) (count : ℕ) (d : Delivery) (b : Bool) → (if b then behind_frame x count d else d).id ≡ (if b then (if is_none d.id then x.delivery_id else d.id) else d.id)
-id_behind x count d true = refl
-id_behind x count d false = refl
+id_after : (x : Transfer) (count : ℕ) (d : Delivery) (b : Bool) → (if b then after_frame x count d else d).id ≡ (if b then (if is_none d.id then x.delivery_id else d.id) else d.id)
+id_after x count d true = refl
+id_after x count d false = refl
 
 pub sent_named : (t : List Entry) (m : ℕ) (of : Delivery) (sasl : Bool) (x : Transfer) (payload : List ℕ) → delivery t m ≡ Some of → IsNaming t m of x → AreNamed t
     → AreNamed (Out of.link.conn.0 (item.Frame sasl of.link.channel (perf.Transfer x) payload) ∷ t)
@@ -172,8 +172,8 @@ sent_named t m of sasl x payload here is was n id e now undecided has = by x.del
     w : Was (ended_by i c) t n e
     w = was_out c i t n e now
 
-    before : (d : Delivery) × (delivery t n ≡ Some d) × (e ≡ behind_put (number_named t) i c n (sending t c) d)
-    before = of_what (behind_put (number_named t) i c n (sending t c)) (delivery t n) e now
+    before : (d : Delivery) × (delivery t n ≡ Some d) × (e ≡ after_put (number_named t) i c n (sending t c) d)
+    before = of_what (after_put (number_named t) i c n (sending t c)) (delivery t n) e now
 
     same : before.0 ≡ w.before
     same = some_same (sym before.1 ∙ w.there)
@@ -181,7 +181,7 @@ sent_named t m of sasl x payload here is was n id e now undecided has = by x.del
     id_is : e.id ≡ (if is_number (carried (number_named t) (tag_in x) (sending t c own x.handle)) n then (if is_none w.before.id then x.delivery_id else w.before.id) else w.before.id)
     id_is =
         ap (λ (f : Delivery). f.id) (before.2 ∙ no_ends false (ended_by i c) (λ a. never_ends (a.conn.0 == c)) (put_in (number_named t) (perf.Transfer x) c own n (sending t c) (length payload) before.0))
-        ∙ id_behind x (length payload) before.0 (is_number (carried (number_named t) (tag_in x) (sending t c own x.handle)) n)
+        ∙ id_after x (length payload) before.0 (is_number (carried (number_named t) (tag_in x) (sending t c own x.handle)) n)
         ∙ ap (λ (d : Delivery). if is_number (carried (number_named t) (tag_in x) (sending t c own x.handle)) n then (if is_none d.id then x.delivery_id else d.id) else d.id) same
 
     id_of : e.id ≡ (if m == n then (if is_none w.before.id then x.delivery_id else w.before.id) else w.before.id)

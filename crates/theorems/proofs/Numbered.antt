@@ -12,7 +12,7 @@ use Rattle.router_trace.specs.Connection.{conn, due}
 use Rattle.router_trace.specs.Trace.{Beginning, Entry, Did, Out, Put, Step, goes, puts, each_to}
 use Rattle.router_trace.specs.declared.binding.Binding.{Binding}
 use Rattle.router_trace.specs.declared.condition.Condition.TheVariants.{ResourceLimitExceeded}
-use Rattle.state_messages.specs.Passing.{with_bound}
+use Rattle.state_messages.specs.Messages.{with_bound}
 use Rattle.router_reply.specs.Acts.{book_in, acts_of, booked}
 use Rattle.router_reply.specs.Admitting.{row_in}
 use Rattle.router_reply.specs.Replies.{closing_of, ends, heard, bound_by, own_row, replied}

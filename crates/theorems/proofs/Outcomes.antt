@@ -21,7 +21,7 @@ use Rattle.router_trace.specs.declared.handle.Attachment.{Attachment}
 use Rattle.router_trace.specs.Trace.{Entry, Did, Out, Took, Booked, Bound, Began, Step}
 use Rattle.router_trace.specs.Links.{ends_handle}
 use Rattle.router_trace.specs.Sessions.{maps}
-use Rattle.router_trace.specs.Deliveries.{Delivery, bindings, name_in, number_named, delivery, sending, named, failed, behind_frame, decided, source, untold, unsettled, told, ended, decided_at_end, suspended_at_end, is_undecided, is_meant, is_named, is_number, last_of, decision, terminal, is_gone_with, behind_origin, behind_ends, ended_by, put_in, behind_put, carried, tag_in, is_on, is_settled_at, disposed, heard_in, heard, lost_with, behind_event, origin_id, channels_found, sender, forsaken}
+use Rattle.router_trace.specs.Deliveries.{Delivery, bindings, name_in, number_named, delivery, sending, named, failed, after_frame, decided, source, untold, unsettled, told, ended, decided_at_end, suspended_at_end, is_undecided, is_meant, is_named, is_number, last_of, decision, terminal, is_gone_with, after_origin, after_ends, ended_by, put_in, after_put, carried, tag_in, is_on, is_settled_at, disposed, heard_in, heard, lost_with, after_event, origin_id, channels_found, sender, forsaken}
 use Rattle.theorems.specs.Decided.{is_for_good, GivenByConsumer, Decides, Decided, IsByConsumer, DecidedByConsumer}
 use Rattle.theorems.specs.Decided.Decides.{given_by_consumer, link_lost, link_ended, sent_settled}
 use Rattle.state_connections.proofs.Lists.{by_test}
@@ -45,7 +45,7 @@ choice D false d e f first second = second refl
 
 -- ends of links
 
-origin_outcome : (gone : Attachment → Bool) (d : Delivery) → (behind_origin gone d).outcome ≡ d.outcome
+origin_outcome : (gone : Attachment → Bool) (d : Delivery) → (after_origin gone d).outcome ≡ d.outcome
 origin_outcome gone d = by (is_gone_with gone (sender d))
   where
     by : (b : Bool) → (if b then forsaken d else d).outcome ≡ d.outcome
@@ -78,7 +78,7 @@ ended_from D closed d gives =
     (λ e. choice D (d.lasting && not closed) d (suspended_at_end d) (decided_at_end d) (λ f s h. inl h) (λ f. decided_from D d (gives e f)))
 
 ends_from : (D : DeliveryState → Type 0) (closed : Bool) (gone : Attachment → Bool) (d : Delivery)
-    → (gone d.link ≡ true → EndGives D closed d) → From D d (behind_ends closed gone d)
+    → (gone d.link ≡ true → EndGives D closed d) → From D d (after_ends closed gone d)
 ends_from D closed gone d gives s h =
     choice D (gone d.link) d (ended closed d) d (λ e. ended_from D closed d (gives e)) (λ e. was_there D d) s
     (sym (origin_outcome gone (if gone d.link then ended closed d else d)) ∙ h)
@@ -103,7 +103,7 @@ number_is (Some k) n h = ap (λ (m : ℕ). Some m) (eqb-true k n h)
 
 frame_from : (c : ℕ) (sasl : Bool) (own : ℕ) (x : Transfer) (payload : List ℕ) (t : List Entry) (n : ℕ) (d : Delivery)
     → carried (number_named t) (tag_in x) (sending t c own x.handle) ≡ Some n
-    → From (Now (Out c (item.Frame sasl own (perf.Transfer x) payload)) t n d) d (behind_frame x (length payload) d)
+    → From (Now (Out c (item.Frame sasl own (perf.Transfer x) payload)) t n d) d (after_frame x (length payload) d)
 frame_from c sasl own x payload t n d carries s h =
     by_test (d.presettled && not x.more)
     (λ e. let both = both_true d.presettled (not x.more) e
@@ -119,12 +119,12 @@ transfer_from : (c : ℕ) (sasl : Bool) (own : ℕ) (x : Transfer) (payload : Li
     → From (Now (Out c (item.Frame sasl own (perf.Transfer x) payload)) t n d) d (put_in (number_named t) (perf.Transfer x) c own n (sending t c) (length payload) d)
 transfer_from c sasl own x payload t n d =
     choice (Now (Out c (item.Frame sasl own (perf.Transfer x) payload)) t n d) (is_number (carried (number_named t) (tag_in x) (sending t c own x.handle)) n) d
-    (behind_frame x (length payload) d) d
+    (after_frame x (length payload) d) d
     (λ e. frame_from c sasl own x payload t n d (number_is (carried (number_named t) (tag_in x) (sending t c own x.handle)) n e))
     (λ e. was_there _ d)
 
 -- items that end no link
-quiet_from : (D : DeliveryState → Type 0) (c : ℕ) (d e : Delivery) → From D d e → From D d (behind_ends false (λ a. (a.conn.0 == c) && false) e)
+quiet_from : (D : DeliveryState → Type 0) (c : ℕ) (d e : Delivery) → From D d e → From D d (after_ends false (λ a. (a.conn.0 == c) && false) e)
 quiet_from D c d e before s h = by (ends_from (λ s. ⊥) false (λ a. (a.conn.0 == c) && false) e (λ gone. absurd (never_both (e.link.conn.0 == c) gone)) s h)
   where
     by : (e.outcome ≡ Some s) ⊎ ⊥ → (d.outcome ≡ Some s) ⊎ D s
@@ -132,14 +132,14 @@ quiet_from D c d e before s h = by (ends_from (λ s. ⊥) false (λ a. (a.conn.0
     by (inr never) = absurd never
 
 -- items that may end one
-ending_from : (c : ℕ) (i : Item) (t : List Entry) (n : ℕ) (d : Delivery) → From (Now (Out c i) t n d) d (behind_ends (is_for_good i) (ended_by i c) d)
+ending_from : (c : ℕ) (i : Item) (t : List Entry) (n : ℕ) (d : Delivery) → From (Now (Out c i) t n d) d (after_ends (is_for_good i) (ended_by i c) d)
 ending_from c i t n d =
     ends_from (Now (Out c i) t n d) (is_for_good i) (ended_by i c) d
     (λ gone there stays none s is. let both = both_true (d.link.conn.0 == c) (ends_handle i d.link.channel d.link.handle) gone
     in link_ended (record { conn = c; item = i; entry_is = refl; on_connection = eqb-true d.link.conn.0 c both.0; ends = both.1; not_suspended = there; for_good = lasts_closed d.lasting (is_for_good i) stays }) none is)
 
 frame_put_from : (body : Perf) (c : ℕ) (sasl : Bool) (own : ℕ) (payload : List ℕ) (t : List Entry) (n : ℕ) (d : Delivery)
-    → From (Now (Out c (item.Frame sasl own body payload)) t n d) d (behind_put (number_named t) (item.Frame sasl own body payload) c n (sending t c) d)
+    → From (Now (Out c (item.Frame sasl own body payload)) t n d) d (after_put (number_named t) (item.Frame sasl own body payload) c n (sending t c) d)
 frame_put_from (perf.Transfer x) c sasl own payload t n d =
     quiet_from (Now (Out c (item.Frame sasl own (perf.Transfer x) payload)) t n d) c d (put_in (number_named t) (perf.Transfer x) c own n (sending t c) (length payload) d)
     (transfer_from c sasl own x payload t n d)
@@ -148,7 +148,7 @@ frame_put_from (perf.Disposition x) c sasl own payload t n d =
     (λ s h. inl (sym (told_outcome x.role x c own d) ∙ h))
 frame_put_from body c sasl own payload t n d = ending_from c (item.Frame sasl own body payload) t n d
 
-put_from : (c : ℕ) (i : Item) (t : List Entry) (n : ℕ) (d : Delivery) → From (Now (Out c i) t n d) d (behind_put (number_named t) i c n (sending t c) d)
+put_from : (c : ℕ) (i : Item) (t : List Entry) (n : ℕ) (d : Delivery) → From (Now (Out c i) t n d) d (after_put (number_named t) i c n (sending t c) d)
 put_from c (item.Frame sasl own body payload) t n d = frame_put_from body c sasl own payload t n d
 put_from c _ t n d = was_there _ d
 
@@ -224,7 +224,7 @@ heard_from s t n d conn (item.Frame true channel body payload) came = was_there 
 heard_from s t n d conn (item.Frame false channel body payload) came = heard_perf s t n d conn channel body payload came
 heard_from s t n d conn _ came = was_there _ d
 
-event_from : (s : Step) (t : List Entry) (n : ℕ) (d : Delivery) (e : Event) → s.event ≡ e → From (Now (Did s) t n d) d (behind_event e (channels_found t) (named t) n d)
+event_from : (s : Step) (t : List Entry) (n : ℕ) (d : Delivery) (e : Event) → s.event ≡ e → From (Now (Did s) t n d) d (after_event e (channels_found t) (named t) n d)
 event_from s t n d (event.Item c i) is = heard_from s t n d c i is
 event_from s t n d (event.Down c) is =
     ends_from (Now (Did s) t n d) false (lost_with c.0) d
@@ -263,11 +263,11 @@ either_decided x t n d s there was (inr now) = now_decided x t n d s there now
 pub outcomes_given : (u : List Entry) (n : ℕ) (d : Delivery) (s : DeliveryState) → delivery u n ≡ Some d → d.outcome ≡ Some s → Decided u n s
 outcomes_given [] n d s h e = absurd cc
 outcomes_given (Did x ∷ t) n d s h e =
-    let was = of_what (behind_event x.event (channels_found t) (named t) n) (delivery t n) d h
+    let was = of_what (after_event x.event (channels_found t) (named t) n) (delivery t n) d h
     in either_decided (Did x) t n was.0 s was.1 (outcomes_given t n was.0 s was.1)
     (event_from x t n was.0 x.event refl s (sym (ap (λ (f : Delivery). f.outcome) was.2) ∙ e))
 outcomes_given (Out c i ∷ t) n d s h e =
-    let was = of_what (behind_put (number_named t) i c n (sending t c)) (delivery t n) d h
+    let was = of_what (after_put (number_named t) i c n (sending t c)) (delivery t n) d h
     in either_decided (Out c i) t n was.0 s was.1 (outcomes_given t n was.0 s was.1)
     (put_from c i t n was.0 s (sym (ap (λ (f : Delivery). f.outcome) was.2) ∙ e))
 outcomes_given (Took c k ∷ t) n d s h e = later_decided (Took c k) t n s (outcomes_given t n d s h e)

@@ -15,7 +15,7 @@ use Rattle.core_player.specs.declared.line.Line.{Line}
 use Rattle.core_player.specs.declared.script.Step.{Step}
 use Rattle.core_player.specs.declared.script.Step.TheVariants as step
 use Rattle.core_player.specs.Listening.{door_for}
-use Rattle.router_play.specs.Carrying.{behind_up, role_in, door_in, bytes_of, bytes_in, bytes_out, spelled, door_says, Carries}
+use Rattle.router_play.specs.Carrying.{after_up, role_in, door_in, bytes_of, bytes_in, bytes_out, spelled, door_says, Carries}
 use Rattle.theorems.specs.Pieces.{in_front, with_bytes, joined, SameHoweverCut}
 use Rattle.state_connections.proofs.Lists.{by_test}
 use Rattle.router_play.proofs.Carried.{play_carries}
@@ -53,28 +53,28 @@ joined_bytes n (step.Fuse calls ∷ xs) = joined_bytes n xs
 
 -- bytes make no connection
 
-front_behind : (n : ℕ) (last : Option ℕ) (c : ConnectionId) (bytes : List ℕ) (xs : List Step) → behind_up n last (in_front c bytes xs) ≡ behind_up n last xs
-front_behind n last c bytes [] = refl
-front_behind n last c bytes (step.In d others ∷ xs) = by_test (c.0 == d.0) (λ e. rw e refl) (λ e. rw e refl)
-front_behind n last c bytes (step.Up d role ∷ xs) = refl
-front_behind n last c bytes (step.Down d ∷ xs) = refl
-front_behind n last c bytes (step.Tick ms ∷ xs) = refl
-front_behind n last c bytes (step.Fuse calls ∷ xs) = refl
+front_after : (n : ℕ) (last : Option ℕ) (c : ConnectionId) (bytes : List ℕ) (xs : List Step) → after_up n last (in_front c bytes xs) ≡ after_up n last xs
+front_after n last c bytes [] = refl
+front_after n last c bytes (step.In d others ∷ xs) = by_test (c.0 == d.0) (λ e. rw e refl) (λ e. rw e refl)
+front_after n last c bytes (step.Up d role ∷ xs) = refl
+front_after n last c bytes (step.Down d ∷ xs) = refl
+front_after n last c bytes (step.Tick ms ∷ xs) = refl
+front_after n last c bytes (step.Fuse calls ∷ xs) = refl
 
-with_behind : (n : ℕ) (last : Option ℕ) (c : ConnectionId) (bytes : List ℕ) (xs : List Step) → behind_up n last (with_bytes c bytes xs) ≡ behind_up n last xs
-with_behind n last c [] xs = refl
-with_behind n last c (b ∷ bs) xs = front_behind n last c (b ∷ bs) xs
+with_after : (n : ℕ) (last : Option ℕ) (c : ConnectionId) (bytes : List ℕ) (xs : List Step) → after_up n last (with_bytes c bytes xs) ≡ after_up n last xs
+with_after n last c [] xs = refl
+with_after n last c (b ∷ bs) xs = front_after n last c (b ∷ bs) xs
 
-joined_behind : (n : ℕ) (last : Option ℕ) (xs : List Step) → behind_up n last (joined xs) ≡ joined (behind_up n last xs)
-joined_behind n last [] = refl
-joined_behind n last (step.In c bytes ∷ xs) = with_behind n last c bytes (joined xs) ∙ joined_behind n last xs
-joined_behind n last (step.Up c role ∷ xs) =
+joined_after : (n : ℕ) (last : Option ℕ) (xs : List Step) → after_up n last (joined xs) ≡ joined (after_up n last xs)
+joined_after n last [] = refl
+joined_after n last (step.In c bytes ∷ xs) = with_after n last c bytes (joined xs) ∙ joined_after n last xs
+joined_after n last (step.Up c role ∷ xs) =
     by_test (rises c.0 last)
-    (λ r. by_test (c.0 == n) (λ e. rw (r, e) refl) (λ e. rw (r, e) (joined_behind n (Some c.0) xs)))
-    (λ r. rw r (joined_behind n last xs))
-joined_behind n last (step.Down c ∷ xs) = joined_behind n last xs
-joined_behind n last (step.Tick ms ∷ xs) = joined_behind n last xs
-joined_behind n last (step.Fuse calls ∷ xs) = joined_behind n last xs
+    (λ r. by_test (c.0 == n) (λ e. rw (r, e) refl) (λ e. rw (r, e) (joined_after n (Some c.0) xs)))
+    (λ r. rw r (joined_after n last xs))
+joined_after n last (step.Down c ∷ xs) = joined_after n last xs
+joined_after n last (step.Tick ms ∷ xs) = joined_after n last xs
+joined_after n last (step.Fuse calls ∷ xs) = joined_after n last xs
 
 front_role : (n : ℕ) (last : Option ℕ) (c : ConnectionId) (bytes : List ℕ) (xs : List Step) → role_in n last (in_front c bytes xs) ≡ role_in n last xs
 front_role n last c bytes [] = refl
@@ -100,7 +100,7 @@ joined_role n last (step.Tick ms ∷ xs) = joined_role n last xs
 joined_role n last (step.Fuse calls ∷ xs) = joined_role n last xs
 
 joined_in : (n : ℕ) (xs : List Step) → bytes_in n (joined xs) ≡ bytes_in n xs
-joined_in n xs = ap (bytes_of n) (joined_behind n None xs) ∙ joined_bytes n (behind_up n None xs)
+joined_in n xs = ap (bytes_of n) (joined_after n None xs) ∙ joined_bytes n (after_up n None xs)
 
 joined_door : (config : Settings) (n : ℕ) (xs : List Step) → door_in config n (joined xs) ≡ door_in config n xs
 joined_door config n xs = ap (door_for config) (joined_role n None xs)

@@ -6,7 +6,7 @@ use Rattle.amqp_conn.specs.declared.conn.Conn.{Conn}
 use Rattle.router_trace.specs.declared.event.Event.{Event}
 use Rattle.router_trace.specs.declared.event.Event.TheVariants as event
 use Rattle.router_trace.specs.Trace.{Entry, Did, Out, Took, Bound, Booked, Began, Put, goes, ups}
-use Rattle.router_trace.specs.Connection.{Connection, conn, behind, with_item, drained, unless_empty, took, fresh, standing, is_full, is_due, due, unless_due, found, live, live_of, at_event}
+use Rattle.router_trace.specs.Connection.{Connection, conn, phase_after, with_item, drained, unless_empty, took, fresh, standing, is_full, is_due, due, unless_due, found, live, live_of, at_event}
 use Rattle.theorems.specs.Takes.{untaken}
 use Rattle.state_connections.proofs.Lists.{by_test, filter_none}
 use Rattle.state_connections.proofs.Turns.{due_none, stays}
@@ -16,8 +16,8 @@ use Rattle.theorems.proofs.Untaken.{same_ups}
 abbrev pub stand : Conn → Option Conn
 stand p = if p.closed then None else Some p
 
-abbrev pub stand_behind : Item → Conn → Option Conn
-stand_behind i p = stand (behind i p)
+abbrev pub stand_after : Item → Conn → Option Conn
+stand_after i p = stand (phase_after i p)
 
 -- those of these connections that are live
 abbrev pub standing_of : List ℕ → (ℕ → Option Conn) → List ℕ
@@ -32,7 +32,7 @@ plain_at _ c live v = v
 abbrev pub plain : List Entry → ℕ → Option Conn
 plain [] c = None
 plain (Did s ∷ t) c = plain_at s.event c (length (standing_of (ups t) (plain t))) (plain t c)
-plain (Out d i ∷ t) c = if d == c then option_and_then (stand_behind i) (plain t c) else plain t c
+plain (Out d i ∷ t) c = if d == c then option_and_then (stand_after i) (plain t c) else plain t c
 plain (Took d n ∷ t) c = plain t c
 plain (Bound b ∷ t) c = plain t c
 plain (Booked acts full ∷ t) c = plain t c
@@ -67,17 +67,17 @@ stand_over p e = rw e refl
 stand_open : (p : Conn) → p.closed ≡ false → stand p ≡ Some p
 stand_open p e = rw e refl
 
-stays_over : (i : Item) (p : Conn) → p.closed ≡ true → (behind i p).closed ≡ true
-stays_over i p e = by_test (behind i p).closed (λ f. f) (λ f. absurd (true≢false (sym e ∙ stays i p f)))
+stays_over : (i : Item) (p : Conn) → p.closed ≡ true → (phase_after i p).closed ≡ true
+stays_over i p e = by_test (phase_after i p).closed (λ f. f) (λ f. absurd (true≢false (sym e ∙ stays i p f)))
 
-stand_item : (i : Item) (p : Conn) → stand (behind i p) ≡ option_and_then (stand_behind i) (stand p)
+stand_item : (i : Item) (p : Conn) → stand (phase_after i p) ≡ option_and_then (stand_after i) (stand p)
 stand_item i p =
     by_test p.closed
-    (λ e. stand_over (behind i p) (stays_over i p e) ∙ sym (ap (option_and_then (stand_behind i)) (stand_over p e)))
-    (λ e. sym (ap (option_and_then (stand_behind i)) (stand_open p e)))
+    (λ e. stand_over (phase_after i p) (stays_over i p e) ∙ sym (ap (option_and_then (stand_after i)) (stand_over p e)))
+    (λ e. sym (ap (option_and_then (stand_after i)) (stand_open p e)))
 
 pub standing_item : (b : Bool) (i : Item) (v : Option Connection)
-    → standing (if b then option_map (with_item i) v else v) ≡ (if b then option_and_then (stand_behind i) (standing v) else standing v)
+    → standing (if b then option_map (with_item i) v else v) ≡ (if b then option_and_then (stand_after i) (standing v) else standing v)
 standing_item true i None = refl
 standing_item true i (Some v) = stand_item i v.phase
 standing_item false i v = refl
@@ -111,7 +111,7 @@ stood (Did s ∷ t) calm c =
     ∙ standing_at s.event c (length (live_of (ups t) (conn t))) (conn t c)
     ∙ (λ j. plain_at s.event c (length (standing_of (same_ups t j) (λ k. stood t calm.1 k j))) (stood t calm.1 c j))
 stood (Out d i ∷ t) calm c =
-    standing_item (d == c) i (conn t c) ∙ ap (λ (v : Option Conn). if d == c then option_and_then (stand_behind i) v else v) (stood t calm c)
+    standing_item (d == c) i (conn t c) ∙ ap (λ (v : Option Conn). if d == c then option_and_then (stand_after i) v else v) (stood t calm c)
 stood (Took d n ∷ t) calm c = standing_took (d == c) n (conn t c) ∙ stood t calm c
 stood (Bound b ∷ t) calm c = stood t calm c
 stood (Booked acts full ∷ t) calm c = stood t calm c

@@ -24,7 +24,7 @@ use Rattle.router_trace.specs.Following.{is_sending}
 use Rattle.router_trace.specs.LinkFrames.{detach_item}
 use Rattle.router_trace.specs.Links.{Link, link, link_place, has_number, is_attached}
 use Rattle.router_trace.specs.Settling.{open_ids, part_of, unbound}
-use Rattle.state_messages.specs.Passing.{with_bound}
+use Rattle.state_messages.specs.Messages.{with_bound}
 use Rattle.reply_rows.specs.declared.answer.Answer.{Answer}
 use Rattle.reply_rows.specs.declared.answer.Answer.TheVariants.{Taken, Settle}
 use Rattle.reply_rows.specs.Rows.{said}

@@ -13,7 +13,7 @@ use Rattle.router_trace.specs.Connection.{conn, due}
 use Rattle.router_trace.specs.Trace.{Beginning, Entry, Did, Out, Took, Bound, Booked, Began, Put, Step, goes, puts, each_to}
 use Rattle.router_trace.specs.declared.binding.Binding.{Binding}
 use Rattle.router_trace.specs.declared.condition.Condition.TheVariants.{ResourceLimitExceeded}
-use Rattle.state_messages.specs.Passing.{with_bound}
+use Rattle.state_messages.specs.Messages.{with_bound}
 use Rattle.router_reply.specs.Acts.{book_in, booked}
 use Rattle.router_reply.specs.Replies.{closing_of, ends, heard, bound_by, own_row, replied}
 use Rattle.state_connections.proofs.Lists.{by_test}
@@ -82,9 +82,9 @@ since (Bound b ∷ w) h n just = absurd (none_not_some just)
 since (Booked x full ∷ w) h n just = absurd (none_not_some just)
 since (Began g ∷ w) h n just = absurd (none_not_some just)
 
-next_behind : (b : BookView) (x : Admission) → (effects b (Admit x ∷ [])).next_row ≡ b.next_row + 1
+next_after : (b : BookView) (x : Admission) → (effects b (Admit x ∷ [])).next_row ≡ b.next_row + 1
 unfolding effects
-next_behind b x = refl
+next_after b x = refl
 
 -- a row that is bound just after it was admitted
 new_once : (u : List Entry) (b : Binding) (row : RowNumber) → IsAdmitted u b row → Before u → (times_bound u row.0 ≡ 0) × ((book_in u).next_row ≡ row.0 + 1)
@@ -93,7 +93,7 @@ new_once u b row is before =
     let all : EachRowIsBoundOnce is.before = before_acts u is.came.handled acts is.full is.before is.came.just is.acts before in
     let sofar : Since u is.came.handled.found row.0 = since u is.came.handled row.0 is.came.just in (
       sofar.times ∙ ap (λ (v : List Entry). times_bound v row.0) is.acts ∙ (all row.0).known (at_most row.0 (book_in is.before).next_row is.is_next),
-      ap (λ (c : BookView). c.next_row) (sofar.book ∙ ap book_in is.acts) ∙ next_behind (book_in is.before) is.admission ∙ ap (λ (k : ℕ). k + 1) (sym is.is_next),
+      ap (λ (c : BookView). c.next_row) (sofar.book ∙ ap book_in is.acts) ∙ next_after (book_in is.before) is.admission ∙ ap (λ (k : ℕ). k + 1) (sym is.is_next),
     )
   where
     at_most : (n k : ℕ) → n ≡ k → k ≤ n

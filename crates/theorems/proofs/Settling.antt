@@ -1,4 +1,4 @@
--- The book behind the acts of an event: what becomes of a row that it had, and which termini stay.
+-- The book after the acts of an event: what becomes of a row that it had, and which termini stay.
 use Rattle.std.proofs.Common.{◌≡◌, ◌∙◌, sym, ap, refl, subst, ℕ, ◌+◌, ◌≤◌, ◌<◌, Bool, true, false, not, ◌&&◌, ◌||◌, cond, List, [], ◌∷◌, arith}
 use Rattle.std.specs.Prelude.{◌==◌, Option, Some, None, find, filter, filter_map, is_none, if◌then◌else◌}
 use Rattle.std.specs.List.{cons_option, list_any}
@@ -30,7 +30,7 @@ use Rattle.journal_store.specs.Acting.{journal_outcome, outcome_for, is_among, s
 use Rattle.journal_store.proofs.Settled.{settles_leave}
 use Rattle.theorems.proofs.Looking.{by_case, KeepsNumber, decided_keeps, forgotten_keeps, found_through, found_before}
 
--- the row of a number behind what is decided and forgotten
+-- the row of a number after what is decided and forgotten
 
 itself : (r : Row) → KeepsNumber r (Some r)
 itself r s e = (let is : r ≡ s = cc in ap number_of_row (sym is))
@@ -167,7 +167,7 @@ row_any p n (x ∷ rs) r is holds = by_case (number_of_row x == n) here (λ e. l
         by true = refl
         by false = rest
 
--- the book behind what is done about a terminus: the rows are those before, and a producer's terminus that a row keeps stays
+-- the book after what is done about a terminus: the rows are those before, and a producer's terminus that a row keeps stays
 pub record Stays (b c : BookView) : Type 0 where
   pub rows : (n : ℕ) → n < b.next_row → row_at n c.rows ≡ row_at n b.rows
   pub next : b.next_row ≤ c.next_row

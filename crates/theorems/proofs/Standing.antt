@@ -33,10 +33,10 @@ use Rattle.router_trace.specs.declared.handle.Attachment.{Attachment}
 use Rattle.router_trace.specs.declared.handle.PeerHandle.{PeerHandle}
 use Rattle.router_trace.specs.Trace.{Beginning, Entry, Did, Out, Took, Bound, Booked, Step}
 use Rattle.router_trace.specs.Sessions.{maps, theirs}
-use Rattle.router_trace.specs.Links.{Link, Happened, durable_key, flowed_from, flowed_to, started, came_to, sends, receives, is_lost, ends_handle, ends_handle_in, handle_asked, answers_in, answers_by, answered_handle, asked, address_by, attachments, attached, behind_our_flow, behind_our_transfer, behind_their_flow, behind_their_transfer, is_handle, link_in, link_behind, heard_link, link_by, link_at, names, names_by, their_handle, key_at, link, has_number, is_attached, if_attached, same_key, newest_in, last_of_key, holder}
+use Rattle.router_trace.specs.Links.{Link, Happened, durable_key, flowed_from, flowed_to, started, came_to, sends, receives, is_lost, ends_handle, ends_handle_in, handle_asked, answers_in, answers_by, answered_handle, asked, address_by, attachments, attached, after_our_flow, after_our_transfer, after_their_flow, after_their_transfer, is_handle, link_in, link_after, heard_link, link_by, link_at, names, names_by, their_handle, key_at, link, has_number, is_attached, if_attached, same_key, newest_in, last_of_key, holder}
 use Rattle.router_trace.specs.Following.{is_sending, link_of}
 use Rattle.router_trace.specs.Deliveries.{Delivery, either_origin, bindings, name_in, delivery, source, is_undecided, ended_by}
-use Rattle.state_messages.specs.Passing.{standing_at}
+use Rattle.state_messages.specs.Messages.{standing_at}
 use Rattle.state_deliveries.proofs.Called.{uncalled}
 use Rattle.state_connections.proofs.Lists.{by_test}
 use Rattle.theorems.proofs.Tests.{some_same, none_not_some}
@@ -91,7 +91,7 @@ pub record SameLink (l m : Link) : Type 0 where
 pub same_link : (l : Link) → SameLink l l
 same_link l = record { number = refl; key = refl; durable = refl; way = refl }
 
--- a link behind an entry, by whether the entry ends it
+-- a link after an entry, by whether the entry ends it
 record Behaves (over : Bool) (v w : Option Link) : Type 0 where
   change : Link → Link
   same : (l : Link) → SameLink l (change l)
@@ -112,28 +112,28 @@ over_if : (q : Bool) (v : Option Link) → Behaves q v (if q then None else v)
 over_if true v = record { change = λ l. l; same = same_link; is = refl }
 over_if false v = unchanged v
 
-our_flow : (f : Flow) (l : Link) → SameLink l (behind_our_flow f l)
+our_flow : (f : Flow) (l : Link) → SameLink l (after_our_flow f l)
 our_flow f l = record { number = refl; key = refl; durable = refl; way = by l.happened }
   where
     by : (h : Happened) → is_sending (flowed_from f h) ≡ is_sending h
     by (sends list) = refl
     by (receives list) = refl
 
-our_transfer : (x : Transfer) (l : Link) → SameLink l (behind_our_transfer x l)
+our_transfer : (x : Transfer) (l : Link) → SameLink l (after_our_transfer x l)
 our_transfer x l = record { number = refl; key = refl; durable = refl; way = by l.happened }
   where
     by : (h : Happened) → is_sending (started l.going_on h) ≡ is_sending h
     by (sends list) = refl
     by (receives list) = refl
 
-their_flow : (f : Flow) (l : Link) → SameLink l (behind_their_flow f l)
+their_flow : (f : Flow) (l : Link) → SameLink l (after_their_flow f l)
 their_flow f l = record { number = refl; key = refl; durable = refl; way = by l.happened }
   where
     by : (h : Happened) → is_sending (flowed_to f h) ≡ is_sending h
     by (sends list) = refl
     by (receives list) = refl
 
-their_transfer : (x : Transfer) (payload : List ℕ) (l : Link) → SameLink l (behind_their_transfer x payload l)
+their_transfer : (x : Transfer) (payload : List ℕ) (l : Link) → SameLink l (after_their_transfer x payload l)
 their_transfer x payload l = record { number = refl; key = refl; durable = refl; way = by l.happened }
   where
     by : (h : Happened) → is_sending (came_to x payload h) ≡ is_sending h
@@ -154,20 +154,20 @@ perf_behaves : (body : Perf) (own o h number : ℕ) (key : AnAttach → LinkKey)
     → Behaves (ends_handle_in body own o h) v (link_in body own o h number key last v)
 perf_behaves (perf.Attach a) own o h number key last v apart =
     subst (λ (b : Bool). Behaves false v (if b then attached number (key a) a last (address_by a.role a) else v)) (sym apart) (unchanged v)
-perf_behaves (perf.Flow f) own o h number key last v apart = changed_if ((own == o) && is_handle f.handle h) (behind_our_flow f) (our_flow f) v
-perf_behaves (perf.Transfer x) own o h number key last v apart = changed_if ((own == o) && (x.handle == h)) (behind_our_transfer x) (our_transfer x) v
+perf_behaves (perf.Flow f) own o h number key last v apart = changed_if ((own == o) && is_handle f.handle h) (after_our_flow f) (our_flow f) v
+perf_behaves (perf.Transfer x) own o h number key last v apart = changed_if ((own == o) && (x.handle == h)) (after_our_transfer x) (our_transfer x) v
 perf_behaves body own o h number key last v apart = over_if (ends_handle_in body own o h) v
 
 item_behaves : (i : Item) (o h number : ℕ) (key : AnAttach → LinkKey) (last : Option Asked) (v : Option Link) → attaches i o h ≡ false
-    → Behaves (ends_handle i o h) v (link_behind i o h number key last v)
+    → Behaves (ends_handle i o h) v (link_after i o h number key last v)
 item_behaves (item.Frame sasl own body payload) o h number key last v apart = perf_behaves body own o h number key last v apart
 item_behaves _ o h number key last v apart = unchanged v
 
 -- events
 
 heard_behaves : (body : Perf) (payload : List ℕ) (h : ℕ) (known : ℕ → Option PeerHandle) (v : Option Link) → Behaves false v (heard_link body payload h known v)
-heard_behaves (perf.Flow f) payload h known v = changed_if (names_by f.handle known h) (behind_their_flow f) (their_flow f) v
-heard_behaves (perf.Transfer x) payload h known v = changed_if (names (known x.handle) h) (behind_their_transfer x payload) (their_transfer x payload) v
+heard_behaves (perf.Flow f) payload h known v = changed_if (names_by f.handle known h) (after_their_flow f) (their_flow f) v
+heard_behaves (perf.Transfer x) payload h known v = changed_if (names (known x.handle) h) (after_their_transfer x payload) (their_transfer x payload) v
 heard_behaves _ payload h known v = unchanged v
 
 came_behaves : (i : Item) (o h : ℕ) (channels : ℕ → Option PeerChannel) (handles : ℕ → Option PeerHandle) (v : Option Link) → Behaves false v (link_by i o h channels handles v)
@@ -188,7 +188,7 @@ event_behaves (event.Item d i) c o h channels handles v = by (d.0 == c)
 event_behaves (event.Down d) c o h channels handles v = over_if (d.0 == c) v
 event_behaves _ c o h channels handles v = unchanged v
 
--- a link that is there behind an entry was there before, and one that doesn't end is there behind it
+-- a link that is there after an entry was there before, and one that doesn't end is there after it
 
 record LinkWas (over : Bool) (v : Option Link) (m : Link) : Type 0 where
   before : Link
@@ -242,8 +242,8 @@ key_moved : (c o h : ℕ) (l m : Link) (look : LinkKey → Option Attachment) �
 key_moved c o h l m look same is =
     ap look same.key ∙ is ∙ ap (λ (n : ℕ). Some (record { number = n; conn = record { 0 = c }; channel = o; handle = h })) (sym same.number)
 
-sends_behind : (u : List Entry) (a b : Attachment) (l : Link) → b ≡ a → LinkIs (link u a.conn.0 a.channel a.handle) l → l.number ≡ a.number → is_sending l.happened ≡ true → Sends u b
-sends_behind u a b l same is number way =
+sends_after : (u : List Entry) (a b : Attachment) (l : Link) → b ≡ a → LinkIs (link u a.conn.0 a.channel a.handle) l → l.number ≡ a.number → is_sending l.happened ≡ true → Sends u b
+sends_after u a b l same is number way =
     subst (λ (x : Attachment). Sends u x) (sym same) (record { at = is.behind; there = is.there; number = is.same.number ∙ number; way = is.same.way ∙ way })
 
 pub began_standing : (g : Beginning) → Standing (beginning g)
@@ -263,7 +263,7 @@ did_standing s t was = record {
       let w = was_did s t n d is in
       let a : Attachment = w.before.link in
       let at = was.consumers n w.before w.there (w.undecided undecided) in
-      sends_behind (Did s ∷ t) a d.link at.at w.follows.link
+      sends_after (Did s ∷ t) a d.link at.at w.follows.link
       (link_is (is_lost s.event a.conn.0) (link t a.conn.0 a.channel a.handle) (link (Did s ∷ t) a.conn.0 a.channel a.handle) at.at (behaves a.conn.0 a.channel a.handle) (w.spares undecided) at.there)
       at.number at.way;
   producers = λ n d p is from.
@@ -315,7 +315,7 @@ out_behaves : (d : ℕ) (i : Item) (t : List Entry) (c o h : ℕ) → ((d == c) 
 out_behaves d i t c o h apart = by (d == c) apart
   where
     by : (b : Bool) → (b ≡ true → attaches i o h ≡ false)
-        → Behaves (if b then ends_handle i o h else false) (link t c o h) (if b then link_behind i o h (attachments t + 1) (key_at t c) (asked t c) (link t c o h) else link t c o h)
+        → Behaves (if b then ends_handle i o h else false) (link t c o h) (if b then link_after i o h (attachments t + 1) (key_at t c) (asked t c) (link t c o h) else link t c o h)
     by true apart = item_behaves i o h (attachments t + 1) (key_at t c) (asked t c) (link t c o h) (apart refl)
     by false apart = unchanged (link t c o h)
 
@@ -386,7 +386,7 @@ perf_new_key (perf.Attach a) own o h t c m here is = by (address_by a.role a) re
         (rw (key_itself (key_at t c a)) (λ j. Some (record { number = attachments t + 1; conn = record { 0 = c }; channel = same.0 j; handle = same.1 j })))
 perf_new_key _ own o h t c m here is = absurd cc
 
-item_new_key : (i : Item) (o h : ℕ) (t : List Entry) (c : ℕ) (m : Link) → attaches i o h ≡ true → link_behind i o h (attachments t + 1) (key_at t c) (asked t c) (link t c o h) ≡ Some m
+item_new_key : (i : Item) (o h : ℕ) (t : List Entry) (c : ℕ) (m : Link) → attaches i o h ≡ true → link_after i o h (attachments t + 1) (key_at t c) (asked t c) (link t c o h) ≡ Some m
     → last_of_key (Out c i ∷ t) m.key ≡ Some (standing_at c o h m)
 item_new_key (item.Frame sasl own body payload) o h t c m here is = perf_new_key body own o h t c m here is
 item_new_key _ o h t c m here is = absurd cc
@@ -424,7 +424,7 @@ out_standing d i t fresh was = record {
       let a : Attachment = w.before.link in
       let at = was.consumers n w.before w.there (w.undecided undecided) in
       let apart = apart_from d i t a.conn.0 a.channel a.handle at.at fresh (was.answered a.conn.0 a.channel a.handle at.at at.there) in
-      sends_behind (Out d i ∷ t) a e.link at.at w.follows.link
+      sends_after (Out d i ∷ t) a e.link at.at w.follows.link
       (link_is (if d == a.conn.0 then ends_handle i a.channel a.handle else false) (link t a.conn.0 a.channel a.handle) (link (Out d i ∷ t) a.conn.0 a.channel a.handle) at.at
       (out_behaves d i t a.conn.0 a.channel a.handle apart) (spared_there d i a (w.spares undecided)) at.there)
       at.number at.way;
@@ -524,7 +524,7 @@ one_place t standing a b key first second =
     let same : standing_at a.conn.0 a.channel a.handle l.0 ≡ standing_at b.conn.0 b.channel b.handle m.0 = some_same (sym at ∙ there) in
     (ap (λ (x : Attachment). x.conn.0) same, ap (λ (x : Attachment). x.channel) same, ap (λ (x : Attachment). x.handle) same)
 
--- a link behind an entry was there before it, unless it is attached now
+-- a link after an entry was there before it, unless it is attached now
 
 pub record WasLink (t : List Entry) (c o h : ℕ) (m : Link) : Type 0 where
   pub before : Link
@@ -555,7 +555,7 @@ was_link_on t u c o h m first rest =
       };
     }
 
--- a link behind an event that doesn't lose its connection goes the same way
+-- a link after an event that doesn't lose its connection goes the same way
 pub did_way : (s : Step) (t : List Entry) (c o h : ℕ) (l : Link) → link t c o h ≡ Some l → is_lost s.event c ≡ false → (m : Link) × (link (Did s ∷ t) c o h ≡ Some m) × (is_sending m.happened ≡ is_sending l.happened)
 did_way s t c o h l there spared =
     let now = link_is (is_lost s.event c) (link t c o h) (link (Did s ∷ t) c o h) l (event_behaves s.event c o h (theirs t c) (their_handle t c o) (link t c o h)) spared there in

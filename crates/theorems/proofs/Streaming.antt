@@ -11,7 +11,7 @@ use Rattle.router_trace.specs.declared.event.Event.{Event}
 use Rattle.router_trace.specs.declared.event.Event.TheVariants as event
 use Rattle.router_trace.specs.Trace.{step_of}
 use Rattle.core_door.specs.declared.door.Door.{Door as DoorState}
-use Rattle.core_door.specs.Door.{Verdict, says, passes, ends, door, door_behind}
+use Rattle.core_door.specs.Door.{Verdict, says, passes, ends, door, door_after}
 use Rattle.theorems.proofs.Takes.{plain_handled}
 use Rattle.state_connections.proofs.Lists.{by_test}
 use Rattle.core_player.proofs.Streams.{wrong_more, further}
@@ -36,7 +36,7 @@ stream_spot c st k p =
 
 stream_judge : (c : ConnectionId) (st : Option (List ℕ)) (i : Item) (k : Spot) (d : DoorState) (p : Course) (v : Verdict)
     → with_stream c.0 st (judge c i k d p v) ≡ judge c i (flowing st k) d (with_stream c.0 st p) v
-stream_judge c st i k d p (says items) = stream_spot c.0 st (Some (record { door = Some (door_behind d i); stream = k.stream })) p
+stream_judge c st i k d p (says items) = stream_spot c.0 st (Some (record { door = Some (door_after d i); stream = k.stream })) p
 stream_judge c st i k d p (passes user) =
     let inside : Course = with_spot c.0 (Some (record { door = None; stream = k.stream })) p
     in let up : Event = event.Up c (record { user = user; role = d.role })

@@ -11,10 +11,10 @@ use Rattle.router_trace.specs.declared.event.Event.TheVariants as event
 use Rattle.router_trace.specs.Trace.{Entry, Did, Booked, Put, Step, goes, each_to}
 use Rattle.router_trace.specs.Connection.{conn, due, is_full, live}
 use Rattle.state_sessions.specs.Windows.{windows_over}
-use Rattle.state_messages.specs.Passing.{with_bound}
+use Rattle.state_messages.specs.Messages.{with_bound}
 use Rattle.router_state.specs.Tables.{beats_over}
 use Rattle.reply_rows.specs.Rows.{down_reply}
-use Rattle.router_reply.specs.Replies.{ends, row_found, item_put, item_row, own_row, bound_for, item_bound, bound_by, replied_behind}
+use Rattle.router_reply.specs.Replies.{ends, row_found, item_put, item_row, own_row, bound_for, item_bound, bound_by, replied_after}
 use Rattle.router_after.specs.After.{widened, followed}
 use Rattle.router_reply.specs.Acts.{journaled, booked, found_journal, full_at}
 use Rattle.router_core.specs.Replies.{answered, handled}
@@ -30,7 +30,7 @@ use Rattle.theorems.proofs.UntakenActs.{plain_acts, plain_full_at, plain_answer_
 use Rattle.router_core.proofs.Following.{passed_on, each_keeps, all_keep}
 use Rattle.theorems.proofs.Plain.{plain, plain_live, Calm, calm_goes, none_due, same_live, stood_found, live_found}
 
--- what an event finds behind its acts is the same in a trace without its takes: the journal, the row that its acts admit, and whether the journal is full
+-- what an event finds after its acts is the same in a trace without its takes: the journal, the row that its acts admit, and whether the journal is full
 pub record FindsAlike (t : List Entry) (e : Event) : Type 0 where
   pub journal : found_journal t ≡ found_journal (untaken t)
   pub row : row_found t ≡ row_found (untaken t)
@@ -138,7 +138,7 @@ same_answered id t s calm roomy same =
           ∙ ap plain_followed (untaken_goes row (with_bound bound u)
           ∙ (λ j. goes (same_row id t u s.event calm none same j) ((untaken_bound bound u ∙ ap (λ (b : Option Binding). with_bound b (untaken u)) (same_bound t u s.event calm none same)) j))),
     )
-    in subst (λ (x : List Entry). Calm (followed (replied_behind id t x s.event)) × (untaken (followed (replied_behind id t x s.event)) ≡ plain_answered id (untaken t) s))
+    in subst (λ (x : List Entry). Calm (followed (replied_after id t x s.event)) × (untaken (followed (replied_after id t x s.event)) ≡ plain_answered id (untaken t) s))
     (sym (ap (λ (ks : List ℕ). ends id ks (Did s ∷ t)) none)) both
 
 -- an event with its acts

@@ -12,7 +12,7 @@ use Rattle.amqp_model.specs.declared.item.Item.TheVariants as item
 use Rattle.router_trace.specs.declared.binding.DeliveryName.{DeliveryName}
 use Rattle.router_trace.specs.declared.binding.Origin.{Origin}
 use Rattle.router_trace.specs.Trace.{Entry, Did, Out, Took, Bound, Booked, Began}
-use Rattle.router_trace.specs.Deliveries.{Delivery, bindings, name_in, same_name, number_named, unless_called, delivery, sending, named, unless_over, either_origin, source, untold, unsettled, told, is_meant, last_of, origin_id, ended_by, behind_put, behind_event, channels_found}
+use Rattle.router_trace.specs.Deliveries.{Delivery, bindings, name_in, same_name, number_named, unless_called, delivery, sending, named, unless_over, either_origin, source, untold, unsettled, told, is_meant, last_of, origin_id, ended_by, after_put, after_event, channels_found}
 use Rattle.amqp_session.specs.Serials.{distance}
 use Rattle.amqp_session.specs.Ranges.{in_range}
 use Rattle.theorems.specs.OneConsumer.{IsOrNone, WhileThere}
@@ -59,18 +59,18 @@ told_none Receiver x c own d h = rw (meant_source x d.origin d.told c own h) (by
     by false = refl
 told_none Sender x c own d h = absurd cc
 
-none_behind : (numbers : DeliveryName → Option ℕ) (body : Perf) (sasl : Bool) (c own n : ℕ) (payload : List ℕ) (sent : ℕ → ℕ → Option ℕ) (d : Delivery) → tells_in body c own d.origin ≡ true
-    → (behind_put numbers (item.Frame sasl own body payload) c n sent d).origin ≡ None
-none_behind numbers (perf.Disposition x) sasl c own n payload sent d h =
+none_after : (numbers : DeliveryName → Option ℕ) (body : Perf) (sasl : Bool) (c own n : ℕ) (payload : List ℕ) (sent : ℕ → ℕ → Option ℕ) (d : Delivery) → tells_in body c own d.origin ≡ true
+    → (after_put numbers (item.Frame sasl own body payload) c n sent d).origin ≡ None
+none_after numbers (perf.Disposition x) sasl c own n payload sent d h =
     ends_left StaysNone stays_left false (ended_by (item.Frame sasl own (perf.Disposition x) payload) c) (told x.role x c own d) (told_none x.role x c own d h)
-none_behind numbers _ sasl c own n payload sent d h = absurd cc
+none_after numbers _ sasl c own n payload sent d h = absurd cc
 
-told_behind : (numbers : DeliveryName → Option ℕ) (i : Item) (c n : ℕ) (sent : ℕ → ℕ → Option ℕ) (v : Option Delivery) → tells i c v ≡ true
-    → WhileThere NoOrigin (option_and_then (λ d. unless_over (behind_put numbers i c n sent d)) v)
-told_behind numbers i c n sent None h = tt
-told_behind numbers (item.Frame sasl own body payload) c n sent (Some d) h =
-    unless_left NoOrigin (behind_put numbers (item.Frame sasl own body payload) c n sent d) (none_behind numbers body sasl c own n payload sent d h)
-told_behind numbers _ c n sent (Some d) h = absurd cc
+told_after : (numbers : DeliveryName → Option ℕ) (i : Item) (c n : ℕ) (sent : ℕ → ℕ → Option ℕ) (v : Option Delivery) → tells i c v ≡ true
+    → WhileThere NoOrigin (option_and_then (λ d. unless_over (after_put numbers i c n sent d)) v)
+told_after numbers i c n sent None h = tt
+told_after numbers (item.Frame sasl own body payload) c n sent (Some d) h =
+    unless_left NoOrigin (after_put numbers (item.Frame sasl own body payload) c n sent d) (none_after numbers body sasl c own n payload sent d h)
+told_after numbers _ c n sent (Some d) h = absurd cc
 
 -- not reported again
 
@@ -127,7 +127,7 @@ put_spent c i t n was = by_test (tells i c (delivery t n)) (λ e. now e was) (λ
     now e (inl none) = inr (record {
       once = rw e (plus_one (tellings t n) none);
       given = there (delivery t n) refl e;
-      none = told_behind (number_named t) i c n (sending t c) (delivery t n) e;
+      none = told_after (number_named t) i c n (sending t c) (delivery t n) e;
     })
       where
         plus_one : (a : ℕ) → a ≡ 0 → a + 1 ≡ 1
@@ -248,9 +248,9 @@ uncalled_under c own id name (Some d) none = by (same_name d.name name)
 entry_under : (c own id : ℕ) (e : Entry) (t : List Entry) (n : ℕ) → n ≤ bindings t → WhileThere (NotUnder c own id) (delivery t n)
     → WhileThere (NotUnder c own id) (delivery (e ∷ t) n)
 entry_under c own id (Did s) t n given none =
-    not_under c own id (behind_event s.event (channels_found t) (named t) n) (event_left (WasUnder c own id) (was_left c own id) s.event (channels_found t) (named t) n) (delivery t n) none
+    not_under c own id (after_event s.event (channels_found t) (named t) n) (event_left (WasUnder c own id) (was_left c own id) s.event (channels_found t) (named t) n) (delivery t n) none
 entry_under c own id (Out d i) t n given none =
-    not_under c own id (behind_put (number_named t) i d n (sending t d)) (item_left (WasUnder c own id) (was_left c own id) (was_frames c own id) (number_named t) i d n (sending t d)) (delivery t n) none
+    not_under c own id (after_put (number_named t) i d n (sending t d)) (item_left (WasUnder c own id) (was_left c own id) (was_frames c own id) (number_named t) i d n (sending t d)) (delivery t n) none
 entry_under c own id (Took d k) t n given none = none
 entry_under c own id (Began g) t n given none = none
 entry_under c own id (Booked acts full) t n given none = none
@@ -295,9 +295,9 @@ pub told_anew : (t later : List Entry) (c own : ℕ) (sasl : Bool) (x : Disposit
 told_anew t later c own sasl x payload n role one given =
     later_under c own x.first later (Out c (item.Frame sasl own (perf.Disposition x) payload) ∷ t) n given (by (delivery t n))
   where
-    by : (v : Option Delivery) → WhileThere (NotUnder c own x.first) (option_and_then (λ d. unless_over (behind_put (number_named t) (item.Frame sasl own (perf.Disposition x) payload) c n (sending t c) d)) v)
+    by : (v : Option Delivery) → WhileThere (NotUnder c own x.first) (option_and_then (λ d. unless_over (after_put (number_named t) (item.Frame sasl own (perf.Disposition x) payload) c n (sending t c) d)) v)
     by None = tt
     by (Some d) =
-        unless_left (NotUnder c own x.first) (behind_put (number_named t) (item.Frame sasl own (perf.Disposition x) payload) c n (sending t c) d)
+        unless_left (NotUnder c own x.first) (after_put (number_named t) (item.Frame sasl own (perf.Disposition x) payload) c n (sending t c) d)
         (λ under. told_under x.role x c own d role one
         (ends_left (WasUnder c own x.first) (was_left c own x.first) false (ended_by (item.Frame sasl own (perf.Disposition x) payload) c) (told x.role x c own d) under))

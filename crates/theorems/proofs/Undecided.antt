@@ -1,4 +1,4 @@
--- A delivery that is undecided behind an entry was so before it, and the entry doesn't end its link; one whose producer isn't done with it behind an entry
+-- A delivery that is undecided after an entry was so before it, and the entry doesn't end its link; one whose producer isn't done with it after an entry
 -- came from that producer before, and the entry doesn't end the producer's link.
 use Rattle.std.proofs.Common.{◌≡◌, ◌∙◌, sym, ap, refl, subst, ℕ, Bool, true, false, not, ◌&&◌, ◌||◌, List, ◌∷◌, length, arith}
 use Rattle.std.specs.Prelude.{◌==◌, Option, Some, None, is_none, if◌then◌else◌}
@@ -21,7 +21,7 @@ use Rattle.router_trace.specs.declared.event.Event.TheVariants as event
 use Rattle.router_trace.specs.declared.handle.Attachment.{Attachment}
 use Rattle.router_trace.specs.Trace.{Entry, Did, Out, Step}
 use Rattle.router_trace.specs.Links.{is_lost}
-use Rattle.router_trace.specs.Deliveries.{Delivery, number_named, delivery, sending, named, source, untold, unsettled, failed, is_undecided, is_gone_with, behind_origin, behind_ends, ended, decided_at_end, suspended_at_end, closes, ended_by, put_in, behind_put, behind_frame, behind_event, told, is_meant, origin_id, is_number, carried, tag_in, decided, is_on, is_settled_at, disposed, heard_in, heard, lost_with, channels_found, sender, forsaken, either_origin}
+use Rattle.router_trace.specs.Deliveries.{Delivery, number_named, delivery, sending, named, source, untold, unsettled, failed, is_undecided, is_gone_with, after_origin, after_ends, ended, decided_at_end, suspended_at_end, closes, ended_by, put_in, after_put, after_frame, after_event, told, is_meant, origin_id, is_number, carried, tag_in, decided, is_on, is_settled_at, disposed, heard_in, heard, lost_with, channels_found, sender, forsaken, either_origin}
 use Rattle.theorems.proofs.Followed.{Left, Frames, item_left, event_left, Follows, item_follows, event_follows}
 use Rattle.theorems.proofs.Bindings.{of_what}
 use Rattle.theorems.proofs.Tests.{none_not_some}
@@ -76,25 +76,25 @@ ended_closed closed d = by_suspended d.suspended refl
 clash : false ≡ true → ⊥
 clash e = cc
 
-pub ends_spare : (closed : Bool) (gone : Attachment → Bool) (d : Delivery) → is_undecided (behind_ends closed gone d) ≡ true → gone d.link ≡ false
+pub ends_spare : (closed : Bool) (gone : Attachment → Bool) (d : Delivery) → is_undecided (after_ends closed gone d) ≡ true → gone d.link ≡ false
 ends_spare closed gone d h = by (gone d.link) refl h
   where
     undone : (b : Bool) (e : Delivery) → is_undecided (if b then forsaken e else e) ≡ true → is_undecided e ≡ true
     undone true e h = h
     undone false e h = h
 
-    by : (b : Bool) → gone d.link ≡ b → is_undecided (behind_origin gone (if b then ended closed d else d)) ≡ true → b ≡ false
+    by : (b : Bool) → gone d.link ≡ b → is_undecided (after_origin gone (if b then ended closed d else d)) ≡ true → b ≡ false
     by false is h = refl
     by true is h = absurd (clash (sym (ended_closed closed d) ∙ undone (is_gone_with gone (sender (ended closed d))) (ended closed d) h))
 
-origin_keeps : (gone : Attachment → Bool) (e : Delivery) (p : Origin) → source (behind_origin gone e) ≡ Some p → gone p.link ≡ false
+origin_keeps : (gone : Attachment → Bool) (e : Delivery) (p : Origin) → source (after_origin gone e) ≡ Some p → gone p.link ≡ false
 origin_keeps gone e p h = by (is_gone_with gone (sender e)) refl h
   where
     by : (b : Bool) → is_gone_with gone (sender e) ≡ b → source (if b then forsaken e else e) ≡ Some p → gone p.link ≡ false
     by true is h = absurd (none_not_some h)
     by false is h = sym (ap (λ (o : Option Origin). is_gone_with gone (either_origin o e.early)) h) ∙ is
 
-pub ends_keep : (closed : Bool) (gone : Attachment → Bool) (d : Delivery) (p : Origin) → source (behind_ends closed gone d) ≡ Some p → gone p.link ≡ false
+pub ends_keep : (closed : Bool) (gone : Attachment → Bool) (d : Delivery) (p : Origin) → source (after_ends closed gone d) ≡ Some p → gone p.link ≡ false
 ends_keep closed gone d p h = origin_keeps gone (if gone d.link then ended closed d else d) p h
 
 -- items that are put
@@ -106,7 +106,7 @@ never_ends false = refl
 put_link : (numbers : DeliveryName → Option ℕ) (body : Perf) (c own n : ℕ) (sent : ℕ → ℕ → Option ℕ) (count : ℕ) (d : Delivery) → (put_in numbers body c own n sent count d).link ≡ d.link
 put_link numbers (perf.Transfer x) c own n sent count d = by (is_number (carried numbers (tag_in x) (sent own x.handle)) n)
   where
-    by : (b : Bool) → (if b then behind_frame x count d else d).link ≡ d.link
+    by : (b : Bool) → (if b then after_frame x count d else d).link ≡ d.link
     by true = refl
     by false = refl
 put_link numbers (perf.Disposition x) c own n sent count d = by x.role (is_meant x (origin_id (source d) c own)) x.settled
@@ -121,14 +121,14 @@ put_link numbers (perf.Disposition x) c own n sent count d = by x.role (is_meant
     by Sender b s = refl
 put_link numbers _ c own n sent count d = refl
 
-pub put_spares : (numbers : DeliveryName → Option ℕ) (i : Item) (c n : ℕ) (sent : ℕ → ℕ → Option ℕ) (d : Delivery) → is_undecided (behind_put numbers i c n sent d) ≡ true
+pub put_spares : (numbers : DeliveryName → Option ℕ) (i : Item) (c n : ℕ) (sent : ℕ → ℕ → Option ℕ) (d : Delivery) → is_undecided (after_put numbers i c n sent d) ≡ true
     → ended_by i c d.link ≡ false
 put_spares numbers (item.Frame sasl own body payload) c n sent d h =
     ap (ended_by (item.Frame sasl own body payload) c) (sym (put_link numbers body c own n sent (length payload) d))
     ∙ ends_spare (closes body) (ended_by (item.Frame sasl own body payload) c) (put_in numbers body c own n sent (length payload) d) h
 put_spares numbers _ c n sent d h = never_ends (d.link.conn.0 == c)
 
-pub put_keeps : (numbers : DeliveryName → Option ℕ) (i : Item) (c n : ℕ) (sent : ℕ → ℕ → Option ℕ) (d : Delivery) (p : Origin) → source (behind_put numbers i c n sent d) ≡ Some p
+pub put_keeps : (numbers : DeliveryName → Option ℕ) (i : Item) (c n : ℕ) (sent : ℕ → ℕ → Option ℕ) (d : Delivery) (p : Origin) → source (after_put numbers i c n sent d) ≡ Some p
     → ended_by i c p.link ≡ false
 put_keeps numbers (item.Frame sasl own body payload) c n sent d p h =
     ends_keep (closes body) (ended_by (item.Frame sasl own body payload) c) (put_in numbers body c own n sent (length payload) d) p h
@@ -139,12 +139,12 @@ put_keeps numbers _ c n sent d p h = never_ends (p.link.conn.0 == c)
 abbrev Closes : (Delivery → Delivery) → Type 0
 Closes f = (d : Delivery) → is_undecided d ≡ false → is_undecided (f d) ≡ false
 
-ends_closed : (closed : Bool) (gone : Attachment → Bool) → Closes (behind_ends closed gone)
+ends_closed : (closed : Bool) (gone : Attachment → Bool) → Closes (after_ends closed gone)
 ends_closed closed gone d e =
     let on : is_undecided (if gone d.link then ended closed d else d) ≡ false = either_closed (gone d.link) (ended closed d) d (ended_closed closed d) e in
     either_closed (is_gone_with gone (sender (if gone d.link then ended closed d else d))) (forsaken (if gone d.link then ended closed d else d)) (if gone d.link then ended closed d else d) on on
 
-frame_closed : (x : Transfer) (count : ℕ) → Closes (behind_frame x count)
+frame_closed : (x : Transfer) (count : ℕ) → Closes (after_frame x count)
 frame_closed x count d e = by (d.presettled && not x.more)
   where
     by : (b : Bool) → (is_none (if b then Some state.Accepted else d.outcome) && not (d.presettled || d.suspended)) ≡ false
@@ -158,11 +158,11 @@ told_closed Sender x c o d e = e
 
 put_in_closed : (numbers : DeliveryName → Option ℕ) (body : Perf) (c own n : ℕ) (sent : ℕ → ℕ → Option ℕ) (count : ℕ) → Closes (put_in numbers body c own n sent count)
 put_in_closed numbers (perf.Transfer x) c own n sent count d e =
-    either_closed (is_number (carried numbers (tag_in x) (sent own x.handle)) n) (behind_frame x count d) d (frame_closed x count d e) e
+    either_closed (is_number (carried numbers (tag_in x) (sent own x.handle)) n) (after_frame x count d) d (frame_closed x count d e) e
 put_in_closed numbers (perf.Disposition x) c own n sent count d e = told_closed x.role x c own d e
 put_in_closed numbers _ c own n sent count d e = e
 
-put_closed : (numbers : DeliveryName → Option ℕ) (i : Item) (c n : ℕ) (sent : ℕ → ℕ → Option ℕ) → Closes (behind_put numbers i c n sent)
+put_closed : (numbers : DeliveryName → Option ℕ) (i : Item) (c n : ℕ) (sent : ℕ → ℕ → Option ℕ) → Closes (after_put numbers i c n sent)
 put_closed numbers (item.Frame sasl own body payload) c n sent d e =
     ends_closed (closes body) (ended_by (item.Frame sasl own body payload) c) (put_in numbers body c own n sent (length payload) d) (put_in_closed numbers body c own n sent (length payload) d e)
 put_closed numbers _ c n sent d e = e
@@ -182,7 +182,7 @@ heard_closed : (i : Item) (c : ℕ) (known : ℕ → Option PeerChannel) (names 
 heard_closed (item.Frame sasl channel body payload) c known names n d e = either_closed sasl d (heard_in body c (known channel) names n d) e (heard_in_closed body c (known channel) names n d e)
 heard_closed _ c known names n d e = e
 
-event_closed : (x : Event) (known : ℕ → ℕ → Option PeerChannel) (names : ℕ → ℕ → ℕ → Option ℕ) (n : ℕ) → Closes (behind_event x known names n)
+event_closed : (x : Event) (known : ℕ → ℕ → Option PeerChannel) (names : ℕ → ℕ → ℕ → Option ℕ) (n : ℕ) → Closes (after_event x known names n)
 event_closed (event.Item c i) known names n d e = heard_closed i c.0 (known c.0) (names c.0) n d e
 event_closed (event.Down c) known names n d e = ends_closed false (lost_with c.0) d e
 event_closed _ known names n d e = e
@@ -205,11 +205,11 @@ lost_by x a = is_lost x a.conn.0
 same_test : (a b : ℕ) → (a == b) ≡ false → (b == a) ≡ false
 same_test a b h = grind (arith, nat_tests)
 
-event_spares : (x : Event) (known : ℕ → ℕ → Option PeerChannel) (names : ℕ → ℕ → ℕ → Option ℕ) (n : ℕ) (d : Delivery) → is_undecided (behind_event x known names n d) ≡ true → lost_by x d.link ≡ false
+event_spares : (x : Event) (known : ℕ → ℕ → Option PeerChannel) (names : ℕ → ℕ → ℕ → Option ℕ) (n : ℕ) (d : Delivery) → is_undecided (after_event x known names n d) ≡ true → lost_by x d.link ≡ false
 event_spares (event.Down c) known names n d h = same_test d.link.conn.0 c.0 (ends_spare false (lost_with c.0) d h)
 event_spares _ known names n d h = refl
 
-event_keeps : (x : Event) (known : ℕ → ℕ → Option PeerChannel) (names : ℕ → ℕ → ℕ → Option ℕ) (n : ℕ) (d : Delivery) (p : Origin) → source (behind_event x known names n d) ≡ Some p
+event_keeps : (x : Event) (known : ℕ → ℕ → Option PeerChannel) (names : ℕ → ℕ → ℕ → Option ℕ) (n : ℕ) (d : Delivery) (p : Origin) → source (after_event x known names n d) ≡ Some p
     → lost_by x p.link ≡ false
 event_keeps (event.Down c) known names n d p h = same_test p.link.conn.0 c.0 (ends_keep false (lost_with c.0) d p h)
 event_keeps _ known names n d p h = refl
@@ -223,12 +223,12 @@ open_before f closes d e is open_now = by (is_undecided d) refl
 
 pub was_did : (s : Step) (t : List Entry) (n : ℕ) (e : Delivery) → delivery (Did s ∷ t) n ≡ Some e → Was (lost_by s.event) t n e
 was_did s t n e now =
-    let was = of_what (behind_event s.event (channels_found t) (named t) n) (delivery t n) e now
+    let was = of_what (after_event s.event (channels_found t) (named t) n) (delivery t n) e now
     in record {
       before = was.0;
       there = was.1;
       follows = subst (λ (f : Delivery). Follows was.0 f) (sym was.2) (event_follows s.event (channels_found t) (named t) n was.0);
-      undecided = open_before (behind_event s.event (channels_found t) (named t) n) (event_closed s.event (channels_found t) (named t) n) was.0 e was.2;
+      undecided = open_before (after_event s.event (channels_found t) (named t) n) (event_closed s.event (channels_found t) (named t) n) was.0 e was.2;
       comes = subst (λ (f : Delivery). Comes was.0 f) (sym was.2) (event_left Comes comes_left s.event (channels_found t) (named t) n was.0);
       spares = λ h. event_spares s.event (channels_found t) (named t) n was.0 (sym (ap is_undecided was.2) ∙ h);
       keeps = λ p h. event_keeps s.event (channels_found t) (named t) n was.0 p (sym (ap source was.2) ∙ h);
@@ -236,12 +236,12 @@ was_did s t n e now =
 
 pub was_out : (c : ℕ) (i : Item) (t : List Entry) (n : ℕ) (e : Delivery) → delivery (Out c i ∷ t) n ≡ Some e → Was (ended_by i c) t n e
 was_out c i t n e now =
-    let was = of_what (behind_put (number_named t) i c n (sending t c)) (delivery t n) e now
+    let was = of_what (after_put (number_named t) i c n (sending t c)) (delivery t n) e now
     in record {
       before = was.0;
       there = was.1;
       follows = subst (λ (f : Delivery). Follows was.0 f) (sym was.2) (item_follows (number_named t) i c n (sending t c) was.0);
-      undecided = open_before (behind_put (number_named t) i c n (sending t c)) (put_closed (number_named t) i c n (sending t c)) was.0 e was.2;
+      undecided = open_before (after_put (number_named t) i c n (sending t c)) (put_closed (number_named t) i c n (sending t c)) was.0 e was.2;
       comes = subst (λ (f : Delivery). Comes was.0 f) (sym was.2) (item_left Comes comes_left comes_frames (number_named t) i c n (sending t c) was.0);
       spares = λ h. put_spares (number_named t) i c n (sending t c) was.0 (sym (ap is_undecided was.2) ∙ h);
       keeps = λ p h. put_keeps (number_named t) i c n (sending t c) was.0 p (sym (ap source was.2) ∙ h);

@@ -7,7 +7,7 @@ use Rattle.amqp_session.specs.declared.states.BeginState.{BeginState}
 use Rattle.router_trace.specs.declared.terms.Terms.{Terms}
 use Rattle.router_trace.specs.Trace.{Entry, Did, Out, Took, Bound, Booked, Began, Put, goes, ups, with_up}
 use Rattle.router_trace.specs.Clocks.{moment, moment_at, terms, terms_at, written, written_at, needs_beat, channel_max_of}
-use Rattle.router_trace.specs.Sessions.{unless_close, offered, offered_at, answered_channel, answered_at, answered_by, theirs, theirs_at, theirs_behind, session, session_at, behind_item, place, place_by, free_channel, is_free, channels}
+use Rattle.router_trace.specs.Sessions.{unless_close, offered, offered_at, answered_channel, answered_at, answered_by, theirs, theirs_at, theirs_after, session, session_at, after_item, place, place_by, free_channel, is_free, channels}
 use Rattle.state_sessions.specs.Windows.{flows_below, windows_over}
 use Rattle.router_state.specs.Tables.{beat_if, beats_over}
 use Rattle.reply_rows.specs.Finding.{free_for}
@@ -87,7 +87,7 @@ same_answered (Began g ∷ t) c o = same_answered t c o
 pub same_theirs : (t : List Entry) (c p : ℕ) → theirs t c p ≡ theirs (untaken t) c p
 same_theirs [] c p = refl
 same_theirs (Did s ∷ t) c p = ap (theirs_at s.event c p) (same_theirs t c p)
-same_theirs (Out d i ∷ t) c p = λ j. if d == c then theirs_behind i p (λ o. same_answered t c o j) (same_theirs t c p j) else same_theirs t c p j
+same_theirs (Out d i ∷ t) c p = λ j. if d == c then theirs_after i p (λ o. same_answered t c o j) (same_theirs t c p j) else same_theirs t c p j
 same_theirs (Took d n ∷ t) c p = same_theirs t c p
 same_theirs (Bound b ∷ t) c p = same_theirs t c p
 same_theirs (Booked acts full ∷ t) c p = same_theirs t c p
@@ -96,7 +96,7 @@ same_theirs (Began g ∷ t) c p = same_theirs t c p
 pub same_session : (t : List Entry) (c o : ℕ) → session t c o ≡ session (untaken t) c o
 same_session [] c o = refl
 same_session (Did s ∷ t) c o = λ j. session_at s.event c o (λ p. same_theirs t c p j) (same_session t c o j)
-same_session (Out d i ∷ t) c o = λ j. if d == c then behind_item i o (same_offered t c j) (same_session t c o j) else same_session t c o j
+same_session (Out d i ∷ t) c o = λ j. if d == c then after_item i o (same_offered t c j) (same_session t c o j) else same_session t c o j
 same_session (Took d n ∷ t) c o = same_session t c o
 same_session (Bound b ∷ t) c o = same_session t c o
 same_session (Booked acts full ∷ t) c o = same_session t c o

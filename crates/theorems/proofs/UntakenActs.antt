@@ -39,7 +39,7 @@ use Rattle.state_links.specs.Fits.{channel_of}
 use Rattle.state_deliveries.specs.declared.change.Change.{Change}
 use Rattle.state_deliveries.specs.Deciding.{gathered_below, decision_of, decided_rows, row_from, rows_from}
 use Rattle.state_deliveries.specs.Hearing.{heard_change}
-use Rattle.state_messages.specs.Passing.{consumer_of}
+use Rattle.state_messages.specs.Messages.{consumer_of}
 use Rattle.reply_rows.specs.declared.answer.Answer.{Answer}
 use Rattle.reply_rows.specs.declared.answer.Answer.TheVariants.{Nothing, Attach, Detach, Taken}
 use Rattle.reply_rows.specs.Booking.{answer_at}
@@ -96,7 +96,7 @@ plain_full j x e = exceeds j.used (reserve j.book) (plain_event_acts false j.boo
 abbrev pub plain_acts : Journaled → List Entry → Event → List Act
 plain_acts j x e = plain_event_acts (plain_full j x e) j.book x e
 
--- the same behind its acts, and the answer to an item there
+-- the same after its acts, and the answer to an item there
 abbrev pub plain_full_at : List Entry → Event → Bool
 plain_full_at x e = plain_full (found_journal x) (before_acts x) e
 
@@ -300,7 +300,7 @@ same_acts t e calm none =
     ∙ same_event_acts (plain_full (journaled (untaken t)) (untaken t) e) (book_in t) t e calm none
     ∙ ap (λ (j : Journaled). plain_event_acts (plain_full (journaled (untaken t)) (untaken t) e) j.book (untaken t) e) (same_journaled t)
 
--- the answer to an item, behind the acts
+-- the answer to an item, after the acts
 pub same_answer : (t : List Entry) (c : ℕ) (p : Conn) (i : Item) → found_journal t ≡ found_journal (untaken t)
     → full_at t (event.Item (record { 0 = c }) i) ≡ plain_full_at (untaken t) (event.Item (record { 0 = c }) i) → answer_of t c p i ≡ plain_answer_of (untaken t) c p i
 same_answer t c p i journal full =

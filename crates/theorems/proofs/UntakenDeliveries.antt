@@ -7,9 +7,9 @@ use Rattle.router_trace.specs.declared.binding.Origin.{Origin}
 use Rattle.router_trace.specs.declared.handle.Attachment.{Attachment}
 use Rattle.router_trace.specs.Trace.{Entry, Did, Out, Took, Bound, Booked, Began}
 use Rattle.router_trace.specs.Links.{is_lost, has_number, attachments, newest_by, numbered}
-use Rattle.router_trace.specs.Deliveries.{Delivery, none_if_ended, ended_first, channels_found, bindings, counters, name_of, name_in, same_name, number_named, unless_called, delivery, bound, unless_over, behind_event, behind_put, sending_by, sending, named_by, named, next_id_by, next_id, stands_on}
+use Rattle.router_trace.specs.Deliveries.{Delivery, none_if_ended, ended_first, channels_found, bindings, counters, name_of, name_in, same_name, number_named, unless_called, delivery, bound, unless_over, after_event, after_put, sending_by, sending, named_by, named, next_id_by, next_id, stands_on}
 use Rattle.router_trace.specs.DeliveryFrames.{next_frame, largest_out, rest_of, first_transfer, later_transfer}
-use Rattle.router_trace.specs.Claims.{Claim, bind_claim, claim_at, claim_behind, claims}
+use Rattle.router_trace.specs.Claims.{Claim, bind_claim, claim_at, claim_after, claims}
 use Rattle.router_trace.specs.Numbers.{Placed, first_below, first_placed}
 use Rattle.router_trace.specs.Following.{is_still_attached, is_to_be_told, tell, tells_of, tells, goes_on_at, is_going, takes_more, is_going_on, is_busy, is_open, is_used, can_start, is_wide, is_there, can_go, place_to_go, send, send_of, sends_due, is_unsent_on, owes_one, place_drained, drain_on, drain_by, drains_due}
 use Rattle.theorems.specs.Takes.{untaken}
@@ -90,8 +90,8 @@ same_channels t c p = λ j. none_if_ended (same_ended t j) c (same_theirs t c p 
 pub same_delivery : (t : List Entry) (n : ℕ) → delivery t n ≡ delivery (untaken t) n
 same_delivery [] n = refl
 same_delivery (Did s ∷ t) n =
-    λ j. option_and_then (λ d. unless_over (behind_event s.event (λ c p. same_channels t c p j) (λ c o id. same_named t c o id j) n d)) (same_delivery t n j)
-same_delivery (Out c i ∷ t) n = λ j. option_and_then (λ d. unless_over (behind_put (λ name. same_numbers t name j) i c n (λ o h. same_sending t c o h j) d)) (same_delivery t n j)
+    λ j. option_and_then (λ d. unless_over (after_event s.event (λ c p. same_channels t c p j) (λ c o id. same_named t c o id j) n d)) (same_delivery t n j)
+same_delivery (Out c i ∷ t) n = λ j. option_and_then (λ d. unless_over (after_put (λ name. same_numbers t name j) i c n (λ o h. same_sending t c o h j) d)) (same_delivery t n j)
 same_delivery (Took c k ∷ t) n = same_delivery t n
 same_delivery (Bound b ∷ t) n = λ j. if same_bindings t j + 1 == n then Some (bound (same_name_in t b j) b) else unless_called (same_name_in t b j) (same_delivery t n j)
 same_delivery (Booked acts full ∷ t) n = same_delivery t n
@@ -101,7 +101,7 @@ pub same_claims : (t : List Entry) (c o id : ℕ) → claims t c o id ≡ claims
 same_claims [] c o id = refl
 same_claims (Did s ∷ t) c o id =
     λ j. claim_at s.event c o (λ p. same_theirs t c p j) (λ p. same_handle t c o p j) (λ h. same_link t c o h j) id (same_claims t c o id j)
-same_claims (Out d i ∷ t) c o id = ap (λ (v : Option Claim). if d == c then claim_behind i o id v else v) (same_claims t c o id)
+same_claims (Out d i ∷ t) c o id = ap (λ (v : Option Claim). if d == c then claim_after i o id v else v) (same_claims t c o id)
 same_claims (Took d n ∷ t) c o id = same_claims t c o id
 same_claims (Bound b ∷ t) c o id = ap (bind_claim b.origin c o id) (same_claims t c o id)
 same_claims (Booked acts full ∷ t) c o id = same_claims t c o id

@@ -14,7 +14,7 @@ use Rattle.router_trace.specs.Following.{link_of}
 use Rattle.router_trace.specs.Numbers.{count_below}
 use Rattle.state_messages.specs.declared.grant.LinkGrant.{LinkGrant}
 use Rattle.state_messages.specs.Figures.{waiting, undecided, held, free_of, unused_credit, figure_by, figure_on, figure_at, figure}
-use Rattle.state_messages.specs.Passing.{is_of, last_chosen, pool_of, choice_of, grant_on, grant_at, grants_on, if_some, wants, lowest_below, grants_of_address, grants, grant_flow, grant_flows, grants_due}
+use Rattle.state_messages.specs.Messages.{is_of, last_chosen, pool_of, choice_of, grant_on, grant_at, grants_on, if_some, wants, lowest_below, grants_of_address, grants, grant_flow, grant_flows, grants_due}
 use Rattle.theorems.specs.Takes.{untaken}
 use Rattle.theorems.proofs.Untaken.{same_session}
 use Rattle.theorems.proofs.UntakenLinks.{same_attachments, same_link}

@@ -5,7 +5,7 @@ use Rattle.amqp_model.specs.declared.perf.Attach.{Attach as AnAttach}
 use Rattle.router_trace.specs.declared.handle.Asked.{Asked}
 use Rattle.router_trace.specs.declared.handle.Attachment.{Attachment}
 use Rattle.router_trace.specs.Trace.{Entry, Did, Out, Took, Bound, Booked, Began}
-use Rattle.router_trace.specs.Links.{Link, durable_key, is_durable_at, holds_durable, asked, asked_at, is_lost, answers_by, answered_handle, their_handle_at, their_handle_behind, their_handle, is_taken, attachments, key_of, key_at, link_at, link_behind, link, has_number, if_attached, same_key, newest_by, last_of_key, holder, link_place_by, link_place, handle_max_at, told_handle_max, most_behind, highest_handle, is_free_handle, first_free_below, free_handle}
+use Rattle.router_trace.specs.Links.{Link, durable_key, is_durable_at, holds_durable, asked, asked_at, is_lost, answers_by, answered_handle, their_handle_at, their_handle_after, their_handle, is_taken, attachments, key_of, key_at, link_at, link_after, link, has_number, if_attached, same_key, newest_by, last_of_key, holder, link_place_by, link_place, handle_max_at, told_handle_max, most_after, highest_handle, is_free_handle, first_free_below, free_handle}
 use Rattle.router_trace.specs.Peers.{user_at, user, container_at, Container, container, largest_frame}
 use Rattle.router_trace.specs.Sessions.{unless_close}
 use Rattle.theorems.specs.Takes.{untaken}
@@ -61,7 +61,7 @@ pub same_handle : (t : List Entry) (c o p : ℕ) → their_handle t c o p ≡ th
 same_handle [] c o p = refl
 same_handle (Did s ∷ t) c o p = λ j. their_handle_at s.event c o p (λ q. same_theirs t c q j) (same_handle t c o p j)
 same_handle (Out d i ∷ t) c o p =
-    λ j. if d == c then their_handle_behind i o p (λ h. same_answers t c o h j) (same_asked t c j) (same_handle t c o p j) else same_handle t c o p j
+    λ j. if d == c then their_handle_after i o p (λ h. same_answers t c o h j) (same_asked t c j) (same_handle t c o p j) else same_handle t c o p j
 same_handle (Took d n ∷ t) c o p = same_handle t c o p
 same_handle (Bound b ∷ t) c o p = same_handle t c o p
 same_handle (Booked acts full ∷ t) c o p = same_handle t c o p
@@ -79,7 +79,7 @@ same_told (Began g ∷ t) c = same_told t c
 same_highest : (t : List Entry) (c o : ℕ) → highest_handle t c o ≡ highest_handle (untaken t) c o
 same_highest [] c o = refl
 same_highest (Did s ∷ t) c o = ap (λ (v : Option ℕ). if is_lost s.event c then None else v) (same_highest t c o)
-same_highest (Out d i ∷ t) c o = λ j. if d == c then most_behind i o (same_told t c j) (same_highest t c o j) else same_highest t c o j
+same_highest (Out d i ∷ t) c o = λ j. if d == c then most_after i o (same_told t c j) (same_highest t c o j) else same_highest t c o j
 same_highest (Took d n ∷ t) c o = same_highest t c o
 same_highest (Bound b ∷ t) c o = same_highest t c o
 same_highest (Booked acts full ∷ t) c o = same_highest t c o
@@ -104,7 +104,7 @@ pub same_link : (t : List Entry) (c o h : ℕ) → link t c o h ≡ link (untake
 same_link [] c o h = refl
 same_link (Did s ∷ t) c o h = λ j. link_at s.event c o h (λ q. same_theirs t c q j) (λ p. same_handle t c o p j) (same_link t c o h j)
 same_link (Out d i ∷ t) c o h =
-    λ j. if d == c then link_behind i o h (same_attachments t j + 1) (λ a. same_key_at t c a j) (same_asked t c j) (same_link t c o h j) else same_link t c o h j
+    λ j. if d == c then link_after i o h (same_attachments t j + 1) (λ a. same_key_at t c a j) (same_asked t c j) (same_link t c o h j) else same_link t c o h j
 same_link (Took d n ∷ t) c o h = same_link t c o h
 same_link (Bound b ∷ t) c o h = same_link t c o h
 same_link (Booked acts full ∷ t) c o h = same_link t c o h

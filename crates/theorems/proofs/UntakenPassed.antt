@@ -4,7 +4,7 @@ use Rattle.std.specs.Prelude.{Option, Some, None}
 use Rattle.router_trace.specs.declared.binding.Binding.{Binding}
 use Rattle.router_trace.specs.Trace.{Entry, Put, goes}
 use Rattle.router_trace.specs.Following.{tells, sends_due, drains_due}
-use Rattle.state_messages.specs.Passing.{grants_due, with_bound}
+use Rattle.state_messages.specs.Messages.{grants_due, with_bound}
 use Rattle.router_after.specs.After.{told, sent, drained}
 use Rattle.theorems.specs.Takes.{untaken}
 use Rattle.router_core.proofs.Following.{due_alike, passed_on}

@@ -30,14 +30,14 @@ use Rattle.router_trace.specs.Deliveries.{terminal, last_of, named, tag_in}
 use Rattle.router_trace.specs.DeliveryFrames.{outcome_item}
 use Rattle.router_trace.specs.Numbers.{count_below, first_below}
 use Rattle.router_trace.specs.Settling.{ids_between, is_open_as, names_open, is_open_id, is_of_link, is_unbound_on, unbound, is_tagged_on, uses_tag, middle_on, part_of}
-use Rattle.state_messages.specs.Passing.{consumer_of, lasts, binding_to, passing}
+use Rattle.state_messages.specs.Messages.{consumer_of, lasts, binding_to, binding_for}
 use Rattle.reply_rows.specs.declared.answer.Answer.{Answer}
 use Rattle.reply_rows.specs.declared.answer.Answer.TheVariants.{Attach, Detach, Refuse, Taken, Settle}
 use Rattle.reply_rows.specs.Rows.{Finds, said, item_reply}
 use Rattle.reply_rows.specs.Finding.{finds}
 use Rattle.reply_rows.specs.Booking.{wants_durable, wanted_address, new_terminus, has_room, durable_refusal, volatile_refusal, book_refusal, booked_attach, stands_from, repeats, booked_transfer, booked, answer_at}
 use Rattle.reply_transfers.specs.Transfers.{claimed_id, settled_answers, from_link, origin_of, lasts_on, may_pass, consumer_for, fresh_bound, whole_bound, let_go, unless_many, ignored_put, released_by, released, unbound_put, whole_put, part_put, part_bound}
-use Rattle.router_reply.specs.Replies.{stolen_by, attach_answer, taken_behind, taken, refused, row_found, bound_for, links_put, item_put}
+use Rattle.router_reply.specs.Replies.{stolen_by, attach_answer, taken_after, taken, refused, row_found, bound_for, links_put, item_put}
 use Rattle.theorems.specs.Takes.{untaken}
 use Rattle.theorems.proofs.Untaken.{untaken_goes, same_place, same_free}
 use Rattle.theorems.proofs.UntakenDeliveries.{same_named, same_delivery, same_claims, same_numbered}
@@ -90,16 +90,16 @@ same_answer_at full b t c p i =
 
 -- an attach
 
-same_taken_behind : (t : List Entry) (c own : ℕ) (a : AnAttach) (stolen : List Put) → taken_behind t c own a stolen ≡ taken_behind (untaken t) c own a stolen
-same_taken_behind t c own a stolen = λ j. stolen ++ each_to c (attach_answer (same_largest t c j) own (behind j) a)
+same_taken_after : (t : List Entry) (c own : ℕ) (a : AnAttach) (stolen : List Put) → taken_after t c own a stolen ≡ taken_after (untaken t) c own a stolen
+same_taken_after t c own a stolen = λ j. stolen ++ each_to c (attach_answer (same_largest t c j) own (behind j) a)
   where
     behind : free_handle (goes stolen t) c own ≡ free_handle (goes stolen (untaken t)) c own
     behind = same_free_handle (goes stolen t) c own ∙ ap (λ (u : List Entry). free_handle u c own) (untaken_goes stolen t)
 
 same_taken : (t : List Entry) (c own : ℕ) (a : AnAttach) → taken t c own a ≡ taken (untaken t) c own a
 same_taken t c own a =
-    same_taken_behind t c own a (stolen_by (holder t (key_at t c (answer_to a 0))))
-    ∙ ap (λ (x : Option Attachment). taken_behind (untaken t) c own a (stolen_by x)) (same_holder t c (answer_to a 0))
+    same_taken_after t c own a (stolen_by (holder t (key_at t c (answer_to a 0))))
+    ∙ ap (λ (x : Option Attachment). taken_after (untaken t) c own a (stolen_by x)) (same_holder t c (answer_to a 0))
 
 -- a whole delivery
 
@@ -165,9 +165,9 @@ same_binding : (t : List Entry) (origin : Option Origin) (row : Option RowNumber
 same_binding t origin row format payload at =
     λ j. record { consumer = at; origin = origin; row = row; lasting = same_lasts t at j; format = format; payload = payload }
 
-same_passing : (t : List Entry) (from : Attachment) (origin : Option Origin) (row : Option RowNumber) (format : ℕ) (payload : List ℕ)
-    → passing t from origin row format payload ≡ passing (untaken t) from origin row format payload
-same_passing t from origin row format payload =
+same_binding_for : (t : List Entry) (from : Attachment) (origin : Option Origin) (row : Option RowNumber) (format : ℕ) (payload : List ℕ)
+    → binding_for t from origin row format payload ≡ binding_for (untaken t) from origin row format payload
+same_binding_for t from origin row format payload =
     λ j. option_map (λ at. same_binding t origin row format payload at j) (same_consumer_at t from.conn.0 from.channel from.handle j)
 
 same_fresh : (t : List Entry) (c own handle : ℕ) (d : Told) (row : Option RowNumber) (payload : List ℕ) (l : Option Link)
@@ -175,8 +175,8 @@ same_fresh : (t : List Entry) (c own handle : ℕ) (d : Told) (row : Option RowN
 same_fresh t c own handle d row payload None = refl
 same_fresh t c own handle d row payload (Some l) =
     λ j. if may_pass (lasts_on (same_link t c own handle j)) (same_claimed_id t c own handle d.id j) row
-    then (same_passing t from (option_map (origin_of from) (claimed_id t c own handle d.id)) row (unwrap_or d.format 0) payload
-    ∙ ap (λ (q : Option ℕ). passing (untaken t) from (option_map (origin_of from) q) row (unwrap_or d.format 0) payload) (same_claimed_id t c own handle d.id)) j
+    then (same_binding_for t from (option_map (origin_of from) (claimed_id t c own handle d.id)) row (unwrap_or d.format 0) payload
+    ∙ ap (λ (q : Option ℕ). binding_for (untaken t) from (option_map (origin_of from) q) row (unwrap_or d.format 0) payload) (same_claimed_id t c own handle d.id)) j
     else None
   where
     from : Attachment

@@ -21,7 +21,7 @@ abbrev pub IsFromTerminus : Option Origin → Trace → BookView → TerminusNum
 IsFromTerminus None t book n = ⊥
 IsFromTerminus (Some p) t book n = terminus_for book (durable_key (link_of t p.link)) ≡ Some n
 
--- A message with a row is bound behind the event that completed it, and before that event stands one act: the book admits the message, under the row, whose
+-- A message with a row is bound after the event that completed it, and before that event stands one act: the book admits the message, under the row, whose
 -- number is new. It is what came and is bound: an unsettled delivery on the durable link of the producer, for the same consumer, with its tag and its payload.
 pub record IsAdmitted (t : Trace) (b : Binding) (row : RowNumber) : Type 0 where
   pub conn : ℕ

@@ -18,7 +18,7 @@ use Rattle.router_trace.specs.Deliveries.{Delivery, delivery as delivery_in}
 use Rattle.router_trace.specs.Sessions.{theirs}
 use Rattle.router_trace.specs.Links.{Link, receives, link, link_place, on}
 use Rattle.router_trace.specs.Settling.{is_claimed_on}
-use Rattle.state_messages.specs.Passing.{consumer_of, lasts}
+use Rattle.state_messages.specs.Messages.{consumer_of, lasts}
 use Rattle.reply_transfers.specs.Transfers.{claimed_id, from_link, lasts_on}
 use Rattle.router_reply.specs.Replies.{row_found}
 use Rattle.theorems.specs.OneConsumer.{IsOfMessage}

@@ -28,7 +28,7 @@ stopping seen may_leave moment left_since =
 abbrev pub JournalStands : {D : Type 0} → Stopping D → Core D → Type 0
 JournalStands d core = Stands d.seen d.may_leave (store_of core)
 
--- A stop at any moment, before, within or after any call of the disk, leaves a file that opens to the book behind
+-- A stop at any moment, before, within or after any call of the disk, leaves a file that opens to the book after
 -- some first events, or to that book after the acts of the next one.
 abbrev pub AnyMomentLeavesAPrefix : {D : Type 0} → Stopping D → Core D → List Event → Core D → Type 0
 AnyMomentLeavesAPrefix d old events new =
@@ -40,7 +40,7 @@ abbrev pub AllOpenTo : {D : Type 0} → Stopping D → Core D → Trace → Type
 AllOpenTo d core u = (file : List ℕ) → d.may_leave (disk_of (store_of core)) file → OpensTo file (book_in u)
 
 -- Where no fault was answered the journal stands at the end, and each file that a stop leaves opens to the book
--- behind all events.
+-- after all events.
 abbrev pub TheEndLeavesAll : {D : Type 0} → Stopping D → Core D → List Event → Core D → Driven → Type 0
 TheEndLeavesAll d old events new driven =
     driven.fault ≡ None → JournalStands d old

@@ -24,8 +24,8 @@ use Rattle.theorems.specs.Takes.{SameWheneverTaken}
 use Rattle.theorems.specs.Told.{ToldAtMostOnce, ToldAnew, TellsAsGiven}
 use Rattle.theorems.specs.Windows.{WindowKept}
 
--- Stopped at any moment, the journal opens to the book behind some first events, or behind the next one too; at the
--- end, if no fault was answered, to the book behind all of them.
+-- Stopped at any moment, the journal opens to the book after some first events, or after the next one too; at the
+-- end, if no fault was answered, to the book after all of them.
 abbrev pub AStopLeavesAPrefix : {D : Type 0} → Stopping D → Core D → List Event → Core D → Driven → Type 0
 AStopLeavesAPrefix d old es new driven = AnyMomentLeavesAPrefix d old es new × TheEndLeavesAll d old es new driven
 

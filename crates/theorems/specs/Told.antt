@@ -17,7 +17,7 @@ use Rattle.router_trace.specs.Deliveries.{Delivery, has_row, bindings, delivery,
 use Rattle.router_trace.specs.DeliveryFrames.{kept_outcome}
 use Rattle.router_trace.specs.Links.{Link, link}
 use Rattle.router_trace.specs.Settling.{is_claimed_on}
-use Rattle.state_messages.specs.Passing.{consumer_of}
+use Rattle.state_messages.specs.Messages.{consumer_of}
 use Rattle.reply_transfers.specs.Transfers.{lasts_on}
 use Rattle.router_reply.specs.Replies.{row_found}
 use Rattle.theorems.specs.OneConsumer.{WhileThere}

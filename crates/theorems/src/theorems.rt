@@ -19,8 +19,8 @@ use router_trace::Event;
 use std::alloc::Global;
 
 /// Handles events as `drive` does. Stopped at any moment, before, within or after any call of the disk, whatever the
-/// call answers, the journal opens to the book of durable links and messages behind some first events, or to that
-/// book after the acts of the event that comes next. If no fault is answered it opens, at the end, to the book behind
+/// call answers, the journal opens to the book of durable links and messages after some first events, or to that
+/// book after the acts of the event that comes next. If no fault is answered it opens, at the end, to the book after
 /// all of them, and the journal stands for the next call.
 pub fn a_stop_leaves_a_prefix<D: Disk>(
     alloc: Global,

@@ -1,7 +1,7 @@
 use Rattle.std.proofs.Common.{◌∙◌, sym, ap, subst, List, ◌++◌}
 use Rattle.core_player.specs.declared.line.Line.{Line}
 use Rattle.core_player.specs.Telling.{TellsOf}
-use Rattle.core_player.proofs.Telling.{tells_behind}
+use Rattle.core_player.proofs.Telling.{tells_after}
 use Rattle.core_player.proofs.player.play.Goals as goal
 
 pub returns-clause-plays : goal.returns-clause-plays
@@ -13,7 +13,7 @@ returns-clause-plays g c = λ none from fresh.
 pub returns-clause-told : goal.returns-clause-told
 returns-clause-told g c =
     subst (λ (ls : List Line). TellsOf c.run-played.new.self.fault ls) (sym c.in_ok-append.ensures)
-    (tells_behind c.run-played.new.self.fault c.args.lines.now.items c.run-played.new.self.lines.items (c.in_ok-played.ensures.tells (c.new-player.ensures.tells c.requires.works)).told)
+    (tells_after c.run-played.new.self.fault c.args.lines.now.items c.run-played.new.self.lines.items (c.in_ok-played.ensures.tells (c.new-player.ensures.tells c.requires.works)).told)
 
 pub returns-clause-more : goal.returns-clause-more
 returns-clause-more g c = (c.run-played.new.self.lines.items, c.in_ok-append.ensures)

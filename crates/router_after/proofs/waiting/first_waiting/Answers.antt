@@ -23,5 +23,5 @@ loop-turn-preserved c = λ t fit.
     let passes : ℕ → Bool = λ n. waits_at c.args.place (delivery t n) in
     let wide : ℕ → Bool = λ n. is_unsent_on c.args.place.number (delivery t n) in
     onward wide passes c.loop-turn.last c.in-Some.number (λ m e. unsent c.args.place (delivery t m) e) (c.loop-turn.invariant t fit)
-    (subst (IsFirst (λ m. is_above c.loop-turn.last m && wide m)) c.in-Some.is (c.unsent_behind.ensures t fit))
+    (subst (IsFirst (λ m. is_above c.loop-turn.last m && wide m)) c.in-Some.is (c.unsent_after.ensures t fit))
     (sym (c.if-is_waiting.ensures t fit))

@@ -1,7 +1,7 @@
 use Rattle.std.proofs.Common.{sym, subst, List}
 use Rattle.router_trace.specs.Trace.{Put, goes}
 use Rattle.router_state.specs.Tables.{TablesFit}
-use Rattle.router_reply.proofs.Behind.{unattached}
+use Rattle.router_reply.proofs.After.{unattached}
 use Rattle.router_reply.proofs.attaching.answer_item.Goals as goal
 
 pub returns-in_default : goal.returns-in_default

@@ -5,13 +5,13 @@ use Rattle.amqp_conn.specs.declared.conn.Conn.{Conn}
 use Rattle.router_trace.specs.Trace.{Entry}
 use Rattle.router_state.specs.Tables.{TablesFit}
 use Rattle.router_reply.specs.Acts.{answer_of, answer_by}
-use Rattle.router_reply.proofs.Behind.{behind_item, decided}
+use Rattle.router_reply.proofs.After.{after_item, decided}
 use Rattle.router_reply.proofs.events.on_item.Goals as goal
 
 pub returns-in_default : goal.returns-in_default
 returns-in_default c = λ t after fit answered row heard.
     let gone : c.args.heard.now.phase ≡ None = search rules in
-    subst (λ (p : Option Conn). TablesFit c.args.state.now (behind_item c.args.id.now t after c.args.conn.0 c.args.item p)) (sym gone ∙ heard.phase) fit
+    subst (λ (p : Option Conn). TablesFit c.args.state.now (after_item c.args.id.now t after c.args.conn.0 c.args.item p)) (sym gone ∙ heard.phase) fit
 
 pub returns : goal.returns
 returns c = on_ok_weaker c.answer_item.result

@@ -1,6 +1,6 @@
 use Rattle.std.proofs.Common.{rules, ◌≡◌, ◌<◌, ◌≤◌, ◌^◌, ◌||◌, ℕ}
 use Rattle.amqp_session.specs.Ranges.{has}
-use Rattle.state_collections.specs.Slots.{is_listed}
+use Rattle.state_collections.specs.NumberMap.{is_listed}
 use Rattle.state_collections.proofs.Ids.{straight_listed, wrapped_listed}
 use Rattle.state_collections.proofs.by_session.numbers_in.Goals as goal
 

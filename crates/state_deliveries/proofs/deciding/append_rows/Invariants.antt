@@ -1,10 +1,10 @@
 use Rattle.std.proofs.Common.{◌≡◌, ◌++◌}
 use Rattle.std.specs.List.{flat_map}
-use Rattle.state_collections.specs.Slots.{in_slots}
+use Rattle.state_collections.specs.NumberMap.{at_number}
 use Rattle.state_deliveries.specs.Deciding.{row_from}
 use Rattle.state_deliveries.proofs.deciding.append_rows.Given as goal
 
 -- the rows so far, and those of the remaining numbers
 abbrev pub invariant-loop-number : goal.invariant-loop-number
-invariant-loop-number l = l.rows.items ++ flat_map (λ n. row_from l.conn l.own l.first l.last (in_slots l.store.deliveries n)) l.number-iterator
-    ≡ l.fn.rows.items ++ flat_map (λ n. row_from l.conn l.own l.first l.last (in_slots l.store.deliveries n)) l.numbers.keys
+invariant-loop-number l = l.rows.items ++ flat_map (λ n. row_from l.conn l.own l.first l.last (at_number l.store.deliveries n)) l.number-iterator
+    ≡ l.fn.rows.items ++ flat_map (λ n. row_from l.conn l.own l.first l.last (at_number l.store.deliveries n)) l.numbers.keys

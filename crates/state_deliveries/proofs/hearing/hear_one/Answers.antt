@@ -1,6 +1,6 @@
 use Rattle.std.proofs.Common.{rules, ◌<◌, ◌^◌}
 use Rattle.state_collections.specs.Ids.{at_id}
-use Rattle.state_collections.specs.Slots.{in_slots}
+use Rattle.state_collections.specs.NumberMap.{at_number}
 use Rattle.state_collections.proofs.Results.{on_ok}
 use Rattle.router_trace.specs.Deliveries.{is_number}
 use Rattle.state_deliveries.proofs.Picked.{decided_one}
@@ -12,5 +12,5 @@ returns-then-first-last-clause-deliveries c =
     on_ok c.decide.result
     (λ decided kept indexed small n.
     decided_one c.args.change.now c.in-Decided.conn c.in-Decided.own c.in-Decided.first c.in-Decided.last c.in-Decided.outcome (at_id c.args.names.now.ids) n
-    (is_number c.picked.result n) (in_slots c.args.store.now.deliveries n) _ c.in-Decided.is few c.if-first-last.true (small c.in-Decided.conn c.in-Decided.own) (c.picked.ensures n) (decided n))
+    (is_number c.picked.result n) (at_number c.args.store.now.deliveries n) _ c.in-Decided.is few c.if-first-last.true (small c.in-Decided.conn c.in-Decided.own) (c.picked.ensures n) (decided n))
     c.decide.ensures.deliveries

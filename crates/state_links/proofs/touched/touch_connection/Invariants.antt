@@ -1,7 +1,7 @@
 use Rattle.std.proofs.Common.{◌≡◌, ℕ}
 use Rattle.std.specs.Prelude.{◌||◌}
 use Rattle.std.specs.List.{list_any}
-use Rattle.state_collections.specs.Marks.{has}
+use Rattle.state_collections.specs.NumberSet.{has}
 use Rattle.state_links.specs.Touching.{in_session, in_connection}
 use Rattle.state_links.proofs.touched.touch_connection.Given as goal
 

@@ -5,7 +5,7 @@ use Rattle.router_trace.specs.Configuration.{distribution}
 use Rattle.router_trace.specs.Links.{attachments}
 use Rattle.state_pools.specs.Fits.{chosen_at}
 use Rattle.state_messages.specs.Figures.{figure}
-use Rattle.state_messages.specs.Passing.{last_behind, last_chosen}
+use Rattle.state_messages.specs.Messages.{last_after, last_chosen}
 use Rattle.state_messages.proofs.Chosen.{Chooses, chooses_none, chooses_some}
 use Rattle.state_messages.proofs.Known.{exchanged}
 use Rattle.state_messages.proofs.Seen.{are_numbered}
@@ -27,5 +27,5 @@ returns-in-Some-clause-fits c = λ t fit none old.
     let ids : option_map (λ (k : ConsumerId). k.0) c.choose.result ≡ Some c.in-Some.chosen.0 = ap (option_map (λ (k : ConsumerId). k.0)) c.in-Some.is in
     let chosen : Chooses t c.args.address.now c.in-Some.chosen.0 c.place_of.result =
     chooses_some t c.args.address.now c.in-Some.chosen.0 c.place_of.result (sym ids ∙ c.choose.ensures.chosen (distribution t) (figure t) (figure t) (last_chosen t) (attachments t) old none (are_numbered t)) (c.place_of.ensures t fit) in
-    exchanged c.choose.new.self (distribution t) (distribution t) (figure t) (figure t) (figure t) (figure t) (chosen_at c.args.address.now (option_map (λ (k : ConsumerId). k.0) c.choose.result) (last_chosen t)) (last_behind t c.place_of.result)
+    exchanged c.choose.new.self (distribution t) (distribution t) (figure t) (figure t) (figure t) (figure t) (chosen_at c.args.address.now (option_map (λ (k : ConsumerId). k.0) c.choose.result) (last_chosen t)) (last_after t c.place_of.result)
     (λ a. refl) (λ n. refl) (λ n a e. inl e) (λ a. chosen.noted a ∙ ap (λ v. chosen_at c.args.address.now v (last_chosen t) a) (sym ids)) (c.choose.ensures.fits (distribution t) (figure t) (last_chosen t) old none)

@@ -11,7 +11,7 @@ use Rattle.route_credit.specs.Pool.{by_id}
 use Rattle.router_trace.specs.Configuration.{distribution}
 use Rattle.router_trace.specs.Links.{attachments}
 use Rattle.state_messages.specs.Figures.{figure}
-use Rattle.state_messages.specs.Passing.{grants_on, last_chosen}
+use Rattle.state_messages.specs.Messages.{grants_on, last_chosen}
 use Rattle.state_messages.proofs.Granted.{at_none, at_some, grants_are, grants_none}
 use Rattle.state_messages.proofs.Seen.{are_numbered}
 use Rattle.state_messages.proofs.granting.grants_due.Goals as goal

@@ -2,7 +2,7 @@ use Rattle.std.proofs.Common.{◌∙◌, sym}
 use Rattle.router_trace.specs.Configuration.{distribution}
 use Rattle.router_trace.specs.Links.{attachments}
 use Rattle.state_messages.specs.Figures.{figure}
-use Rattle.state_messages.specs.Passing.{last_chosen}
+use Rattle.state_messages.specs.Messages.{last_chosen}
 use Rattle.state_messages.proofs.Chosen.{chooses_none, chooses_some}
 use Rattle.state_messages.proofs.Seen.{are_numbered}
 use Rattle.state_messages.proofs.granting.peek_of.Goals as goal

@@ -1,6 +1,6 @@
 use Rattle.std.proofs.Common.{◌++◌, ap}
 use Rattle.route_credit.specs.Pool.{by_id}
-use Rattle.state_messages.specs.Passing.{grants_on}
+use Rattle.state_messages.specs.Messages.{grants_on}
 use Rattle.state_messages.proofs.Telling.{told_last, told_more}
 use Rattle.state_messages.proofs.granting.told.Goals as goal
 

@@ -2,7 +2,7 @@ use Rattle.std.proofs.Common.{◌≡◌, ◌++◌, List, drop}
 use Rattle.route_credit.specs.Pool.{by_id}
 use Rattle.router_trace.specs.Trace.{Entry}
 use Rattle.state_links.specs.Fits.{LinksFit}
-use Rattle.state_messages.specs.Passing.{grants_on}
+use Rattle.state_messages.specs.Messages.{grants_on}
 use Rattle.state_messages.proofs.granting.told.Given as goal
 
 -- the grants added and those still to come are all

@@ -1,5 +1,5 @@
 use Rattle.std.proofs.Common.{◌≡◌, ◌||◌, ℕ, is_some, drop}
-use Rattle.state_collections.specs.Marks.{has}
+use Rattle.state_collections.specs.NumberSet.{has}
 use Rattle.route_credit.specs.Links.{link_at}
 use Rattle.route_credit.specs.Pool.{by_id}
 use Rattle.state_pools.proofs.pools.touch_all.Given as goal

@@ -5,7 +5,7 @@ use Rattle.core_player.specs.Script.{Scene, Reads}
 use Rattle.core_player.specs.Playing.{Follows, Tells}
 use Rattle.core_player.proofs.player.Player.more_bytes.Given as goal
 
--- the bytes so far, and those behind them
+-- the bytes so far, and those after them
 abbrev pub invariant-loop-behind : goal.invariant-loop-behind
 invariant-loop-behind g l = record {
   continues : g.M.Machine.meaning.is_failed l.self.core ≡ false → (s v : Scene) (k : Socket) (before : List ℕ) → s.sockets l.conn.0 ≡ Some k → Reads g.M.Machine.meaning.next l.conn before s k false v → Follows g.M.Machine.meaning l.fn.self v

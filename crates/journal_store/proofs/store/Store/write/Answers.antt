@@ -2,7 +2,7 @@ use Rattle.std.proofs.Common.{◌++◌, [], ◌∷◌, inr, sym, ap, ◌∙◌}
 use Rattle.gate_journal.specs.Reserve.{reserve}
 use Rattle.disk_core.specs.DiskLaws.{widened}
 use Rattle.gate_journal.proofs.Fulls.{test_full, not_full_tested}
-use Rattle.journal_store.proofs.Makes.{kept_behind}
+use Rattle.journal_store.proofs.Makes.{kept_after}
 use Rattle.journal_store.proofs.Opened.{leaves_more, before_or_after}
 use Rattle.journal_store.proofs.store.Store.write.Goals as goal
 
@@ -30,14 +30,14 @@ returns-in-Err-clause-any_moment g c stands =
 
 pub returns-in-Ok-clause-kept : goal.returns-in-Ok-clause-kept
 returns-in-Ok-clause-kept g c was =
-    kept_behind _ _ _ _ _ c.args.self.now.kept.made c.book.ensures c.in_ok-number.ensures.kept was ∙ ap reserve (sym c.in-Ok.ensures.applied)
+    kept_after _ _ _ _ _ c.args.self.now.kept.made c.book.ensures c.in_ok-number.ensures.kept was ∙ ap reserve (sym c.in-Ok.ensures.applied)
 
 pub returns-in-Ok-clause-room : goal.returns-in-Ok-clause-room
 returns-in-Ok-clause-room g c = not_full_tested _ _ _ c.in_ok-number.ensures.room
 
 pub returns-in-Err-clause-length_at_memory : goal.returns-in-Err-clause-length_at_memory
 returns-in-Err-clause-length_at_memory g c is =
-    inr (c.in_ok-number.ensures.length, kept_behind _ _ _ _ _ c.args.self.now.kept.made c.book.ensures c.in_ok-number.ensures.kept)
+    inr (c.in_ok-number.ensures.length, kept_after _ _ _ _ _ c.args.self.now.kept.made c.book.ensures c.in_ok-number.ensures.kept)
 
 pub returns-in_err-number-clause-untouched : goal.returns-in_err-number-clause-untouched
 returns-in_err-number-clause-untouched g c full = c.append.ensures.untouched (test_full _ _ _ full)

@@ -3,7 +3,7 @@ use Rattle.route_credit.specs.Pool.{IsChoice}
 use Rattle.route_credit.specs.Ranks.{offer_rank}
 use Rattle.route_credit.specs.Side.{links_of}
 use Rattle.route_credit.proofs.Alone.{whole_ordered}
-use Rattle.route_credit.proofs.Choices.{choice_behind, choice_first, choice_round, flat_ranks, not_closest}
+use Rattle.route_credit.proofs.Choices.{choice_after, choice_first, choice_round, flat_ranks, not_closest}
 use Rattle.route_credit.proofs.Entries.{InOrder}
 use Rattle.route_credit.proofs.pool.Pool.next_consumer.Goals as goal
 
@@ -28,7 +28,7 @@ returns-in-Some-clause-choice c =
     let links = (links_of c.self.inside.consumers) in
     let flat = flat_ranks distribution links c.in-Closest.is in
     subst (λ p. IsChoice p (Some c.in-Some.id)) c.self.view_is
-    (choice_behind distribution c.self.inside.last links c.in-Some.id c.in-Closest.is (c.in-Some.ensures c.self.invariant.0 flat))
+    (choice_after distribution c.self.inside.last links c.in-Some.id c.in-Closest.is (c.in-Some.ensures c.self.invariant.0 flat))
 
 pub returns-in-Balanced-clause-ordered : goal.returns-in-Balanced-clause-ordered
 returns-in-Balanced-clause-ordered c = subst (λ p. InOrder p.consumers) c.self.view_is (whole_ordered (offer_rank c.self.inside.distribution) (λ offer. offer.free) c.self.inside.consumers c.self.invariant.0)

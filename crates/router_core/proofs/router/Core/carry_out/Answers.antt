@@ -11,9 +11,9 @@ use Rattle.router_state.specs.Tables.{TablesFit}
 use Rattle.router_reply.specs.Acts.{acts_of, booked}
 use Rattle.router_reply.specs.Admitting.{row_in}
 use Rattle.router_reply.specs.Replies.{row_found}
-use Rattle.router_core.specs.Handling.{IsReady, Journals, BeforeOrBehind, id_of, state_of, store_of}
+use Rattle.router_core.specs.Handling.{IsReady, Journals, BeforeOrAfterEvent, id_of, state_of, store_of}
 use Rattle.router_core.specs.Replies.{answered, handled}
-use Rattle.router_core.proofs.Books.{journals_behind, journals_stored, fits_handled}
+use Rattle.router_core.proofs.Books.{journals_after, journals_stored, fits_handled}
 use Rattle.router_core.proofs.Committing.{some_weaker}
 use Rattle.router_core.proofs.Moments.{known_moment}
 use Rattle.router_core.proofs.router.Core.carry_out.Goals as goal
@@ -30,7 +30,7 @@ returns-clause-fits g c = λ t f taken.
     let tables : TablesFit (state_of c.answer.new.self) (handled (id_of core) t (step_of e)) =
     subst (λ (id : List ℕ). TablesFit (state_of c.answer.new.self) (answered id (booked t e) (step_of e))) same (c.in-Ok-answer.ensures.tables (booked t e) ready row) in
     let journal : Journals c.write.new.self (booked t e) =
-    journals_behind c.prepare.new.self c.write.new.self t e c.in-Ok.acts.items (journals_stored core c.prepare.new.self t (ap store_of c.prepare.ensures.rest) f.journal) acts
+    journals_after c.prepare.new.self c.write.new.self t e c.in-Ok.acts.items (journals_stored core c.prepare.new.self t (ap store_of c.prepare.ensures.rest) f.journal) acts
     c.in-Ok-write.ensures.book c.in-Ok-write.ensures.count c.in-Ok-write.ensures.used c.in-Ok-write.ensures.kept in
     fits_handled c.answer.new.self (id_of core) t e taken.taken tables c.in-Ok-answer.ensures.started (journals_stored c.write.new.self c.answer.new.self (booked t e) c.answer.ensures.store journal)
 
@@ -47,7 +47,7 @@ returns-clause-any_moment g c = λ t f taken stands.
     let same = ap store_of c.prepare.ensures.rest in
     let run = subst (λ (s : Store _). Stands g.D.Disk.seen g.D.Disk.may_leave s → LeavesOnly g.D.Disk.moment g.D.Disk.left_since (disk_of s) (disk_of (store_of c.write.new.self))
     (λ file. OpensTo file (book_of s) ⊎ OpensTo file (effects (book_of s) acts))) same c.write.ensures.any_moment stands in
-    subst (λ (s : Store _). LeavesOnly g.D.Disk.moment g.D.Disk.left_since (disk_of (store_of core)) (disk_of s) (BeforeOrBehind t e)) (sym c.answer.ensures.store)
+    subst (λ (s : Store _). LeavesOnly g.D.Disk.moment g.D.Disk.left_since (disk_of (store_of core)) (disk_of s) (BeforeOrAfterEvent t e)) (sym c.answer.ensures.store)
     (known_moment g.D.Disk.seen g.D.Disk.may_leave g.D.Disk.moment g.D.Disk.left_since core (disk_of (store_of c.write.new.self)) t e acts f (c.in-Ok.ensures.acts t f taken) run)
 
 pub returns-in_default-answer-clause-any_moment : goal.returns-in_default-answer-clause-any_moment
@@ -58,7 +58,7 @@ returns-in_default-answer-clause-any_moment g c = λ t f taken stands.
     let same = ap store_of c.prepare.ensures.rest in
     let run = subst (λ (s : Store _). Stands g.D.Disk.seen g.D.Disk.may_leave s → LeavesOnly g.D.Disk.moment g.D.Disk.left_since (disk_of s) (disk_of (store_of c.write.new.self))
     (λ file. OpensTo file (book_of s) ⊎ OpensTo file (effects (book_of s) acts))) same c.write.ensures.any_moment stands in
-    subst (λ (s : Store _). LeavesOnly g.D.Disk.moment g.D.Disk.left_since (disk_of (store_of core)) (disk_of s) (BeforeOrBehind t e)) (sym c.answer.ensures.store)
+    subst (λ (s : Store _). LeavesOnly g.D.Disk.moment g.D.Disk.left_since (disk_of (store_of core)) (disk_of s) (BeforeOrAfterEvent t e)) (sym c.answer.ensures.store)
     (known_moment g.D.Disk.seen g.D.Disk.may_leave g.D.Disk.moment g.D.Disk.left_since core (disk_of (store_of c.write.new.self)) t e acts f (c.in-Ok.ensures.acts t f taken) run)
 
 pub returns-in-Err-clause-any_moment : goal.returns-in-Err-clause-any_moment

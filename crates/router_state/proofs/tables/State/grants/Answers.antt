@@ -1,7 +1,7 @@
 use Rattle.std.proofs.Common.{◌∙◌, ◌++◌, sym, ap}
 use Rattle.std.proofs.lemmas.List.{append-nil, drop_all}
 use Rattle.router_trace.specs.Trace.{puts_of}
-use Rattle.state_messages.specs.Passing.{grant_flows}
+use Rattle.state_messages.specs.Messages.{grant_flows}
 use Rattle.router_state.proofs.tables.State.grants.Goals as goal
 
 pub returns-clause-due : goal.returns-clause-due
@@ -17,6 +17,6 @@ returns-clause-due c = λ t fit.
       clocks = fit.clocks;
       peers = fit.peers;
       sessions = fit.sessions;
-      passing = c.in_ok-grants.ensures.fits t fit.passing;
+      messages = c.in_ok-grants.ensures.fits t fit.messages;
     })
-    ∙ ap (grant_flows t) (c.deref-grant-items.ensures.value ∙ c.in_ok-grants.ensures.due t fit.passing)
+    ∙ ap (grant_flows t) (c.deref-grant-items.ensures.value ∙ c.in_ok-grants.ensures.due t fit.messages)

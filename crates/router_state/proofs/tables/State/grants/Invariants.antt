@@ -1,6 +1,6 @@
 use Rattle.std.proofs.Common.{◌≡◌, ◌++◌, List, drop}
 use Rattle.router_trace.specs.Trace.{Entry, puts_of}
-use Rattle.state_messages.specs.Passing.{grant_flows}
+use Rattle.state_messages.specs.Messages.{grant_flows}
 use Rattle.router_state.specs.Tables.{TablesFit}
 use Rattle.router_state.proofs.tables.State.grants.Given as goal
 

@@ -5,6 +5,6 @@ use Rattle.router_state.proofs.tables.State.hear.Goals as goal
 
 pub returns-clause-part : goal.returns-clause-part
 returns-clause-part c = λ t ends o at here.
-    c.in_ok-part.ensures.part t at.passing
+    c.in_ok-part.ensures.part t at.messages
     ∙ part_on_session t c.args.conn.0 _ c.args.item.now o
     (c.own_channel-own.ensures t at.sessions o ∙ ap (λ channel. maps (theirs t c.args.conn.0 channel) o) c.channel_of.ensures ∙ here)

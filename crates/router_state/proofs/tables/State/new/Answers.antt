@@ -7,5 +7,5 @@ returns c g finds = record {
   clocks = c.new-3.ensures g;
   peers = c.new-4.ensures g;
   sessions = c.new-5.ensures g;
-  passing = c.new-6.ensures g finds;
+  messages = c.new-6.ensures g finds;
 }

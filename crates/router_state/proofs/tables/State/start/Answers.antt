@@ -11,5 +11,5 @@ returns c = λ t ends at. record {
     rows = record { offered = at.sessions.rows.offered; answered = at.sessions.rows.answered; theirs = at.sessions.rows.theirs; windows = at.sessions.rows.windows };
     marks = at.sessions.marks;
   };
-  passing = started_fits c.args.self.now.passing t at.passing;
+  messages = started_fits c.args.self.now.messages t at.messages;
 }

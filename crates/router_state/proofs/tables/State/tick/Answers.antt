@@ -11,5 +11,5 @@ returns c = λ t ends at. record {
     rows = record { offered = at.sessions.rows.offered; answered = at.sessions.rows.answered; theirs = at.sessions.rows.theirs; windows = at.sessions.rows.windows };
     marks = at.sessions.marks;
   };
-  passing = ticked_fits c.args.self.now.passing c.args.moment t at.passing;
+  messages = ticked_fits c.args.self.now.messages c.args.moment t at.messages;
 }

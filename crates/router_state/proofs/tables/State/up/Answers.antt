@@ -12,5 +12,5 @@ returns c = λ t ends at rises. record {
     rows = record { offered = at.sessions.rows.offered; answered = at.sessions.rows.answered; theirs = at.sessions.rows.theirs; windows = at.sessions.rows.windows };
     marks = at.sessions.marks;
   };
-  passing = risen_fits c.args.self.now.passing c.args.conn c.args.peer.now t at.passing;
+  messages = risen_fits c.args.self.now.messages c.args.conn c.args.peer.now t at.messages;
 }

@@ -1,5 +1,5 @@
 use Rattle.std.proofs.Common.{sym, ap, ◌∙◌, not}
-use Rattle.state_collections.specs.Slots.{in_slots}
+use Rattle.state_collections.specs.NumberMap.{at_number}
 use Rattle.std.specs.Prelude.{filter}
 use Rattle.router_trace.specs.Connection.{unless_due, has}
 use Rattle.state_connections.proofs.Turns.{calm, turned_at, turned_due}
@@ -14,7 +14,7 @@ returns-then-self-clause-due c = λ t fit. c.new.ensures.items ∙ sym (calm _ t
 pub returns-clause-at : goal.returns-clause-at
 returns-clause-at c = λ t fit. turned_at c.args.self.now _ t c.args.event.now c.in_ok-ends.ends.items fit (record {
   gathered = c.in_ok-ends.ensures;
-  rows = λ k. c.end_all.ensures.rows k ∙ ap (λ ks. unless_due ks (in_slots c.args.self.now.rows) k) c.deref.ensures.value;
+  rows = λ k. c.end_all.ensures.rows k ∙ ap (λ ks. unless_due ks (at_number c.args.self.now.rows) k) c.deref.ensures.value;
   live = c.end_all.ensures.live ∙ ap (λ ks. filter (λ k. not (has k ks)) c.args.self.now.live.items) c.deref.ensures.value;
   last = c.end_all.ensures.last;
   roomy = ap not c.is_loss.ensures;

@@ -1,7 +1,7 @@
 use Rattle.std.proofs.Common.{rules, ℕ, Bool, ◌<◌, ◌^◌, ◌∙◌, ◌++◌, ap, sym}
 use Rattle.std.specs.List.{filter}
 use Rattle.std.specs.Option.{is_some}
-use Rattle.state_collections.specs.Slots.{in_slots}
+use Rattle.state_collections.specs.NumberMap.{at_number}
 use Rattle.std.proofs.lemmas.List.{append-nil, drop_all}
 use Rattle.state_deliveries.specs.Naming.{opens}
 use Rattle.state_collections.specs.Ids.{at_id}
@@ -13,7 +13,7 @@ pub returns : goal.returns
 returns c = λ small.
     let conn = c.args.conn in
     let own = c.args.own in
-    let known = in_slots c.args.store.now.deliveries in
+    let known = at_number c.args.store.now.deliveries in
     let names = at_id c.args.self.now.ids conn own in
     let pick : ℕ → Bool = λ id. opens known conn own id (names id) in
     let ids = c.deref-id-items.result.now in

@@ -1,7 +1,7 @@
 use Rattle.std.proofs.Common.{◌∷◌, refl, sym, subst, true, None}
 use Rattle.std.specs.Prelude.{◌==◌}
 use Rattle.std.specs.Option.{option_and_then}
-use Rattle.state_collections.specs.Slots.{in_slots}
+use Rattle.state_collections.specs.NumberMap.{at_number}
 use Rattle.amqp_model.specs.declared.perf.Perf.{Perf}
 use Rattle.amqp_model.specs.declared.perf.Perf.TheVariants as perf
 use Rattle.amqp_model.specs.declared.item.Item.TheVariants as item
@@ -26,10 +26,10 @@ returns-in_ok-begin-in-Transfer c = λ t sasl payload at fit.
     let begins = entry (perf.Transfer x) in
     subst (λ (p : Perf). StoreFit c.args.store.now (entry p ∷ t) → NamesFit c.begin.new.self (entry p ∷ t)) (sym c.in-Transfer.is)
     (λ there. record {
-      names = λ d o id. set_row (begins ∷ t) (conn == d) (own == o) (is_id x.delivery_id id) _ (kept_name (option_and_then (number_tagged (at_name c.args.store.now.by_name)) (tag_in x)) (in_slots c.args.store.now.deliveries))
+      names = λ d o id. set_row (begins ∷ t) (conn == d) (own == o) (is_id x.delivery_id id) _ (kept_name (option_and_then (number_tagged (at_name c.args.store.now.by_name)) (tag_in x)) (at_number c.args.store.now.deliveries))
           (at_id c.args.self.now.ids d o id) (option_and_then (number_tagged (number_named t)) (tag_in x)) (named t d o id)
           (c.in_ok-begin-in-Transfer.ensures.named d o id)
-          (remembers_kept (begins ∷ t) (option_and_then (number_tagged (at_name c.args.store.now.by_name)) (tag_in x)) (option_and_then (number_tagged (number_named t)) (tag_in x)) (in_slots c.args.store.now.deliveries) there.deliveries
+          (remembers_kept (begins ∷ t) (option_and_then (number_tagged (at_name c.args.store.now.by_name)) (tag_in x)) (option_and_then (number_tagged (number_named t)) (tag_in x)) (at_number c.args.store.now.deliveries) there.deliveries
           (known_tagged (delivery (begins ∷ t)) (at_name c.args.store.now.by_name) (number_named t) (numbers_of c.args.store.now (begins ∷ t) there) (tag_in x)))
           (still begins t (at_id c.args.self.now.ids d o id) (named t d o id) (low_named t d o id) (fit.names d o id));
       small = c.in_ok-begin-in-Transfer.ensures.small fit.small;

@@ -1,6 +1,6 @@
 use Rattle.std.proofs.Common.{◌≡◌, ◌∙◌, ap}
 use Rattle.std.specs.Prelude.{◌==◌}
-use Rattle.state_collections.specs.Slots.{in_slots}
+use Rattle.state_collections.specs.NumberMap.{at_number}
 use Rattle.std.proofs.lemmas.Bool.{eqb-true}
 use Rattle.router_trace.specs.Deliveries.{named}
 use Rattle.state_collections.specs.Ids.{at_id}
@@ -14,7 +14,7 @@ returns c = λ t all fit.
     let conn = c.args.conn in
     let own = c.args.own in
     let id = c.args.id in
-    let known = in_slots c.args.store.now.deliveries in
+    let known = at_number c.args.store.now.deliveries in
     let kept : c.kept_name-name.result ≡ kept_name (old conn own id) known = c.kept_name-name.ensures ∙ ap (λ v. kept_name v known) c.get.ensures in
     record {
       names = λ d o q. settled_row t (conn == d) (own == o) (id == q) _ (old d o q) (named t d o q) c.kept_name-name.result known all

@@ -1,6 +1,6 @@
 use Rattle.std.proofs.Common.{◌∙◌, ap}
 use Rattle.std.specs.Prelude.{◌==◌, if◌then◌else◌, Option, Some}
-use Rattle.state_collections.specs.Slots.{in_slots}
+use Rattle.state_collections.specs.NumberMap.{at_number}
 use Rattle.router_trace.specs.Deliveries.{Delivery, bound, unless_called}
 use Rattle.state_deliveries.specs.Calling.{is_called}
 use Rattle.state_deliveries.proofs.Called.{none_called}
@@ -24,6 +24,6 @@ returns-clause-indexed c = on_ok c.add.result
     (λ added none before.
     let removed = c.in_ok-remove_called.ensures.deliveries before in
     added (removed c.args.number ∙ ap (unless_called c.args.name) none)
-    (λ n. ap (is_called c.args.name) (removed n) ∙ none_called c.args.name (in_slots c.args.self.now.deliveries n))
+    (λ n. ap (is_called c.args.name) (removed n) ∙ none_called c.args.name (at_number c.args.self.now.deliveries n))
     (c.in_ok-remove_called.ensures.indexed before))
     c.add.ensures.indexed

@@ -1,5 +1,5 @@
 use Rattle.std.proofs.Common.{◌≡◌, ℕ, drop}
-use Rattle.state_collections.specs.Slots.{in_slots}
+use Rattle.state_collections.specs.NumberMap.{at_number}
 use Rattle.amqp_session.specs.Ranges.{has}
 use Rattle.state_deliveries.specs.Fits.{Indexed}
 use Rattle.state_deliveries.specs.Touching.{StoreTouches}
@@ -8,7 +8,7 @@ use Rattle.state_deliveries.proofs.store.Store.change_all.Given as goal
 
 -- what the remaining numbers would still change
 abbrev pub invariant-loop-number : goal.invariant-loop-number
-invariant-loop-number l = ((n : ℕ) → finish l.change (has n (drop l.number-index l.numbers)) (in_slots l.self.deliveries n)
-    ≡ finish l.change (has n l.numbers) (in_slots l.fn.self.deliveries n))
+invariant-loop-number l = ((n : ℕ) → finish l.change (has n (drop l.number-index l.numbers)) (at_number l.self.deliveries n)
+    ≡ finish l.change (has n l.numbers) (at_number l.fn.self.deliveries n))
     × (Indexed l.fn.self → Indexed l.self)
     × StoreTouches l.fn.self l.self

@@ -4,13 +4,13 @@ use Rattle.std.specs.Option.{option_and_then}
 use Rattle.amqp_model.specs.declared.perf.Perf.{Perf}
 use Rattle.amqp_model.specs.declared.perf.Perf.TheVariants as perf
 use Rattle.amqp_model.specs.declared.item.Item.TheVariants as item
-use Rattle.router_trace.specs.Deliveries.{Delivery, delivery, number_named, sending, unless_over, behind_frame, is_number}
+use Rattle.router_trace.specs.Deliveries.{Delivery, delivery, number_named, sending, unless_over, after_frame, is_number}
 use Rattle.state_deliveries.specs.Calling.{Knows}
 use Rattle.state_deliveries.proofs.Known.{same_number}
 use Rattle.state_deliveries.specs.Fits.{carried_in}
 use Rattle.state_deliveries.specs.Indexing.{are_by_place}
-use Rattle.state_deliveries.specs.Stepping.{behind_any, IsKept}
-use Rattle.state_deliveries.proofs.Puts.{on_ok_both, one_frame, other_frame, put_behind, put_by_place, kept}
+use Rattle.state_deliveries.specs.Stepping.{after_any, IsKept}
+use Rattle.state_deliveries.proofs.Puts.{on_ok_both, one_frame, other_frame, put_after, put_by_place, kept}
 use Rattle.state_deliveries.proofs.store.Store.put_perf.Goals as goal
 
 pub returns-in-Transfer-clause-fits : goal.returns-in-Transfer-clause-fits
@@ -23,10 +23,10 @@ returns-in-Transfer-clause-fits c = on_ok_both c.note_carried.result
     record {
       deliveries = λ n.
           noted n
-          ∙ ap (λ (v : Option Delivery). if is_number c.args.number n then option_and_then (λ d. unless_over (behind_frame x (length bytes) d)) v else v) (fit.deliveries n)
+          ∙ ap (λ (v : Option Delivery). if is_number c.args.number n then option_and_then (λ d. unless_over (after_frame x (length bytes) d)) v else v) (fit.deliveries n)
           ∙ one_frame (number_named t) conn own n sasl x bytes (sending t conn) c.args.number (delivery t n)
           (λ d there. same_number (delivery t) c.args.number (carried_in (number_named t) (perf.Transfer x) (sending t conn own)) n d (subst (λ (p : Perf). Knows (delivery t) c.args.number (carried_in (number_named t) p (sending t conn own))) c.in-Transfer.is number) there) (kept t n)
-          ∙ ap (λ (p : Perf). put_behind (number_named t) conn (item.Frame sasl own p bytes) n (sending t conn) (delivery t n)) (sym c.in-Transfer.is);
+          ∙ ap (λ (p : Perf). put_after (number_named t) conn (item.Frame sasl own p bytes) n (sending t conn) (delivery t n)) (sym c.in-Transfer.is);
       indexed = indexed fit.indexed;
     })
     c.note_carried.ensures.deliveries c.note_carried.ensures.indexed
@@ -37,9 +37,9 @@ returns-in_default-clause-fits c = on_ok_both c.apply_any.result
     let body = c.args.perf.now in
     record {
       deliveries = λ n.
-          applied (ap are_by_place c.behind_put.ensures ∙ put_by_place c.args.conn c.args.own body) (λ m. subst IsKept (sym (fit.deliveries m)) (kept t m)) fit.indexed n
-          ∙ ap (behind_any c.behind_put.result) (fit.deliveries n)
-          ∙ ap (λ x. behind_any x (delivery t n)) c.behind_put.ensures
+          applied (ap are_by_place c.after_put.ensures ∙ put_by_place c.args.conn c.args.own body) (λ m. subst IsKept (sym (fit.deliveries m)) (kept t m)) fit.indexed n
+          ∙ ap (after_any c.after_put.result) (fit.deliveries n)
+          ∙ ap (λ x. after_any x (delivery t n)) c.after_put.ensures
           ∙ other_frame (number_named t) c.args.conn c.args.own n sasl body c.args.payload.now (sending t c.args.conn) c.in_default.not-Transfer (delivery t n) (kept t n);
       indexed = indexed fit.indexed;
     })

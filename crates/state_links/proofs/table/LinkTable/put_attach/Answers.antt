@@ -3,7 +3,7 @@ use Rattle.std.specs.Prelude.{◌==◌, if◌then◌else◌, option_map, is_some
 use Rattle.std.specs.Ordering.{nat_cmp, is_eq}
 use Rattle.std.specs.BTreeMap.{get}
 use Rattle.std.specs.BTreeSet.{contains}
-use Rattle.state_collections.specs.Marks.{has}
+use Rattle.state_collections.specs.NumberSet.{has}
 use Rattle.std.proofs.lemmas.Bool.{eqb-true}
 use Rattle.amqp_model.specs.declared.item.Item.TheVariants as item
 use Rattle.amqp_model.specs.declared.perf.Perf.TheVariants as perf
@@ -16,7 +16,7 @@ use Rattle.state_collections.specs.Places.{at}
 use Rattle.state_links.proofs.Attached.{names_put, names_taken, attach_goes}
 use Rattle.state_links.proofs.Rows.{attached_row, over, none_at, begun_there, counted, uncounted, set_owes, same_key_of}
 use Rattle.state_links.proofs.Touches.{left_touches, joined_touches}
-use Rattle.state_collections.specs.Slots.{in_slots}
+use Rattle.state_collections.specs.NumberMap.{at_number}
 use Rattle.state_links.proofs.table.LinkTable.put_attach.Goals as goal
 
 pub returns-in_default-clause-fits : goal.returns-in_default-clause-fits
@@ -71,7 +71,7 @@ returns-clause-touches c =
     let count = c.args.self.now.count in
     let n = begun (count + 1) c.in-Some-key.key a (initial_of c.args.last) c.in-Some.address.now in
     joined_touches c.args.conn c.args.own a.handle n (attachment (count + 1) c.args.conn c.args.own a.handle) _ _
-    (has c.touch_at.new.touched) (in_slots c.leave.new.names.numbers.entries)
+    (has c.touch_at.new.touched) (at_number c.leave.new.names.numbers.entries)
     c.in_ok-touch_at.ensures c.in_ok-join.ensures.touched
     (λ d o h. over (c.args.conn == d) (c.args.own == o) (a.handle == h) (Some n) _ _ (at c.args.self.now.links d o h) (c.in_ok-join.ensures.links d o h) (c.leave.ensures.links d o h))
     c.leave.ensures.others c.in_ok-join.ensures.numbers

@@ -1,26 +1,26 @@
 use Rattle.std.proofs.Common.{◌∙◌, ap, refl, None, Some}
 use Rattle.route_credit.specs.Granting.{all_granted, grants_of}
 use Rattle.route_credit.specs.Pool.{by_id}
-use Rattle.state_collections.specs.Slots.{in_slots}
+use Rattle.state_collections.specs.NumberMap.{at_number}
 use Rattle.state_pools.proofs.Rows.{changed, found, lent, unchanged}
 use Rattle.state_pools.proofs.Written.{on_ok_then, on_told}
 use Rattle.state_pools.proofs.by_address.ByAddress.grants.Goals as goal
 
 pub returns-in-None-clause-sums : goal.returns-in-None-clause-sums
 returns-in-None-clause-sums c share =
-    ap (λ items. by_id items) c.new.ensures.items ∙ ap grants_of (found share (in_slots c.args.self.now.rows) c.args.address.now c.digest-place.result c.digest-place.ensures None c.in-None.ensures.value)
+    ap (λ items. by_id items) c.new.ensures.items ∙ ap grants_of (found share (at_number c.args.self.now.rows) c.args.address.now c.digest-place.result c.digest-place.ensures None c.in-None.ensures.value)
 
 pub returns-in-None-clause-filled : goal.returns-in-None-clause-filled
 returns-in-None-clause-filled c share =
-    unchanged share (in_slots c.args.self.now.rows) c.args.address.now c.digest-place.result c.digest-place.ensures (in_slots c.get_mut.follows.lender-at-none) (λ i d. c.get_mut.follows.holds-at-none d i) all_granted refl c.in-None.ensures.value
+    unchanged share (at_number c.args.self.now.rows) c.args.address.now c.digest-place.result c.digest-place.ensures (at_number c.get_mut.follows.lender-at-none) (λ i d. c.get_mut.follows.holds-at-none d i) all_granted refl c.in-None.ensures.value
 
 pub returns-in-Some-clause-sums : goal.returns-in-Some-clause-sums
 returns-in-Some-clause-sums c = on_told c.grants.result _ _ c.grants.ensures.sums (λ sums is share.
-    is share ∙ ap grants_of (found share (in_slots c.args.self.now.rows) c.args.address.now c.digest-place.result c.digest-place.ensures (Some c.in-Some.row.now) c.in-Some.ensures.value))
+    is share ∙ ap grants_of (found share (at_number c.args.self.now.rows) c.args.address.now c.digest-place.result c.digest-place.ensures (Some c.in-Some.row.now) c.in-Some.ensures.value))
 
 pub returns-in-Some-clause-filled : goal.returns-in-Some-clause-filled
 returns-in-Some-clause-filled c = on_ok_then c.grants.result _ _ c.grants.ensures.filled (λ is share a.
     let rows = c.args.self.now.rows in
     let rows' = c.get_mut.follows.lender c.grants.new.self in
-    changed share (in_slots rows) c.args.address.now c.digest-place.result c.digest-place.ensures (in_slots rows') (Some c.in-Some.row.now) (Some c.grants.new.self) all_granted c.in-Some.ensures.value
-    (lent (in_slots rows) (in_slots rows') c.digest-place.result c.in-Some.row.now c.grants.new.self c.in-Some.ensures.value (c.get_mut.follows.holds c.grants.new.self)) (is share) a)
+    changed share (at_number rows) c.args.address.now c.digest-place.result c.digest-place.ensures (at_number rows') (Some c.in-Some.row.now) (Some c.grants.new.self) all_granted c.in-Some.ensures.value
+    (lent (at_number rows) (at_number rows') c.digest-place.result c.in-Some.row.now c.grants.new.self c.in-Some.ensures.value (c.get_mut.follows.holds c.grants.new.self)) (is share) a)

@@ -1,7 +1,7 @@
 use Rattle.std.proofs.Common.{◌∙◌, sym}
 use Rattle.state_pools.specs.Addresses.{at_address}
 use Rattle.state_pools.proofs.AtAddress.{lookup_is}
-use Rattle.state_pools.proofs.Places.{behind_first}
+use Rattle.state_pools.proofs.Places.{after_first}
 use Rattle.state_pools.proofs.by_bytes.ByBytes.get.Goals as goal
 
 pub returns : goal.returns
@@ -9,4 +9,4 @@ returns g c =
     let more = c.args.self.now.more.entries in
     let q = c.args.address.now in
     c.get.ensures.value ∙ lookup_is (λ k. k.items) more q
-    ∙ behind_first c.args.self.now.first q (at_address more (λ k. k.items) q) (sym c.is_first.ensures ∙ c.if-is_first.false)
+    ∙ after_first c.args.self.now.first q (at_address more (λ k. k.items) q) (sym c.is_first.ensures ∙ c.if-is_first.false)

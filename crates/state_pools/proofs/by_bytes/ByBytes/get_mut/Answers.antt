@@ -2,7 +2,7 @@ use Rattle.std.proofs.Common.{◌∙◌, sym, ap, refl}
 use Rattle.state_pools.specs.Addresses.{at_address}
 use Rattle.state_pools.specs.ByBytes.{first_at, or_else}
 use Rattle.state_pools.proofs.AtAddress.{lookup_is, set_at}
-use Rattle.state_pools.proofs.Places.{behind_first, more_written}
+use Rattle.state_pools.proofs.Places.{after_first, more_written}
 use Rattle.state_pools.proofs.by_bytes.ByBytes.get_mut.Goals as goal
 
 pub returns : goal.returns
@@ -19,6 +19,6 @@ returns g c =
       ),
       record {
         lends = tt;
-        value = c.get_mut.ensures.value ∙ lookup_is (λ k. k.items) more q ∙ behind_first first q (at_address more (λ k. k.items) q) not_first;
+        value = c.get_mut.ensures.value ∙ lookup_is (λ k. k.items) more q ∙ after_first first q (at_address more (λ k. k.items) q) not_first;
       },
     )

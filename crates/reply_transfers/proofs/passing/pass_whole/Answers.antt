@@ -1,7 +1,0 @@
-use Rattle.reply_transfers.proofs.Given.{resumed_given}
-use Rattle.reply_transfers.proofs.passing.pass_whole.Goals as goal
-
-pub returns-then-delivery : goal.returns-then-delivery
-returns-then-delivery c = λ t fit.
-    resumed_given c.ignore.new.state t c.args.conn c.args.own c.args.handle c.args.delivery.now c.args.row c.args.payload _ c.if-delivery.true (c.claimed_id-claimed.ensures t fit)
-    (c.in_ok-ignore.ensures t fit)

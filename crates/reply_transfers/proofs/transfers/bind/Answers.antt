@@ -1,0 +1,8 @@
+use Rattle.std.proofs.Common.{◌∙◌, sym}
+use Rattle.reply_transfers.proofs.Given.{released_given}
+use Rattle.reply_transfers.proofs.transfers.bind.Goals as goal
+
+pub returns : goal.returns
+returns c = λ t fit.
+    released_given c.pass.new.self c.release.new.state t c.args.from c.args.claimed c.args.row c.args.format c.args.payload _
+    (sym (c.in_ok-chosen.ensures.chosen t fit) ∙ c.if-chosen.false) (c.in_ok-chosen.ensures.bound t fit) (λ u u_fit. c.in_ok-release.ensures u u_fit)

@@ -1,0 +1,371 @@
+//! Transfers that are taken, and dispositions whose deliveries are answered.
+ghost use Rattle.std.specs.Prelude.{◌∷◌, [], List, ℕ, OnOk, Some, None, true, nat_lt, map, option_map, ◌≡◌};
+ghost use Rattle.amqp_model.specs.declared.perf.Role.TheVariants.{Sender};
+ghost use Rattle.router_trace.specs.Trace.{Entry, puts};
+ghost use Rattle.router_trace.specs.Links.{link};
+ghost use Rattle.router_trace.specs.Settling.{unbound};
+ghost use Rattle.router_trace.specs.Deliveries.{terminal, last_of};
+ghost use Rattle.router_trace.specs.DeliveryFrames.{outcome_item};
+ghost use Rattle.state_messages.specs.Messages.{with_bound, binding_for, consumer_of};
+ghost use Rattle.router_trace.specs.Following.{link_of};
+ghost use Rattle.router_state.specs.Tables.{TablesFit};
+ghost use Rattle.reply_transfers.specs.Transfers.{claimed_id, origin_of, may_pass, let_go, released_by, released, ignored_put, unbound_put, consumer_for, whole_put, whole_bound, fresh_bound, part_put, part_bound, settled_answers, disposition_in, disposition_of};
+
+use amqp_link::{Delivery, Part};
+use amqp_model::{DeliveryState, Disposition, Item, Perf, Role};
+use book_model::RowNumber;
+use bytes::Bytes;
+use reply_frames::outcome_item;
+use router_state::State;
+use router_trace::{Attachment, Condition, Origin, RouterId};
+use std::alloc::AllocError;
+
+/// The most unsettled deliveries of a link that came whole and are bound to no consumer.
+pub const UNBOUND: usize = 1024;
+
+/// The delivery's id, if its producer hasn't settled it.
+pub fn claimed_id(state: &State, conn: u64, own: u16, handle: u32, id: Option<u32>) -> Option<u32>
+    ensures { (t : List Entry) → TablesFit state.now t → result ≡ claimed_id t conn own handle id }
+{
+    let id = id?;
+    if state.is_claimed_on(conn, own, handle, id) {
+        Some(id)
+    } else {
+        None
+    }
+}
+
+/// The producer's delivery, to which the outcome is reported.
+fn origin_of(from: Attachment, claimed: Option<u32>) -> Option<Origin>
+    ensures { result ≡ option_map (origin_of from) claimed }
+{
+    match claimed {
+        None => None,
+        Some(id) => Some(Origin { link: from, id }),
+    }
+}
+
+/// Whether a delivery may be bound: on a durable link one that its producer hasn't settled needs a row.
+fn may_pass(durable: bool, claimed: Option<u32>, row: Option<RowNumber>) -> bool
+    ensures { result ≡ may_pass durable claimed row }
+{
+    match claimed {
+        None => true,
+        Some(_) => !durable || row.is_some(),
+    }
+}
+
+/// Reports the outcome of one delivery, and settles it or not.
+fn put_outcome(
+    state: &mut State,
+    id: &RouterId,
+    conn: u64,
+    own: u16,
+    role: Role,
+    delivery: u32,
+    settled: bool,
+    outcome: &DeliveryState,
+) -> Result<(), AllocError>
+    ensures { OnOk result ((t : List Entry) → TablesFit state.old t → TablesFit state.new (puts conn (outcome_item own role delivery settled outcome.now ∷ []) t)) }
+{
+    let item = outcome_item(id.alloc(), own, role, delivery, settled, outcome)?;
+    state.put(conn, item)?;
+    Ok(())
+}
+
+/// Detaches a link, which is closed unless it is durable.
+fn let_go(
+    state: &mut State,
+    id: &RouterId,
+    conn: u64,
+    own: u16,
+    handle: u32,
+    error: Condition,
+) -> Result<(), AllocError>
+    ensures { OnOk result ((t : List Entry) → TablesFit state.old t → TablesFit state.new (puts conn (let_go t conn own handle error) t)) }
+{
+    let closed = !state.is_durable(conn, own, handle);
+    let item = id.detach_item(own, handle, closed, Some(error))?;
+    state.put(conn, item)?;
+    Ok(())
+}
+
+/// Whether a link has more unsettled deliveries that are bound to no consumer than the router allows.
+fn has_many(state: &State, conn: u64, own: u16, handle: u32) -> bool
+    ensures { (t : List Entry) → TablesFit state.now t → result ≡ nat_lt 1024 (unbound t conn own handle) }
+{
+    state.unbound(conn, own, handle) > UNBOUND
+}
+
+/// Releases a delivery of a durable link: its producer settles it.
+fn release_unsettled(
+    state: &mut State,
+    id: &RouterId,
+    conn: u64,
+    own: u16,
+    handle: u32,
+    delivery: u32,
+) -> Result<(), AllocError>
+    ensures { OnOk result ((t : List Entry) → TablesFit state.old t → TablesFit state.new (puts conn (released_by t conn own handle true delivery) t)) }
+{
+    if has_many(state, conn, own, handle) {
+        let_go(
+            state,
+            id,
+            conn,
+            own,
+            handle,
+            Condition::ResourceLimitExceeded,
+        )?;
+        return Ok(());
+    }
+    let outcome = DeliveryState::Released;
+    put_outcome(
+        state,
+        id,
+        conn,
+        own,
+        Role::Receiver,
+        delivery,
+        false,
+        &outcome,
+    )?;
+    Ok(())
+}
+
+/// Releases a delivery, unless its producer has settled it.
+fn release(
+    state: &mut State,
+    id: &RouterId,
+    conn: u64,
+    own: u16,
+    handle: u32,
+    claimed: Option<u32>,
+) -> Result<(), AllocError>
+    ensures { OnOk result ((t : List Entry) → TablesFit state.old t → TablesFit state.new (puts conn (released t conn own handle claimed) t)) }
+{
+    let Some(delivery) = claimed else {
+        return Ok(());
+    };
+    if state.is_durable(conn, own, handle) {
+        release_unsettled(state, id, conn, own, handle, delivery)?;
+        return Ok(());
+    }
+    let outcome = DeliveryState::Released;
+    put_outcome(
+        state,
+        id,
+        conn,
+        own,
+        Role::Receiver,
+        delivery,
+        true,
+        &outcome,
+    )?;
+    Ok(())
+}
+
+/// Ignores a resumed delivery; a link with more unsettled ones than the router ignores is detached.
+fn ignore(
+    state: &mut State,
+    id: &RouterId,
+    conn: u64,
+    own: u16,
+    handle: u32,
+    claimed: Option<u32>,
+) -> Result<(), AllocError>
+    ensures { OnOk result ((t : List Entry) → TablesFit state.old t → TablesFit state.new (puts conn (ignored_put t conn own handle claimed) t)) }
+{
+    if claimed.is_none() {
+        return Ok(());
+    }
+    if !has_many(state, conn, own, handle) {
+        return Ok(());
+    }
+    let_go(
+        state,
+        id,
+        conn,
+        own,
+        handle,
+        Condition::ResourceLimitExceeded,
+    )?;
+    Ok(())
+}
+
+/// Binds a message of the link on this handle to a consumer of its address; if none is chosen, the delivery is released.
+fn bind(
+    state: &mut State,
+    id: &RouterId,
+    from: Attachment,
+    claimed: Option<u32>,
+    row: Option<RowNumber>,
+    format: u32,
+    payload: Bytes,
+) -> Result<(), AllocError>
+    ensures { OnOk result ((t : List Entry) → TablesFit state.old t → TablesFit state.new (puts from.conn.0 (unbound_put t from.conn.0 from.channel from.handle claimed (consumer_of t (link_of t from)))
+        (with_bound (binding_for t from (option_map (origin_of from) claimed) row format payload) t))) }
+{
+    let chosen = state.pass(from, origin_of(from, claimed), row, format, payload)?;
+    if chosen {
+        return Ok(());
+    }
+    release(state, id, from.conn.0, from.channel, from.handle, claimed)?;
+    Ok(())
+}
+
+/// A whole delivery that isn't resumed: it is bound if its link is attached and it may be, else released.
+fn pass_fresh(
+    state: &mut State,
+    id: &RouterId,
+    conn: u64,
+    own: u16,
+    handle: u32,
+    delivery: &Delivery,
+    row: Option<RowNumber>,
+    payload: Bytes,
+) -> Result<(), AllocError>
+    ensures { OnOk result ((t : List Entry) → TablesFit state.old t → TablesFit state.new (puts conn (unbound_put t conn own handle (claimed_id t conn own handle delivery.now.id) (consumer_for t conn own handle delivery.now row))
+        (with_bound (fresh_bound t conn own handle delivery.now row payload (link t conn own handle)) t))) }
+{
+    let claimed = claimed_id(state, conn, own, handle, delivery.id);
+    if !may_pass(state.is_durable(conn, own, handle), claimed, row) {
+        drop(payload);
+        release(state, id, conn, own, handle, claimed)?;
+        return Ok(());
+    }
+    let Some(from) = state.attachment(conn, own, handle) else {
+        drop(payload);
+        release(state, id, conn, own, handle, claimed)?;
+        return Ok(());
+    };
+    let format = delivery.format.unwrap_or(0);
+    bind(state, id, from, claimed, row, format, payload)?;
+    Ok(())
+}
+
+/// A whole delivery: a resumed one is ignored.
+fn pass_whole(
+    state: &mut State,
+    id: &RouterId,
+    conn: u64,
+    own: u16,
+    handle: u32,
+    delivery: &Delivery,
+    row: Option<RowNumber>,
+    payload: Bytes,
+) -> Result<(), AllocError>
+    ensures { OnOk result ((t : List Entry) → TablesFit state.old t → TablesFit state.new (puts conn (whole_put t conn own handle delivery.now row)
+        (with_bound (whole_bound t conn own handle delivery.now row payload) t))) }
+{
+    if delivery.resume {
+        let claimed = claimed_id(state, conn, own, handle, delivery.id);
+        ignore(state, id, conn, own, handle, claimed)?;
+        return Ok(());
+    }
+    pass_fresh(state, id, conn, own, handle, delivery, row, payload)?;
+    Ok(())
+}
+
+/// Handles what a transfer that is taken makes of its delivery: a whole delivery is bound to a consumer of its address, with its row if it has one, or
+/// released, or ignored; one that is too large detaches its link (AMQP 1.0 part 2, sections 2.6.12, 2.7.3 and 2.7.5).
+pub fn take_part(
+    state: &mut State,
+    id: &RouterId,
+    conn: u64,
+    own: u16,
+    handle: u32,
+    row: Option<RowNumber>,
+    part: Option<Part>,
+) -> Result<(), AllocError>
+    ensures { OnOk result ((t : List Entry) → TablesFit state.old t → TablesFit state.new (puts conn (part_put t conn own handle row part)
+        (with_bound (part_bound t conn own handle row part) t))) }
+{
+    match part {
+        None => {}
+        Some(Part::Whole(delivery, payload)) => {
+            pass_whole(state, id, conn, own, handle, &delivery, row, payload)?;
+        }
+        Some(Part::TooLarge) => {
+            let_go(state, id, conn, own, handle, Condition::MessageSizeExceeded)?;
+        }
+        Some(Part::More) => {}
+        Some(Part::Aborted) => {}
+        Some(Part::BeyondCredit) => {}
+    }
+    Ok(())
+}
+
+/// The disposition in an item.
+pub fn disposition_in(item: &Item) -> Option<&Disposition>
+    ensures { option_map (λ x. x.now) result ≡ disposition_in item.now }
+{
+    match item {
+        Item::Frame { perf, .. } => disposition_of(perf),
+        _ => None,
+    }
+}
+
+/// The disposition in a performative.
+fn disposition_of(perf: &Perf) -> Option<&Disposition>
+    ensures { option_map (λ x. x.now) result ≡ disposition_of perf.now }
+{
+    match perf {
+        Perf::Disposition(disposition) => Some(disposition),
+        _ => None,
+    }
+}
+
+/// The last delivery that a disposition names.
+pub fn last_of(disposition: &Disposition) -> u32
+    ensures { result ≡ last_of disposition.now }
+{
+    disposition.last.unwrap_or(disposition.first)
+}
+
+/// The state, if it is an outcome.
+fn terminal(state: &Option<DeliveryState>) -> Option<&DeliveryState>
+    ensures { option_map (λ s. s.now) result ≡ terminal state.now }
+{
+    match state {
+        None => None,
+        Some(DeliveryState::Received(_)) => None,
+        Some(DeliveryState::Other(_)) => None,
+        Some(outcome) => Some(outcome),
+    }
+}
+
+/// Answers deliveries, each settled with this outcome.
+fn settle_each(
+    state: &mut State,
+    id: &RouterId,
+    conn: u64,
+    own: u16,
+    ids: &[u32],
+    outcome: &DeliveryState,
+) -> Result<(), AllocError>
+    ensures { OnOk result ((t : List Entry) → TablesFit state.old t → TablesFit state.new (puts conn (map (λ n. outcome_item own Sender n true outcome.now) ids.now) t)) }
+{
+    for delivery in ids {
+        put_outcome(state, id, conn, own, Role::Sender, *delivery, true, outcome)?;
+    }
+    Ok(())
+}
+
+/// Answers the deliveries that a disposition decides, each settled with its outcome (AMQP 1.0 part 2, sections 2.6.12 and 2.7.6).
+pub fn settle(
+    state: &mut State,
+    id: &RouterId,
+    conn: u64,
+    own: u16,
+    ids: &[u32],
+    disposition: &Disposition,
+) -> Result<(), AllocError>
+    ensures { OnOk result ((t : List Entry) → TablesFit state.old t → TablesFit state.new (puts conn (settled_answers own (terminal disposition.now.state) ids.now) t)) }
+{
+    match terminal(&disposition.state) {
+        None => {}
+        Some(outcome) => settle_each(state, id, conn, own, ids, outcome)?,
+    }
+    Ok(())
+}

@@ -1,7 +1,0 @@
-use Rattle.std.proofs.Common.{◌≡◌, ◌++◌}
-use Rattle.std.specs.Map.{keys_of}
-use Rattle.state_collections.proofs.slots.append_range.Given as goal
-
--- those appended so far, and the others
-abbrev pub invariant-loop-number : goal.invariant-loop-number
-invariant-loop-number g l = l.numbers.items ++ keys_of l.number-iterator ≡ l.fn.numbers.items ++ keys_of l.fn.values

@@ -1,0 +1,11 @@
+use Rattle.std.proofs.Common.{refl, arith}
+use Rattle.std.specs.Prelude.{None}
+use Rattle.state_messages.proofs.messages.Messages.new.Goals as goal
+
+pub returns : goal.returns
+returns c g finds = record {
+  links = c.new.ensures.fits g;
+  deliveries = c.new-2.ensures g;
+  incoming = c.new-3.ensures g;
+  pools = record { known = λ n. None; fits = c.new-4.ensures g.routing finds (λ n. None) (λ n. refl); same = λ n quiet silent. refl; below = λ a. omega arith };
+}

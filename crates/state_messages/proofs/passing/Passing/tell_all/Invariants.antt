@@ -1,8 +1,0 @@
-use Rattle.std.proofs.Common.{List}
-use Rattle.router_trace.specs.Trace.{Entry}
-use Rattle.state_messages.specs.Fits.{PassingFit}
-use Rattle.state_messages.proofs.passing.Passing.tell_all.Given as goal
-
--- what agreed at the start still agrees
-abbrev pub invariant-loop-turn : goal.invariant-loop-turn
-invariant-loop-turn l = (t : List Entry) → PassingFit l.fn.self t → PassingFit l.self t

@@ -1,0 +1,139 @@
+-- Messages that go from a producer to a consumer of its address, and the credit granted to producers.
+use Rattle.std.specs.Prelude.{ℕ, zero, suc, Bool, false, ◌+◌, ◌==◌, ◌&&◌, if◌then◌else◌, List, [], ◌∷◌, ◌++◌, bytes_eq, Option, Some, None, is_some, option_and_then, option_map}
+use Rattle.std.specs.Cmp.Lexicographic.{slice_cmp}
+use Rattle.std.specs.Ordering.{nat_cmp}
+use Rattle.std.specs.declared.cmp.Ordering.{Ordering}
+use Rattle.std.specs.declared.cmp.Ordering.TheVariants.{Less}
+use Rattle.amqp_session.specs.Session.{Session}
+use Rattle.book_model.specs.declared.row.RowNumber.{RowNumber}
+use Rattle.amqp_link.specs.Receiving as receiving
+use Rattle.route_credit.specs.Granting.{choice, grants_of}
+use Rattle.route_credit.specs.Pool.{Sharing}
+use Rattle.state_pools.specs.Sharing.{Figure, producer, sharing}
+use Rattle.router_trace.specs.declared.binding.Binding.{Binding}
+use Rattle.router_trace.specs.declared.binding.Origin.{Origin}
+use Rattle.router_trace.specs.declared.handle.Attachment.{Attachment}
+use Rattle.router_trace.specs.Trace.{Trace, Put, Did, Out, Took, Bound, Booked, Began}
+use Rattle.router_trace.specs.Configuration.{distribution}
+use Rattle.router_trace.specs.Frames.{told_of}
+use Rattle.router_trace.specs.LinkFrames.{link_flow_item}
+use Rattle.router_trace.specs.Links.{Link, Happened, sends, receives, link, numbered, attachments, durable_key}
+use Rattle.router_trace.specs.Sessions.{session}
+use Rattle.router_trace.specs.Following.{link_of}
+use Rattle.state_messages.specs.declared.grant.LinkGrant.{LinkGrant}
+use Rattle.state_messages.specs.Figures.{figure}
+
+-- The consumer last chosen for an address, 0 before the first: that of the last message bound to a link of this address.
+abbrev pub is_of : List ℕ → Option Link → ℕ → Bool
+is_of address None number = false
+is_of address (Some l) number = (l.number == number) && bytes_eq l.address address
+
+abbrev pub last_chosen : Trace → List ℕ → ℕ
+last_chosen [] address = 0
+last_chosen (Did s ∷ t) address = last_chosen t address
+last_chosen (Out c i ∷ t) address = last_chosen t address
+last_chosen (Took c n ∷ t) address = last_chosen t address
+last_chosen (Bound b ∷ t) address = if is_of address (link_of t b.consumer) b.consumer.number then b.consumer.number else last_chosen t address
+last_chosen (Booked acts full ∷ t) address = last_chosen t address
+last_chosen (Began g ∷ t) address = last_chosen t address
+
+-- the same after this consumer is chosen too, if there is one
+abbrev pub last_after : Trace → Option Attachment → List ℕ → ℕ
+last_after t None address = last_chosen t address
+last_after t (Some a) address = if is_of address (link_of t a) a.number then a.number else last_chosen t address
+
+-- what the links of an address offer and want
+abbrev pub pool_of : Trace → List ℕ → Sharing
+pool_of t address = sharing (distribution t address) (figure t) (attachments t) (last_chosen t address) address
+
+-- the consumer chosen for an address
+unfoldable pub choice_of : Trace → List ℕ → Option ℕ
+choice_of t address = choice (pool_of t address)
+
+-- the consumer chosen for a message of a producer's link
+abbrev pub consumer_of : Trace → Option Link → Option Attachment
+consumer_of t None = None
+consumer_of t (Some l) = option_and_then (numbered t) (choice_of t l.address)
+
+-- an attachment's link is durable
+abbrev pub lasts : Trace → Attachment → Bool
+lasts t at = is_some (durable_key (link_of t at))
+
+-- a message of a producer's link, bound to the chosen consumer, if there is one; a durable message comes with the number of its row
+abbrev pub binding_to : Trace → Option Origin → Option RowNumber → ℕ → List ℕ → Attachment → Binding
+binding_to t origin row format payload at = record { consumer = at; origin = origin; row = row; lasting = lasts t at; format = format; payload = payload }
+
+abbrev pub binding_for : Trace → Attachment → Option Origin → Option RowNumber → ℕ → List ℕ → Option Binding
+binding_for t from origin row format payload = option_map (binding_to t origin row format payload) (consumer_of t (link_of t from))
+
+-- the trace with a binding, if there is one
+abbrev pub with_bound : Option Binding → Trace → Trace
+with_bound None t = t
+with_bound (Some b) t = Bound b ∷ t
+
+-- the attachment on a handle of the router
+abbrev pub standing_at : ℕ → ℕ → ℕ → Link → Attachment
+standing_at c o h l = record { number = l.number; conn = record { 0 = c }; channel = o; handle = h }
+
+abbrev pub attachment_at : Trace → ℕ → ℕ → ℕ → Option Attachment
+attachment_at t c o h = option_map (standing_at c o h) (link t c o h)
+
+-- A grant gives a producer's delivery-count and all its unused credit, including this much more than before (2.7.4).
+abbrev pub grant_by : Attachment → ℕ → Happened → List LinkGrant
+grant_by a amount (sends list) = []
+grant_by a amount (receives list) =
+    record { at = a; state = record { handle = a.handle; count = receiving.delivery_count list; credit = receiving.unused list + amount; drain = false } } ∷ []
+
+abbrev pub grant_on : ℕ → Attachment → ℕ → Option Link → List LinkGrant
+grant_on number a amount None = []
+grant_on number a amount (Some l) = if l.number == number then grant_by a amount l.happened else []
+
+abbrev pub grant_at : Trace → ℕ → ℕ → Option Attachment → List LinkGrant
+grant_at t number amount None = []
+grant_at t number amount (Some a) = grant_on number a amount (link_of t a)
+
+abbrev pub grants_on : Trace → List (ℕ × ℕ) → List LinkGrant
+grants_on t [] = []
+grants_on t (sum ∷ sums) = grant_at t sum.0 sum.1 (numbered t sum.0) ++ grants_on t sums
+
+-- The address whose grants come first: the lowest in byte order, of the addresses of producers' links that have any.
+abbrev pub if_some : List (ℕ × ℕ) → List ℕ → Option (List ℕ)
+if_some [] address = None
+if_some (sum ∷ sums) address = Some address
+
+abbrev pub wants : Trace → Option Figure → Option (List ℕ)
+wants t (Some (producer address unused kept)) = if_some (grants_of (pool_of t address)) address
+wants t _ = None
+
+abbrev pub lower_of : Ordering → List ℕ → List ℕ → List ℕ
+lower_of Less a b = a
+lower_of _ a b = b
+
+abbrev pub lower : Option (List ℕ) → Option (List ℕ) → Option (List ℕ)
+lower None b = b
+lower (Some a) None = Some a
+lower (Some a) (Some b) = Some (lower_of (slice_cmp nat_cmp a b) a b)
+
+unfoldable pub lowest_below : ℕ → (ℕ → Option (List ℕ)) → Option (List ℕ)
+lowest_below zero address = None
+lowest_below (suc n) address = lower (lowest_below n address) (address n)
+
+abbrev pub grants_of_address : Trace → Option (List ℕ) → List LinkGrant
+grants_of_address t None = []
+grants_of_address t (Some address) = grants_on t (grants_of (pool_of t address))
+
+-- the grants that the producers of an address are due
+unfoldable pub grants : Trace → List LinkGrant
+grants t = grants_of_address t (lowest_below (attachments t + 1) (λ n. wants t (figure t n)))
+
+-- the flows that carry them
+abbrev pub grant_flow : LinkGrant → Option Session → List Put
+grant_flow g None = []
+grant_flow g (Some s) = record { conn = g.at.conn.0; item = link_flow_item g.at.channel (told_of s) g.state } ∷ []
+
+abbrev pub grant_flows : Trace → List LinkGrant → List Put
+grant_flows t [] = []
+grant_flows t (g ∷ gs) = grant_flow g (session t g.at.conn.0 g.at.channel) ++ grant_flows t gs
+
+abbrev pub grants_due : Trace → List Put
+grants_due t = grant_flows t (grants t)

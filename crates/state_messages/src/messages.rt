@@ -1,0 +1,122 @@
+//! Links, the deliveries on them and the pools of their addresses.
+ghost use Rattle.std.specs.Prelude.{◌≡◌, ℕ, List, ◌∷◌, OnOk, IfOk};
+ghost use Rattle.route_table.specs.Places.{FindsAs};
+ghost use Rattle.router_trace.specs.Trace.{Beginning};
+ghost use Rattle.router_trace.specs.Configuration.{beginning};
+ghost use Rattle.router_trace.specs.Trace.{Entry, Out, did};
+ghost use Rattle.router_trace.specs.Deliveries.{channels_found};
+ghost use Rattle.router_trace.specs.Sessions.{is_channel, maps, theirs};
+ghost use Rattle.router_trace.specs.Settling.{part_at};
+ghost use Rattle.router_trace.specs.declared.event.Event.TheVariants as event;
+ghost use Rattle.state_unsettled.specs.Incoming.{IncomingFit};
+ghost use Rattle.state_deliveries.specs.Fits.{DeliveriesFit};
+ghost use Rattle.state_links.specs.Fits.{LinksFit, key_by, channel_of};
+ghost use Rattle.state_messages.specs.Fits.{MessagesFit};
+
+use crate::hearing::receiving;
+use amqp_link::Part;
+use amqp_model::Item;
+use book_model::LinkKey;
+use route_table::Table;
+use router_trace::ConnectionId;
+use state_deliveries::Deliveries;
+use state_links::Links;
+use state_pools::Pools;
+use state_unsettled::IncomingDeliveries;
+use std::alloc::{AllocError, Global};
+
+/// Links, the deliveries on them, what peers have not settled, and the pools of addresses. If an operation fails to allocate, their contents
+/// are unspecified.
+#[derive(Drop)]
+pub struct Messages {
+    pub(crate) alloc: Global,
+    pub(crate) links: Links,
+    pub(crate) deliveries: Deliveries,
+    pub(crate) incoming: IncomingDeliveries,
+    pub(crate) pools: Pools,
+}
+
+impl Messages {
+    /// Tables without any links; addresses are shared as this table says.
+    pub fn new(alloc: Global, table: Table) -> Messages
+        ensures { (g : Beginning) → FindsAs table g.routing → MessagesFit result (beginning g) }
+    {
+        Messages {
+            alloc,
+            links: Links::new(alloc),
+            deliveries: Deliveries::new(alloc),
+            incoming: IncomingDeliveries::new(alloc),
+            pools: Pools::new(alloc, table),
+        }
+    }
+
+    /// The links.
+    pub fn links(&self) -> &Links
+        ensures { (t : List Entry) → MessagesFit self.now t → LinksFit result.now t }
+    {
+        &self.links
+    }
+
+    /// The deliveries.
+    pub fn deliveries(&self) -> &Deliveries
+        ensures { (t : List Entry) → MessagesFit self.now t → DeliveriesFit result.now t }
+    {
+        &self.deliveries
+    }
+
+    /// What peers have not settled.
+    pub fn incoming(&self) -> &IncomingDeliveries
+        ensures { (t : List Entry) → MessagesFit self.now t → IncomingFit result.now t }
+    {
+        &self.incoming
+    }
+
+    /// A connection is lost.
+    pub fn down(&mut self, conn: ConnectionId) -> Result<(), AllocError>
+        ensures { OnOk result ((t : List Entry) → MessagesFit self.old t → MessagesFit self.new (did (event.Down conn) ∷ t)) }
+    {
+        self.links.down(conn)?;
+        self.deliveries.down(conn)?;
+        self.incoming.down(conn);
+        Ok(())
+    }
+
+    /// An item was received on a connection; `own` is the router's channel of its session, if it has one, and `found` the same, unless the event
+    /// ended the connection first. Returns what a transfer makes of its delivery.
+    pub fn hear(
+        &mut self,
+        conn: ConnectionId,
+        own: Option<u16>,
+        found: Option<u16>,
+        item: &Item,
+    ) -> Result<Option<Part>, AllocError>
+        ensures part { IfOk result (λ part. (t : List Entry) → MessagesFit self.old t → part ≡ part_at t conn.0 own item.now) }
+        ensures fits { OnOk result ((t : List Entry) → ((o : ℕ) → is_channel own o ≡ maps (theirs t conn.0 (channel_of item.now)) o)
+            → ((o : ℕ) → is_channel found o ≡ maps (channels_found t conn.0 (channel_of item.now)) o)
+            → MessagesFit self.old t → MessagesFit self.new (did (event.Item conn item.now) ∷ t)) }
+    {
+        let link = receiving(&self.links, conn.0, own, item);
+        self.incoming.hear(conn, own, item, link)?;
+        self.deliveries.hear(conn, found, item)?;
+        let part = self.links.hear(conn, own, item)?;
+        Ok(part)
+    }
+
+    /// An item is put into the outbox of a connection; an attach comes with its key. Fails if memory is refused, and if no attachment number
+    /// is left.
+    pub fn put(&mut self, conn: u64, item: &Item, key: Option<LinkKey>) -> Result<(), AllocError>
+        ensures { OnOk result ((t : List Entry) → key ≡ key_by t conn item.now → MessagesFit self.old t → MessagesFit self.new (Out conn item.now ∷ t)) }
+    {
+        self.incoming.put(conn, item)?;
+        self.deliveries.put(conn, item)?;
+        self.links.put(conn, item, key)?;
+        Ok(())
+    }
+
+    /// Unmarks the connections on which no link owes a drain any more.
+    pub fn settle_owed(&mut self)
+        ensures { (t : List Entry) → MessagesFit self.old t → MessagesFit self.new t }
+    {
+        self.links.settle_owed();
+    }
+}
