@@ -17,7 +17,7 @@ is_started (Out c i ∷ t) = is_started t
 is_started (Took c n ∷ t) = is_started t
 is_started (Bound x ∷ t) = is_started t
 is_started (Booked acts full ∷ t) = is_started t
-is_started (Began g ∷ t) = is_started t
+is_started (Began g ∷ t) = false
 
 abbrev pub is_out_of_turn : Trace → Event → Bool
 is_out_of_turn t event.Start = is_started t

@@ -111,6 +111,7 @@ impl<D: Disk> Store<D> {
         ensures stands { OnOk result (Stands D.seen D.may_leave self.old → Stands D.seen D.may_leave self.new) }
         ensures book { OnOk result (book_of self.new ≡ effects (book_of self.old) acts.items) }
         ensures written { IfOk result (λ w. IfSome w (λ batch. (batch.0 ≡ batch_count (journal_of self.old) + 1) × (batch.1.items ≡ acts.items))) }
+        ensures some_acts { IfOk result (λ w. IfSome w (λ batch. batch.1.items ≢ [])) }
         ensures silent { IfOk result (λ w. IfNone w (acts.items ≡ [])) }
         ensures count { OnOk result (batch_count (journal_of self.new) ≡ batches_after (batch_count (journal_of self.old)) acts.items) }
 

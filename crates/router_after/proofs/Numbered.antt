@@ -40,7 +40,7 @@ number_is (Out d i ∷ t) m a e = has_by i d (attachments t + 1) m (numbered t m
 number_is (Took d n ∷ t) m a e = number_is t m a e
 number_is (Bound b ∷ t) m a e = number_is t m a e
 number_is (Booked acts full ∷ t) m a e = number_is t m a e
-number_is (Began g ∷ t) m a e = number_is t m a e
+number_is (Began g ∷ t) m a e = absurd cc
 
 pub is_low : (t : Trace) (m : ℕ) (a : Attachment) → numbered t m ≡ Some a → m < attachments t + 1
 is_low t m a e =

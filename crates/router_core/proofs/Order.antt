@@ -82,7 +82,7 @@ no_session (Out d i ∷ t) c none o =
 no_session (Took d n ∷ t) c none o = no_session t c none o
 no_session (Bound b ∷ t) c none o = no_session t c none o
 no_session (Booked acts full ∷ t) c none o = no_session t c none o
-no_session (Began g ∷ t) c none o = no_session t c none o
+no_session (Began g ∷ t) c none o = refl
 
 event_phases : (t : List Entry) (e : Event) → Ordered t → refuses t e ≡ false → (c n : ℕ) (v : Connection)
     → at_event e c n (found t e c) ≡ Some v → v.phase.closed ≡ false → (wrote t c).phase ≡ v.phase

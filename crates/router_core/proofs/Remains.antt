@@ -1,17 +1,21 @@
 -- What a crash leaves while a list of events is run.
-use Rattle.std.proofs.Common.{◌≡◌, refl, ℕ, List, [], ◌∷◌, ◌++◌, inl, inr, ⊎_elim}
+use Rattle.std.proofs.Common.{◌≡◌, refl, sym, subst, ℕ, Bool, true, false, List, [], ◌∷◌, ◌++◌, ◌⊎◌, ◌≤◌, length, inl, inr, ⊎_elim, Result, Ok, Err, IfErr}
 use Rattle.disk_core.specs.Disk.{LeavesOnly}
 use Rattle.disk_core.specs.DiskLaws.{widened, joined}
 use Rattle.book_model.specs.Book.{BookView}
-use Rattle.journal_store.specs.Store.{Stands, disk_of}
+use Rattle.journal_store.specs.Store.{OpensTo, Stands, disk_of}
 use Rattle.journal_store.proofs.Moments.{unmoved}
 use Rattle.router_trace.specs.declared.event.Event.{Event}
 use Rattle.router_trace.specs.Trace.{Entry}
 use Rattle.router_reply.specs.Acts.{book_in, book_after_event}
 use Rattle.router_core.specs.declared.driving.Sent.{Sent}
 use Rattle.router_core.specs.declared.router.Core.{Core}
-use Rattle.router_core.specs.Handling.{Fits, BeforeOrAfterEvent, id_of, store_of, kept_book}
-use Rattle.router_core.specs.Leaving.{IsBookAt, LeftBy}
+use Rattle.core_machine.specs.declared.answers.Done.{Done}
+use Rattle.core_machine.specs.declared.fault.CoreFault.{CoreFault}
+use Rattle.core_machine.specs.declared.fault.CoreFault.TheVariants.{Failed, NoConnection}
+use Rattle.core_machine.specs.Turns.{declines}
+use Rattle.router_core.specs.Handling.{Fits, BeforeOrAfterEvent, id_of, is_failed, store_of, kept_book}
+use Rattle.router_core.specs.Leaving.{BeforeOrInTurn, IsBookAt, IsLeftAfter, LeftBy}
 use Rattle.router_core.specs.Runs.{Run}
 
 book_at : (t : List Entry) (es : List Event) (b : BookView) → b ≡ book_in t → IsBookAt t es b
@@ -26,12 +30,78 @@ module _ {D : Type 0} (seen : D → List ℕ) (may_leave : D → List ℕ → Ty
       widened moment left_since _ _ _ _ (unmoved seen may_leave moment left_since only_now (store_of core) (disk_of (store_of core)) refl stands)
       (λ file opens. (kept_book core, opens, record { first = []; rest = es; events = refl; taken = []; mid = t; run = (refl, refl); book = book_at t es (kept_book core) f.journal.book }))
 
+  -- an event that is declined leaves the router as it is
+  left_alone : (old new : Core D) (r : Result Done CoreFault) (t : List Entry) (e : Event) → Fits old t → declines t e ≡ true
+      → ((u : List Entry) → Fits old u → is_failed old ≡ false → declines u e ≡ true → r ≡ Err NoConnection) → (is_failed old ≡ true → r ≡ Err Failed)
+      → IfErr r (λ f. f ≡ NoConnection → (new ≡ old) × ((u : List Entry) → Fits old u → declines u e ≡ true))
+      → IfErr r (λ f. f ≡ Failed → (new ≡ old) × (is_failed old ≡ true)) → new ≡ old
+  left_alone old new r t e f out refuses failed refused unchanged = by (is_failed old) refl
+    where
+      by : (b : Bool) → is_failed old ≡ b → new ≡ old
+      by true is = (subst (λ (x : Result Done CoreFault). IfErr x (λ g. g ≡ Failed → (new ≡ old) × (is_failed old ≡ true))) (failed is) unchanged refl).0
+      by false is =
+          (subst (λ (x : Result Done CoreFault). IfErr x (λ g. g ≡ NoConnection → (new ≡ old) × ((u : List Entry) → Fits old u → declines u e ≡ true))) (refuses t f is out) refused refl).0
+
+  -- what a crash leaves at an event: the book before it, or, if it is in turn, the book after its acts
+  pub turn_moment : ((d : D) (c : List ℕ) → left_since d (moment d) c → may_leave d c) → (old new : Core D) (r : Result Done CoreFault) (e : Event)
+      → ((u : List Entry) → Fits old u → is_failed old ≡ false → declines u e ≡ true → r ≡ Err NoConnection) → (is_failed old ≡ true → r ≡ Err Failed)
+      → IfErr r (λ f. f ≡ NoConnection → (new ≡ old) × ((u : List Entry) → Fits old u → declines u e ≡ true))
+      → IfErr r (λ f. f ≡ Failed → (new ≡ old) × (is_failed old ≡ true))
+      → ((u : List Entry) → Fits old u → Stands seen may_leave (store_of old) → LeavesOnly moment left_since (disk_of (store_of old)) (disk_of (store_of new)) (BeforeOrAfterEvent u e))
+      → (t : List Entry) → Fits old t → Stands seen may_leave (store_of old)
+      → LeavesOnly moment left_since (disk_of (store_of old)) (disk_of (store_of new)) (BeforeOrInTurn t e)
+  turn_moment only_now old new r e refuses failed refused unchanged any_moment t f stands = by (declines t e) refl
+    where
+      stays : LeavesOnly moment left_since (disk_of (store_of old)) (disk_of (store_of old)) (BeforeOrInTurn t e)
+      stays =
+          widened moment left_since _ _ _ _ (unmoved seen may_leave moment left_since only_now (store_of old) (disk_of (store_of old)) refl stands)
+          (λ file opens. inl (subst (λ (b : BookView). OpensTo file b) f.journal.book opens))
+
+      by : (b : Bool) → declines t e ≡ b → LeavesOnly moment left_since (disk_of (store_of old)) (disk_of (store_of new)) (BeforeOrInTurn t e)
+      by true out =
+          subst (λ (c : Core D). LeavesOnly moment left_since (disk_of (store_of old)) (disk_of (store_of c)) (BeforeOrInTurn t e))
+          (sym (left_alone old new r t e f out refuses failed refused unchanged)) stays
+      by false turn = widened moment left_since _ _ _ _ (any_moment t f stands) (λ file. ⊎_elim (λ opens. inl opens) (λ opens. inr (turn, opens)))
+
   -- one event more
   pub next_moment : (start mid new : D) (id : List ℕ) (t : List Entry) (es first : List Event) (taken : List Sent) (m : List Entry) (e : Event) (rest : List Event)
       → es ≡ first ++ e ∷ rest → Run id 0 t first taken m → LeavesOnly moment left_since start mid (LeftBy id t es)
-      → LeavesOnly moment left_since mid new (BeforeOrAfterEvent m e) → LeavesOnly moment left_since start new (LeftBy id t es)
+      → LeavesOnly moment left_since mid new (BeforeOrInTurn m e) → LeavesOnly moment left_since start new (LeftBy id t es)
   next_moment start mid new id t es first taken m e rest events run so_far now =
       joined moment left_since start mid new (LeftBy id t es) so_far
-      (widened moment left_since mid new (BeforeOrAfterEvent m e) (LeftBy id t es) now (λ file. ⊎_elim
+      (widened moment left_since mid new (BeforeOrInTurn m e) (LeftBy id t es) now (λ file. ⊎_elim
       (λ opens. (book_in m, opens, record { first = first; rest = e ∷ rest; events = events; taken = taken; mid = m; run = run; book = inl refl }))
-      (λ opens. (book_after_event m e, opens, record { first = first; rest = e ∷ rest; events = events; taken = taken; mid = m; run = run; book = inr refl }))))
+      (λ both. (book_after_event m e, both.1, record { first = first; rest = e ∷ rest; events = events; taken = taken; mid = m; run = run; book = inr (both.0, refl) }))))
+
+  -- what is left at the end, where an event met a fault
+  pub left_after : ((d : D) (t : ℕ) (c : List ℕ) → t ≤ moment d → may_leave d c → left_since d t c) → (mid new : D) (id : List ℕ) (t : List Entry) (es first : List Event)
+      (taken : List Sent) (m : List Entry) (e : Event) (rest : List Event) (handled : ℕ)
+      → es ≡ first ++ e ∷ rest → handled ≡ length first → Run id 0 t first taken m
+      → LeavesOnly moment left_since mid new (BeforeOrInTurn m e) → (file : List ℕ) → may_leave new file → IsLeftAfter id t es handled file
+  left_after counts_now mid new id t es first taken m e rest handled events count run now file left =
+      ⊎_elim
+      (λ opens. record {
+        first = first;
+        rest = e ∷ rest;
+        events = events;
+        count = count;
+        taken = taken;
+        mid = m;
+        run = run;
+        book = book_in m;
+        is = inl refl;
+        opens = opens;
+      })
+      (λ both. record {
+        first = first;
+        rest = e ∷ rest;
+        events = events;
+        count = count;
+        taken = taken;
+        mid = m;
+        run = run;
+        book = book_after_event m e;
+        is = inr (both.0, refl);
+        opens = both.1;
+      })
+      (now.each file (counts_now new (moment mid) file now.later left))

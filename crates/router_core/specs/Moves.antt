@@ -33,7 +33,7 @@ ins (Out d i ∷ t) c = ins t c
 ins (Took d n ∷ t) c = ins t c
 ins (Bound b ∷ t) c = ins t c
 ins (Booked acts full ∷ t) c = ins t c
-ins (Began g ∷ t) c = ins t c
+ins (Began g ∷ t) c = []
 
 -- the items put out for a connection, in order
 abbrev pub outs : Trace → ℕ → List Item
@@ -43,4 +43,4 @@ outs (Out d i ∷ t) c = if d == c then outs t c ++ i ∷ [] else outs t c
 outs (Took d n ∷ t) c = outs t c
 outs (Bound b ∷ t) c = outs t c
 outs (Booked acts full ∷ t) c = outs t c
-outs (Began g ∷ t) c = outs t c
+outs (Began g ∷ t) c = []

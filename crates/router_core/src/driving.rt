@@ -4,8 +4,8 @@ ghost use Rattle.router_trace.specs.Trace.{Entry};
 ghost use Rattle.router_trace.specs.Connection.{conn as known, is_ready};
 ghost use Rattle.disk_core.specs.Disk.{LeavesOnly};
 ghost use Rattle.journal_store.specs.Store.{Stands, disk_of};
-ghost use Rattle.router_core.specs.Handling.{Fits, BeforeOrAfterEvent, id_of, is_failed, store_of};
-ghost use Rattle.router_core.specs.Leaving.{LeftBy};
+ghost use Rattle.router_core.specs.Handling.{Fits, id_of, is_failed, store_of};
+ghost use Rattle.router_core.specs.Leaving.{BeforeOrInTurn, IsLeftAfter, LeftBy};
 ghost use Rattle.router_core.specs.Runs.{Emptied, Steps, Run, MayStep, InTurn, Broken, Stopped, Waits, as_sent, sent};
 ghost use Rattle.core_machine.specs.Moves.{Taking, taking, items_of, took_one};
 ghost use Rattle.router_core.specs.declared.driving.Sent.{Sent as ASent};
@@ -128,7 +128,7 @@ fn step<D: Disk>(
 
     ensures stands { OnOk result (Stands D.seen D.may_leave (store_of core.old) → Stands D.seen D.may_leave (store_of core.new)) }
     ensures any_moment { (t : List Entry) → Fits core.old t → Stands D.seen D.may_leave (store_of core.old)
-        → LeavesOnly D.moment D.left_since (disk_of (store_of core.old)) (disk_of (store_of core.new)) (BeforeOrAfterEvent t event) }
+        → LeavesOnly D.moment D.left_since (disk_of (store_of core.old)) (disk_of (store_of core.new)) (BeforeOrInTurn t event) }
 {
     hear(core, event)?;
     empty(core, place, taken)
@@ -150,7 +150,7 @@ fn hear<D: Disk>(core: &mut Core<D>, event: Event) -> Result<(), CoreFault>
 
     ensures stands { OnOk result (Stands D.seen D.may_leave (store_of core.old) → Stands D.seen D.may_leave (store_of core.new)) }
     ensures any_moment { (t : List Entry) → Fits core.old t → Stands D.seen D.may_leave (store_of core.old)
-        → LeavesOnly D.moment D.left_since (disk_of (store_of core.old)) (disk_of (store_of core.new)) (BeforeOrAfterEvent t event) }
+        → LeavesOnly D.moment D.left_since (disk_of (store_of core.old)) (disk_of (store_of core.new)) (BeforeOrInTurn t event) }
 {
     match core.handle(event) {
         Ok(done) => {
@@ -187,6 +187,9 @@ pub fn drive<D: Disk>(alloc: Global, core: &mut Core<D>, events: Vec<Event>) -> 
     // event that comes next. Without a fault it leaves, at the end, the book after all of them.
     ensures any_moment { (t : List Entry) → Fits core.old t → Stands D.seen D.may_leave (store_of core.old)
         → LeavesOnly D.moment D.left_since (disk_of (store_of core.old)) (disk_of (store_of core.new)) (LeftBy (id_of core.old) t events.items) }
+    // With a fault it leaves, at the end, the book after those that were handled, or that book after the acts of the next one.
+    ensures left { IfSome result.fault (λ f. (t : List Entry) → Fits core.old t → Stands D.seen D.may_leave (store_of core.old)
+        → (file : List ℕ) → D.may_leave (disk_of (store_of core.new)) file → IsLeftAfter (id_of core.old) t events.items result.handled file) }
     ensures stands { result.fault ≡ None → Stands D.seen D.may_leave (store_of core.old) → Stands D.seen D.may_leave (store_of core.new) }
 {
     let mut taken = Vec::new(alloc);

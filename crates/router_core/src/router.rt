@@ -4,8 +4,8 @@ ghost use Rattle.disk_core.specs.Disk.{LeavesOnly, NoMore};
 ghost use Rattle.gate_journal.specs.Journal.{batch_count};
 ghost use Rattle.gate_journal.specs.Opening.{Explains};
 ghost use Rattle.journal_store.specs.Store.{OpensTo, Stands, Writable, journal_of, disk_of, count_of, used_of, kept_of, used_after, batches_after, exceeds};
-ghost use Rattle.router_trace.specs.Configuration.{beginning};
-ghost use Rattle.router_trace.specs.Trace.{Entry, Took, did, step_of};
+ghost use Rattle.router_trace.specs.Configuration.{opened};
+ghost use Rattle.router_trace.specs.Trace.{Entry, Trace, Took, did, step_of};
 ghost use Rattle.router_trace.specs.Connection.{conn as known, is_ready, is_live, due, phase_before, phase_found};
 ghost use Rattle.state_connections.specs.Fits.{IsLeast};
 ghost use Rattle.book_model.specs.Book.{effects};
@@ -106,7 +106,7 @@ impl<D: Disk> Core<D> {
     /// comes where it failed, `Memory` where memory was refused, and the others where the disk holds no journal, or a
     /// damaged one.
     pub fn open(alloc: Global, disk: D, config: &Config) -> Result<Core<D>, OpenFault>
-        ensures fits { IfOk result (λ core. Fits core (beginning (opening_of config.now core))) }
+        ensures fits { IfOk result (λ core. (below : Trace) → Fits core (opened (opening_of config.now core) below)) }
         ensures works { IfOk result (λ core. is_failed core ≡ false) }
         ensures named { IfOk result (λ core. id_of core ≡ config.now.router_id) }
         ensures counts { IfOk result (λ core. counts_of core ≡ uncounted) }
@@ -215,6 +215,7 @@ impl<D: Disk> Core<D> {
         ensures book { OnOk result ((t : List Entry) → Fits self.old t → kept_book self.new ≡ book_after_event t event) }
         ensures written { IfOk result (λ done. (t : List Entry) → Fits self.old t → IfSome done.journal (λ batch.
             (batch.0 ≡ batch_count (journal_of (store_of self.old)) + 1) × (batch.1.items ≡ acts_of t event))) }
+        ensures some_acts { IfOk result (λ done. IfSome done.journal (λ batch. batch.1.items ≢ [])) }
         ensures silent { IfOk result (λ done. (t : List Entry) → Fits self.old t → IfNone done.journal (acts_of t event ≡ [])) }
 
         // Whatever is answered, a crash at any moment of the call leaves the book before the event or the book after it; and after
@@ -287,6 +288,7 @@ impl<D: Disk> Core<D> {
         ensures book { OnOk result ((t : List Entry) → Fits self.old t → IsTaken t event phase → kept_book self.new ≡ book_after_event t event) }
         ensures written { IfOk result (λ journal. (t : List Entry) → Fits self.old t → IsTaken t event phase → IfSome journal (λ batch.
             (batch.0 ≡ batch_count (journal_of (store_of self.old)) + 1) × (batch.1.items ≡ acts_of t event))) }
+        ensures some_acts { IfOk result (λ journal. IfSome journal (λ batch. batch.1.items ≢ [])) }
         ensures silent { IfOk result (λ journal. (t : List Entry) → Fits self.old t → IsTaken t event phase → IfNone journal (acts_of t event ≡ [])) }
         ensures any_moment { (t : List Entry) → Fits self.old t → IsTaken t event phase → Stands D.seen D.may_leave (store_of self.old)
             → LeavesOnly D.moment D.left_since (disk_of (store_of self.old)) (disk_of (store_of self.new)) (BeforeOrAfterEvent t event) }
@@ -483,6 +485,7 @@ impl<D: Disk> Core<D> {
         ensures used { OnOk result (used_of (store_of self.new) ≡ used_after (used_of (store_of self.old)) acts.items) }
         ensures kept { OnOk result (kept_of (store_of self.old) ≡ reserve (kept_book self.old) → kept_of (store_of self.new) ≡ reserve (kept_book self.new)) }
         ensures written { IfOk result (λ w. IfSome w (λ batch. (batch.0 ≡ batch_count (journal_of (store_of self.old)) + 1) × (batch.1.items ≡ acts.items))) }
+        ensures some_acts { IfOk result (λ w. IfSome w (λ batch. batch.1.items ≢ [])) }
         ensures silent { IfOk result (λ w. IfNone w (acts.items ≡ [])) }
         ensures any_moment { Stands D.seen D.may_leave (store_of self.old) → LeavesOnly D.moment D.left_since (disk_of (store_of self.old)) (disk_of (store_of self.new))
             (λ file. OpensTo file (kept_book self.old) ⊎ OpensTo file (effects (kept_book self.old) acts.items)) }

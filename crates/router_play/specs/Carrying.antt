@@ -34,7 +34,7 @@ was_lost (Out d i ∷ t) c = was_lost t c
 was_lost (Took d n ∷ t) c = was_lost t c
 was_lost (Bound b ∷ t) c = was_lost t c
 was_lost (Booked acts full ∷ t) c = was_lost t c
-was_lost (Began g ∷ t) c = was_lost t c
+was_lost (Began g ∷ t) c = false
 
 -- the steps after a connection is made: its number is above that of each connection made before
 abbrev pub after_up : ℕ → Option ℕ → List Step → List Step

@@ -2,8 +2,8 @@
 ghost use Rattle.std.specs.Prelude.{◌≡◌, ◌==◌, ◌≤◌, ◌&&◌, nat_lt, if◌then◌else◌, ◌∷◌, ◌++◌, ℕ, List, [], true, false, Option, option_map, OnOk, OnErr, IfOk};
 ghost use Rattle.std.specs.Prelude.{is_some};
 ghost use Rattle.route_table.specs.Places.{FindsAs};
-ghost use Rattle.router_trace.specs.Trace.{Beginning};
-ghost use Rattle.router_trace.specs.Configuration.{beginning, distribution, is_multicast};
+ghost use Rattle.router_trace.specs.Trace.{Beginning, Trace};
+ghost use Rattle.router_trace.specs.Configuration.{opened, distribution, is_multicast};
 ghost use Rattle.router_trace.specs.Sessions.{theirs, maps, session};
 ghost use Rattle.router_trace.specs.Frames.{told_of};
 ghost use Rattle.router_trace.specs.Links.{link, place_of, is_attached, durable_key, holds_durable};
@@ -66,7 +66,7 @@ pub struct State {
 impl State {
     /// The tables of a new router; addresses are shared as this table says.
     pub fn new(alloc: Global, table: Table) -> State
-        ensures { (g : Beginning) → FindsAs table g.routing → TablesFit result (beginning g) }
+        ensures { (g : Beginning) (below : Trace) → FindsAs table g.routing → TablesFit result (opened g below) }
     {
         State {
             alloc,
@@ -373,7 +373,9 @@ impl State {
     pub fn is_claimed_on(&self, conn: u64, own: u16, handle: u32, id: u32) -> bool
         ensures { (t : List Entry) → TablesFit self.now t → result ≡ is_claimed_on t conn own handle id }
     {
-        self.messages.incoming().is_claimed_on(conn, own, handle, id)
+        self.messages
+            .incoming()
+            .is_claimed_on(conn, own, handle, id)
     }
 
     /// The ids in a range that name undecided deliveries of a session, in order, as an event finds them.

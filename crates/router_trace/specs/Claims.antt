@@ -123,4 +123,4 @@ claims (Out d i ∷ t) c o id = if d == c then claim_after i o id (claims t c o 
 claims (Took d n ∷ t) c o id = claims t c o id
 claims (Bound b ∷ t) c o id = bind_claim b.origin c o id (claims t c o id)
 claims (Booked acts full ∷ t) c o id = claims t c o id
-claims (Began g ∷ t) c o id = claims t c o id
+claims (Began g ∷ t) c o id = None

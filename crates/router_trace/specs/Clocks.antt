@@ -25,7 +25,7 @@ moment (Out c i ∷ t) = moment t
 moment (Took c n ∷ t) = moment t
 moment (Bound b ∷ t) = moment t
 moment (Booked acts full ∷ t) = moment t
-moment (Began g ∷ t) = moment t
+moment (Began g ∷ t) = 0
 
 -- what the peer's first open says; none if the connection is closed or lost
 abbrev pub terms_of : Open → Terms
@@ -55,7 +55,7 @@ terms (Out d i ∷ t) c = if d == c then unless_close i (terms t c) else terms t
 terms (Took d n ∷ t) c = terms t c
 terms (Bound b ∷ t) c = terms t c
 terms (Booked acts full ∷ t) c = terms t c
-terms (Began g ∷ t) c = terms t c
+terms (Began g ∷ t) c = None
 
 -- the moment at which an item was last put out; none before any, and if the connection is closed or lost
 abbrev pub written_at : Event → ℕ → Option ℕ → Option ℕ
@@ -69,7 +69,7 @@ written (Out d i ∷ t) c = if d == c then unless_close i (Some (moment t)) else
 written (Took d n ∷ t) c = written t c
 written (Bound b ∷ t) c = written t c
 written (Booked acts full ∷ t) c = written t c
-written (Began g ∷ t) c = written t c
+written (Began g ∷ t) c = None
 
 -- at this moment a heartbeat is due
 abbrev pub needs_beat : Option Terms → Option ℕ → ℕ → Bool

@@ -5,9 +5,14 @@ use Rattle.route_table.specs.declared.sections.Distribution.TheVariants.{Balance
 use Rattle.route_table.specs.Places.{Routing, distribution_of}
 use Rattle.router_trace.specs.Trace.{Did, Out, Took, Bound, Booked, Began, Beginning, Trace}
 
--- the trace before the first event
+-- A router is opened on top of what happened before. What is said of connections, sessions, links and deliveries begins anew
+-- there: nothing older counts. It goes on with the configuration and the book of its beginning.
+abbrev pub opened : Beginning → Trace → Trace
+opened g below = Began g ∷ below
+
+-- the trace before the first event of a router that nothing preceded
 abbrev pub beginning : Beginning → Trace
-beginning g = Began g ∷ []
+beginning g = opened g []
 
 -- a configuration without any prefix
 abbrev pub no_routing : Routing

@@ -120,7 +120,7 @@ conn (Out d i ∷ t) c = if d == c then option_map (with_item i) (conn t c) else
 conn (Took d n ∷ t) c = if d == c then option_and_then (took n) (conn t c) else conn t c
 conn (Bound b ∷ t) c = conn t c
 conn (Booked acts full ∷ t) c = conn t c
-conn (Began g ∷ t) c = conn t c
+conn (Began g ∷ t) c = None
 
 -- the connections that an event ends because their outboxes are full, by number
 abbrev pub due : Trace → Event → List ℕ

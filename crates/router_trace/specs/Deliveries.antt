@@ -34,7 +34,7 @@ bindings (Out d i ∷ t) = bindings t
 bindings (Took d n ∷ t) = bindings t
 bindings (Bound b ∷ t) = bindings t + 1
 bindings (Booked acts full ∷ t) = bindings t
-bindings (Began g ∷ t) = bindings t
+bindings (Began g ∷ t) = 0
 
 -- how many of them are of no row
 abbrev pub counters : Trace → ℕ
@@ -44,7 +44,7 @@ counters (Out d i ∷ t) = counters t
 counters (Took d n ∷ t) = counters t
 counters (Bound b ∷ t) = if is_none b.row then counters t + 1 else counters t
 counters (Booked acts full ∷ t) = counters t
-counters (Began g ∷ t) = counters t
+counters (Began g ∷ t) = 0
 
 -- The name of a delivery: a durable one has its row's number, any other the count of those without a row, with it.
 abbrev pub name_of : Option RowNumber → ℕ → DeliveryName
@@ -67,7 +67,7 @@ number_named (Out d i ∷ t) name = number_named t name
 number_named (Took d n ∷ t) name = number_named t name
 number_named (Bound b ∷ t) name = if same_name (name_in t b) name then Some (bindings t + 1) else number_named t name
 number_named (Booked acts full ∷ t) name = number_named t name
-number_named (Began g ∷ t) name = number_named t name
+number_named (Began g ∷ t) name = None
 
 -- A delivery: its name, its consumer's link, the producer's delivery to which its outcome is reported, and its progress.
 pub record Delivery : Type 0 where
@@ -188,7 +188,7 @@ sending (Out d i ∷ t) c o h = if d == c then sending_by (number_named t) i o h
 sending (Took d n ∷ t) c o h = sending t c o h
 sending (Bound b ∷ t) c o h = sending t c o h
 sending (Booked acts full ∷ t) c o h = sending t c o h
-sending (Began g ∷ t) c o h = sending t c o h
+sending (Began g ∷ t) c o h = None
 
 abbrev pub is_id : Option ℕ → ℕ → Bool
 is_id None id = false
@@ -215,7 +215,7 @@ named (Out d i ∷ t) c o id = if d == c then named_by (number_named t) i o id (
 named (Took d n ∷ t) c o id = named t c o id
 named (Bound b ∷ t) c o id = named t c o id
 named (Booked acts full ∷ t) c o id = named t c o id
-named (Began g ∷ t) c o id = named t c o id
+named (Began g ∷ t) c o id = None
 
 -- A transfer that carries the delivery: the id is that of its first frame; a delivery that was settled before is decided with its last frame.
 abbrev pub after_frame : Transfer → ℕ → Delivery → Delivery
@@ -380,7 +380,7 @@ delivery (Out c i ∷ t) n = option_and_then (λ d. unless_over (after_put (numb
 delivery (Took c k ∷ t) n = delivery t n
 delivery (Bound b ∷ t) n = if bindings t + 1 == n then Some (bound (name_in t b) b) else unless_called (name_in t b) (delivery t n)
 delivery (Booked acts full ∷ t) n = delivery t n
-delivery (Began g ∷ t) n = delivery t n
+delivery (Began g ∷ t) n = None
 
 -- Tests of a delivery: it waits to start on a link, it is undecided there, its outcome must be reported to its producer.
 abbrev pub waits_on : ℕ → Option Delivery → Bool
@@ -426,4 +426,4 @@ next_id (Out d i ∷ t) c o = if d == c then next_id_by i o (next_id t c o) else
 next_id (Took d n ∷ t) c o = next_id t c o
 next_id (Bound b ∷ t) c o = next_id t c o
 next_id (Booked acts full ∷ t) c o = next_id t c o
-next_id (Began g ∷ t) c o = next_id t c o
+next_id (Began g ∷ t) c o = 0

@@ -64,7 +64,7 @@ asked (Out d i ∷ t) c = if d == c then unless_close i (asked t c) else asked t
 asked (Took d n ∷ t) c = asked t c
 asked (Bound b ∷ t) c = asked t c
 asked (Booked acts full ∷ t) c = asked t c
-asked (Began g ∷ t) c = asked t c
+asked (Began g ∷ t) c = None
 
 -- What an item of the router ends: the handle of a detach on this session, or all handles of the session or the connection.
 abbrev pub ends_handle_in : Perf → ℕ → ℕ → ℕ → Bool
@@ -101,7 +101,7 @@ answered_handle (Out d i ∷ t) c o h = if d == c then answers_by i o h (asked t
 answered_handle (Took d n ∷ t) c o h = answered_handle t c o h
 answered_handle (Bound b ∷ t) c o h = answered_handle t c o h
 answered_handle (Booked acts full ∷ t) c o h = answered_handle t c o h
-answered_handle (Began g ∷ t) c o h = answered_handle t c o h
+answered_handle (Began g ∷ t) c o h = None
 
 -- What a peer's handle stands for, on the session with this router's channel: a link, on a handle of the router; one that the
 -- router detached, until the peer's detach; or nothing. A detach on a handle on which nothing was attached answers the last attach
@@ -147,7 +147,7 @@ their_handle (Out d i ∷ t) c o p =
 their_handle (Took d n ∷ t) c o p = their_handle t c o p
 their_handle (Bound b ∷ t) c o p = their_handle t c o p
 their_handle (Booked acts full ∷ t) c o p = their_handle t c o p
-their_handle (Began g ∷ t) c o p = their_handle t c o p
+their_handle (Began g ∷ t) c o p = None
 
 -- The address at the router's own terminus of its attach: the source's if it is the sender, the target's if it is the receiver.
 abbrev pub text_of : Option Address → Option (List ℕ)
@@ -182,7 +182,7 @@ attachments (Out d i ∷ t) = if is_taken i then attachments t + 1 else attachme
 attachments (Took d n ∷ t) = attachments t
 attachments (Bound b ∷ t) = attachments t
 attachments (Booked acts full ∷ t) = attachments t
-attachments (Began g ∷ t) = attachments t
+attachments (Began g ∷ t) = 0
 
 -- A link is identified by its user, container and name, and by the direction of its deliveries.
 abbrev pub way_of : Role → LinkRole
@@ -331,7 +331,7 @@ link (Out d i ∷ t) c o h =
 link (Took d n ∷ t) c o h = link t c o h
 link (Bound b ∷ t) c o h = link t c o h
 link (Booked acts full ∷ t) c o h = link t c o h
-link (Began g ∷ t) c o h = link t c o h
+link (Began g ∷ t) c o h = None
 
 -- An attachment still has its link.
 abbrev pub has_number : ℕ → Option Link → Bool
@@ -365,7 +365,7 @@ last_of_key (Out d i ∷ t) k = newest_by i d (attachments t + 1) (λ a. same_ke
 last_of_key (Took d n ∷ t) k = last_of_key t k
 last_of_key (Bound b ∷ t) k = last_of_key t k
 last_of_key (Booked acts full ∷ t) k = last_of_key t k
-last_of_key (Began g ∷ t) k = last_of_key t k
+last_of_key (Began g ∷ t) k = None
 
 abbrev pub numbered : Trace → ℕ → Option Attachment
 numbered [] n = None
@@ -374,7 +374,7 @@ numbered (Out d i ∷ t) n = newest_by i d (attachments t + 1) (λ a. attachment
 numbered (Took d k ∷ t) n = numbered t n
 numbered (Bound b ∷ t) n = numbered t n
 numbered (Booked acts full ∷ t) n = numbered t n
-numbered (Began g ∷ t) n = numbered t n
+numbered (Began g ∷ t) n = None
 
 -- the link with a key, and the link with a number, while they are attached
 abbrev pub holder : Trace → LinkKey → Option Attachment
@@ -444,7 +444,7 @@ told_handle_max (Out d i ∷ t) c = if d == c then unless_close i (told_handle_m
 told_handle_max (Took d n ∷ t) c = told_handle_max t c
 told_handle_max (Bound b ∷ t) c = told_handle_max t c
 told_handle_max (Booked acts full ∷ t) c = told_handle_max t c
-told_handle_max (Began g ∷ t) c = told_handle_max t c
+told_handle_max (Began g ∷ t) c = None
 
 abbrev pub most_in : Perf → ℕ → ℕ → Option ℕ → Option ℕ → Option ℕ
 most_in (perf.Begin b) own o told most = if own == o then told else most
@@ -463,7 +463,7 @@ highest_handle (Out d i ∷ t) c o = if d == c then most_after i o (told_handle_
 highest_handle (Took d n ∷ t) c o = highest_handle t c o
 highest_handle (Bound b ∷ t) c o = highest_handle t c o
 highest_handle (Booked acts full ∷ t) c o = highest_handle t c o
-highest_handle (Began g ∷ t) c o = highest_handle t c o
+highest_handle (Began g ∷ t) c o = None
 
 -- The router's lowest handle on which nothing is attached, of 64 and up to the highest that the peer accepts.
 abbrev pub is_free_handle : ℕ → (ℕ → Option ℕ) → ℕ → Bool

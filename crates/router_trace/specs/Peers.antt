@@ -23,7 +23,7 @@ user (Out d i ∷ t) c = if d == c then unless_close i (user t c) else user t c
 user (Took d n ∷ t) c = user t c
 user (Bound b ∷ t) c = user t c
 user (Booked acts full ∷ t) c = user t c
-user (Began g ∷ t) c = user t c
+user (Began g ∷ t) c = None
 
 -- what links need of the peer's first open: its container-id, and the largest frame that it accepts
 pub record Container : Type 0 where
@@ -57,7 +57,7 @@ container (Out d i ∷ t) c = if d == c then unless_close i (container t c) else
 container (Took d n ∷ t) c = container t c
 container (Bound b ∷ t) c = container t c
 container (Booked acts full ∷ t) c = container t c
-container (Began g ∷ t) c = container t c
+container (Began g ∷ t) c = None
 
 -- the largest frame that the peer accepts, in bytes; 4,294,967,295 if it states none
 abbrev pub largest_frame : Trace → ℕ → ℕ

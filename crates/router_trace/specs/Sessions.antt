@@ -54,7 +54,7 @@ offered (Out d i ∷ t) c = if d == c then unless_close i (offered t c) else off
 offered (Took d n ∷ t) c = offered t c
 offered (Bound b ∷ t) c = offered t c
 offered (Booked acts full ∷ t) c = offered t c
-offered (Began g ∷ t) c = offered t c
+offered (Began g ∷ t) c = None
 
 -- What a peer's channel stands for: a session, on a channel of the router; one that the router ended, until the peer's
 -- end; or nothing.
@@ -93,7 +93,7 @@ answered_channel (Out d i ∷ t) c o = if d == c then answered_by i o (answered_
 answered_channel (Took d n ∷ t) c o = answered_channel t c o
 answered_channel (Bound b ∷ t) c o = answered_channel t c o
 answered_channel (Booked acts full ∷ t) c o = answered_channel t c o
-answered_channel (Began g ∷ t) c o = answered_channel t c o
+answered_channel (Began g ∷ t) c o = None
 
 -- the peer's channel stands for the session on this channel of the router
 abbrev pub maps : Option PeerChannel → ℕ → Bool
@@ -127,7 +127,7 @@ theirs (Out d i ∷ t) c p = if d == c then theirs_after i p (answered_channel t
 theirs (Took d n ∷ t) c p = theirs t c p
 theirs (Bound b ∷ t) c p = theirs t c p
 theirs (Booked acts full ∷ t) c p = theirs t c p
-theirs (Began g ∷ t) c p = theirs t c p
+theirs (Began g ∷ t) c p = None
 
 -- the router's channel of the session on a peer's channel
 abbrev pub session_on : Trace → ℕ → ℕ → Option ℕ
@@ -176,7 +176,7 @@ session (Out d i ∷ t) c o = if d == c then after_item i o (offered t c) (sessi
 session (Took d n ∷ t) c o = session t c o
 session (Bound b ∷ t) c o = session t c o
 session (Booked acts full ∷ t) c o = session t c o
-session (Began g ∷ t) c o = session t c o
+session (Began g ∷ t) c o = None
 
 -- What is on a peer's channel: nothing, a session that the router ended, or a session, on a channel of the router.
 pub data Place : Type 0 where

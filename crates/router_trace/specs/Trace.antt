@@ -1,5 +1,5 @@
 -- A trace: what happened, as a list of entries, the newest first. All definitions search it; the router keeps none of it.
-use Rattle.std.specs.Prelude.{ℕ, List, [], ◌∷◌, ◌++◌, map, Option, Some, None}
+use Rattle.std.specs.Prelude.{◌≡◌, ℕ, Bool, true, false, List, [], ◌∷◌, ◌++◌, map, Option, Some, None}
 use Rattle.amqp_model.specs.declared.item.Item.{Item}
 use Rattle.book_model.specs.declared.act.Act.{Act}
 use Rattle.book_model.specs.Book.{BookView}
@@ -48,6 +48,15 @@ pub data Entry : Type 0 where
 abbrev pub Trace : Type 0
 Trace = List Entry
 
+-- entries of one run: the router isn't opened anew among them
+abbrev pub is_opening : Entry → Bool
+is_opening (Began g) = true
+is_opening _ = false
+
+abbrev pub IsOneRun : List Entry → Type 0
+IsOneRun [] = Unit {0}
+IsOneRun (e ∷ es) = (is_opening e ≡ false) × IsOneRun es
+
 -- the entry of an event
 abbrev pub did : Event → Entry
 did e = Did (step_of e)
@@ -84,7 +93,7 @@ ups (Out c i ∷ t) = ups t
 ups (Took c n ∷ t) = ups t
 ups (Bound b ∷ t) = ups t
 ups (Booked acts full ∷ t) = ups t
-ups (Began g ∷ t) = ups t
+ups (Began g ∷ t) = []
 
 -- the number of the last connection that came up
 abbrev pub newer : Event → Option ℕ → Option ℕ
@@ -98,4 +107,4 @@ newest (Out c i ∷ t) = newest t
 newest (Took c n ∷ t) = newest t
 newest (Bound b ∷ t) = newest t
 newest (Booked acts full ∷ t) = newest t
-newest (Began g ∷ t) = newest t
+newest (Began g ∷ t) = None

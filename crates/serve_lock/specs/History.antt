@@ -4,7 +4,7 @@ use Rattle.std.specs.Prelude.{◌≡◌, ◌⊎◌, true, false, List, [], ◌�
 use Rattle.book_model.specs.Made.{IsMade}
 use Rattle.router_trace.specs.declared.event.Event.{Event}
 use Rattle.router_trace.specs.Trace.{Beginning, Trace}
-use Rattle.router_trace.specs.Configuration.{beginning}
+use Rattle.router_trace.specs.Configuration.{opened}
 use Rattle.core_machine.specs.declared.counts.Counts.{Counts}
 use Rattle.core_machine.specs.Counting.{uncounted, with_event, with_batch}
 use Rattle.core_machine.specs.Meaning.{Meaning, BookAt}
@@ -22,14 +22,18 @@ tally (takes x ∷ ms) n = tally ms (with_batch n)
 abbrev pub IsCutOff : {M : Type 0} → Meaning M → M → Trace → Type 0
 IsCutOff m router t = m.keeps router (m.book t) ⊎ ((e : Event) × (declines t e ≡ false) × m.leaves router (BookAt m t e))
 
--- These moves, one after another, since the router was opened so: they give this trace, and each is counted once. While the router works, its tables
--- and its book are those of the trace, and its journal keeps that book.
-pub record IsHistory {M : Type 0} (m : Meaning M) (g : Beginning) (router : M) (moves : List Move) (t : Trace) : Type 0 where
-  pub goes : GoesInTurnBy (m.next (m.id router)) moves (beginning g) t
+-- These moves, one after another, since the router was opened so on top of what was before: they give this trace, and each is counted once. While the
+-- router works, its tables and its book are those of the trace, and its journal keeps that book.
+pub record IsHistory {M : Type 0} (m : Meaning M) (g : Beginning) (below : Trace) (router : M) (moves : List Move) (t : Trace) : Type 0 where
+  pub goes : GoesInTurnBy (m.next (m.id router)) moves (opened g below) t
   pub counted : m.counts router ≡ tally moves uncounted
   pub made : IsMade g.book
   pub works : m.is_failed router ≡ false → m.fits router t × m.keeps router (m.book t)
   pub failed : m.is_failed router ≡ true → IsCutOff m router t
 
+abbrev pub HasHistoryOn : {M : Type 0} → Meaning M → Beginning → Trace → M → Type 0
+HasHistoryOn m g below router = (moves : List Move) × (t : Trace) × IsHistory m g below router moves t
+
+-- whatever was before
 abbrev pub HasHistory : {M : Type 0} → Meaning M → Beginning → M → Type 0
-HasHistory m g router = (moves : List Move) × (t : Trace) × IsHistory m g router moves t
+HasHistory m g router = (below : Trace) → HasHistoryOn m g below router

@@ -4,7 +4,7 @@ ghost use Rattle.std.specs.Option.{option_map};
 ghost use Rattle.state_collections.specs.NumberMap.{at_number, in_places};
 ghost use Rattle.state_collections.specs.Emptying.{with_rest};
 
-use crate::number_map::{Entry, Places, NumberMap};
+use crate::number_map::{Entry, NumberMap, Places};
 
 /// A value whose contents can be forgotten where it stands.
 pub trait Empties: Drop {

@@ -97,7 +97,7 @@ known (Out d i ∷ t) c h =
     some_if (d == c) (option_map (with_item i) (conn t c)) (conn t c) (λ m. known t c (some_map (with_item i) (conn t c) m)) (λ m. known t c m) h
 known (Bound b ∷ t) c h = known t c h
 known (Booked acts full ∷ t) c h = known t c h
-known (Began g ∷ t) c h = known t c h
+known (Began g ∷ t) c h = absurd cc
 known (Took d n ∷ t) c h =
     some_if (d == c) (option_and_then (took n) (conn t c)) (conn t c) (λ m. known t c (some_then (took n) (conn t c) m)) (λ m. known t c m) h
 

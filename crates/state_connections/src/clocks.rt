@@ -1,8 +1,8 @@
 //! What peers' opens say, and when items were last put out.
 ghost use Rattle.std.specs.Prelude.{◌≡◌, ◌==◌, ◌∷◌, List, ℕ, None, false, if◌then◌else◌, OnOk};
 ghost use Rattle.state_collections.specs.NumberMap.{at_number};
-ghost use Rattle.router_trace.specs.Trace.{Beginning};
-ghost use Rattle.router_trace.specs.Configuration.{beginning};
+ghost use Rattle.router_trace.specs.Trace.{Beginning, Trace};
+ghost use Rattle.router_trace.specs.Configuration.{opened};
 ghost use Rattle.router_trace.specs.Trace.{Entry, Out, did};
 ghost use Rattle.router_trace.specs.Clocks.{terms, written, needs_beat, channel_max_of};
 ghost use Rattle.state_connections.specs.Timing.{ClocksFit, is_close};
@@ -29,7 +29,7 @@ pub struct Clocks {
 impl Clocks {
     /// An empty table.
     pub fn new(alloc: Global) -> Clocks
-        ensures { (g : Beginning) → ClocksFit result (beginning g) }
+        ensures { (g : Beginning) (below : Trace) → ClocksFit result (opened g below) }
     {
         Clocks {
             moment: 0,

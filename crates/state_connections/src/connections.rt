@@ -1,8 +1,8 @@
 //! The table of connections, with their outboxes.
 ghost use Rattle.std.specs.Prelude.{◌≡◌, ◌==◌, ◌≤◌, ◌∷◌, ◌++◌, ℕ, List, [], Some, None, length, nat_eq, nat_lt, true, false, not, filter, option_map, option_and_then, OnOk, OnErr, IfOk, if◌then◌else◌};
 ghost use Rattle.state_collections.specs.NumberMap.{at_number};
-ghost use Rattle.router_trace.specs.Trace.{Beginning};
-ghost use Rattle.router_trace.specs.Configuration.{beginning};
+ghost use Rattle.router_trace.specs.Trace.{Beginning, Trace};
+ghost use Rattle.router_trace.specs.Configuration.{opened};
 ghost use Rattle.router_trace.specs.Trace.{Entry, Out, Took, did, newest};
 ghost use Rattle.router_trace.specs.Connection.{conn as known, took, standing, is_live, is_full, is_ready, with_item, is_due, has, ended, unless_due, due, phase_before, phase_found};
 ghost use Rattle.state_connections.specs.Emptied.{emptied, NoneWaits};
@@ -37,7 +37,7 @@ pub struct Connections {
 impl Connections {
     /// An empty table.
     pub fn new(alloc: Global) -> Connections
-        ensures { (g : Beginning) → ConnectionsFit result (beginning g) }
+        ensures { (g : Beginning) (below : Trace) → ConnectionsFit result (opened g below) }
     {
         Connections {
             alloc,

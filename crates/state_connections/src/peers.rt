@@ -1,8 +1,8 @@
 //! The users of connections, and what their opens say of links.
 ghost use Rattle.std.specs.Prelude.{◌≡◌, ◌==◌, ◌∷◌, [], List, ℕ, Option, None, false, if◌then◌else◌, unwrap_or, OnOk, IfOk};
 ghost use Rattle.state_collections.specs.NumberMap.{at_number};
-ghost use Rattle.router_trace.specs.Trace.{Beginning};
-ghost use Rattle.router_trace.specs.Configuration.{beginning};
+ghost use Rattle.router_trace.specs.Trace.{Beginning, Trace};
+ghost use Rattle.router_trace.specs.Configuration.{opened};
 ghost use Rattle.router_trace.specs.Trace.{Entry, Out, did};
 ghost use Rattle.router_trace.specs.Links.{key_of, way_of};
 ghost use Rattle.router_trace.specs.Peers.{user, container, container_of, container_id, largest_frame};
@@ -60,7 +60,7 @@ pub struct Peers {
 impl Peers {
     /// An empty table.
     pub fn new(alloc: Global) -> Peers
-        ensures { (g : Beginning) → PeersFit result (beginning g) }
+        ensures { (g : Beginning) (below : Trace) → PeersFit result (opened g below) }
     {
         Peers {
             alloc,

@@ -153,7 +153,7 @@ there_named (Out c i ∷ t) n d e =
     ap (number_named t) (ap (λ (x : Delivery). x.name) w.is ∙ name_put (number_named t) i c n (sending t c) w.before) ∙ there_named t n w.before w.there
 there_named (Took c k ∷ t) n d e = there_named t n d e
 there_named (Booked acts full ∷ t) n d e = there_named t n d e
-there_named (Began g ∷ t) n d e = there_named t n d e
+there_named (Began g ∷ t) n d e = absurd cc
 there_named (Bound b ∷ t) n d e = by_test (bindings t + 1 == n) refl (there_named t n d)
   where
     newest : DeliveryName
@@ -185,7 +185,7 @@ one_name (Did s ∷ t) a b n e f = one_name t a b n e f
 one_name (Out c i ∷ t) a b n e f = one_name t a b n e f
 one_name (Took c k ∷ t) a b n e f = one_name t a b n e f
 one_name (Booked acts full ∷ t) a b n e f = one_name t a b n e f
-one_name (Began g ∷ t) a b n e f = one_name t a b n e f
+one_name (Began g ∷ t) a b n e f = absurd cc
 one_name (Bound x ∷ t) a b n e f = by_tests (same_name (name_in t x) a) (same_name (name_in t x) b) refl refl e f (one_name t a b n)
   where
     high : (k n : ℕ) → Some (k + 1) ≡ Some n → n ≤ k → ⊥

@@ -114,7 +114,7 @@ pub stays_closed : (e : Entry) (t : Trace) (n : ℕ) → n ≤ bindings t → is
 stays_closed (Did s) t n there closed = closed_after (after_event s.event (channels_found t) (named t) n) (event_closed s.event (channels_found t) (named t) n) (delivery t n) closed
 stays_closed (Out c i) t n there closed = closed_after (after_put (number_named t) i c n (sending t c)) (put_closed (number_named t) i c n (sending t c)) (delivery t n) closed
 stays_closed (Took c k) t n there closed = closed
-stays_closed (Began g) t n there closed = closed
+stays_closed (Began g) t n there closed = refl
 stays_closed (Booked acts full) t n there closed = closed
 stays_closed (Bound b) t n there closed = fresh (bindings t + 1 == n) refl
   where

@@ -24,8 +24,8 @@ use Rattle.state_deliveries.specs.declared.index.Keys.{Keys}
 use Rattle.state_deliveries.specs.declared.store.Store.{Store}
 use Rattle.state_deliveries.specs.Deciding.{gathered_below, changed_by, bare, row_of, open_row, outcome_of_row, outcome_of, decision_of, decided_rows, listed_row, row_from, rows_from, decides, decide}
 use Rattle.state_deliveries.specs.Fits.{StoreFit}
-use Rattle.state_deliveries.specs.Indexing.{standing, concerns, durable_place}
-use Rattle.state_deliveries.specs.Placing.{own_place, is_id_there}
+use Rattle.state_deliveries.specs.Indexing.{standing, concerns, durable_spot}
+use Rattle.state_deliveries.specs.Placing.{own_spot, is_id_there}
 use Rattle.state_deliveries.specs.Stepping.{is_gone, comes_with_id, is_in, is_decided_by, changed}
 use Rattle.state_deliveries.proofs.Keys.{changes_nothing, untells_nothing}
 use Rattle.state_deliveries.proofs.Numbers.{none_beyond}
@@ -171,15 +171,15 @@ and_none true = refl
 and_none false = refl
 
 -- and an undecided delivery with a row is decided only by its id
-by_own_id : (a : Attachment) (c o first last : ℕ) (id : Option ℕ) → is_id_there c o first last (own_place a id) ≡ false → (stands_on a c o && is_in id first last) ≡ false
+by_own_id : (a : Attachment) (c o first last : ℕ) (id : Option ℕ) → is_id_there c o first last (own_spot a id) ≡ false → (stands_on a c o && is_in id first last) ≡ false
 by_own_id a c o first last None e = and_none (stands_on a c o)
 by_own_id a c o first last (Some id) e = e
 
-not_decided : (d : Delivery) (c o first last : ℕ) → is_undecided d ≡ true → has_row d.name ≡ true → is_id_there c o first last (durable_place d) ≡ false → is_decided_by d c o first last ≡ false
+not_decided : (d : Delivery) (c o first last : ℕ) → is_undecided d ≡ true → has_row d.name ≡ true → is_id_there c o first last (durable_spot d) ≡ false → is_decided_by d c o first last ≡ false
 not_decided d c o first last undecided row e =
-    let there : is_id_there c o first last (own_place d.link d.id) ≡ false
-    = sym (ap (λ b. is_id_there c o first last (if b && has_row d.name then own_place d.link d.id else None)) undecided
-    ∙ ap (λ b. is_id_there c o first last (if b then own_place d.link d.id else None)) row) ∙ e
+    let there : is_id_there c o first last (own_spot d.link d.id) ≡ false
+    = sym (ap (λ b. is_id_there c o first last (if b && has_row d.name then own_spot d.link d.id else None)) undecided
+    ∙ ap (λ b. is_id_there c o first last (if b then own_spot d.link d.id else None)) row) ∙ e
     in ap (λ b. is_undecided d && b) (by_own_id d.link c o first last d.id there) ∙ and_none (is_undecided d)
 
 stays_by : (x : Change) (d : Delivery) → is_undecided d ≡ true → has_row d.name ≡ true → decides x (standing (Some d)) ≡ false → changed x d ≡ d

@@ -6,10 +6,10 @@ use Rattle.std.proofs.lemmas.Bool.{eqb-true}
 use Rattle.amqp_session.specs.Ranges.{has, in_range}
 use Rattle.router_trace.specs.Deliveries.{is_number}
 use Rattle.state_deliveries.specs.declared.by_id.ById.{ById}
-use Rattle.state_deliveries.specs.declared.place_index.SessionPlace.{SessionPlace}
-use Rattle.state_deliveries.specs.declared.place_index.PlaceIndex.{PlaceIndex}
+use Rattle.state_deliveries.specs.declared.spots.Spot.{Spot}
+use Rattle.state_deliveries.specs.declared.spots.Spots.{Spots}
 use Rattle.state_deliveries.specs.Rowing.{in_rows}
-use Rattle.state_deliveries.specs.Placing.{IdsFit, PlaceIndexFit, is_first, is_at_id, is_place, is_same_place, stands, key_cmp, IsSmall, is_id_there}
+use Rattle.state_deliveries.specs.Placing.{IdsFit, SpotsFit, is_first, is_at_id, is_spot, same_spot, stands, key_cmp, IsSmall, is_id_there}
 use Rattle.state_deliveries.proofs.Placed.{both_first, both_second, either_of, same_number, stand_moved, stood}
 
 or_right : (a b : Bool) → b ≡ true → (a || b) ≡ true
@@ -21,20 +21,20 @@ or_second true b e = absurd cc
 or_second false b e = e
 
 -- the same known ids, by an equal function; and the same first numbers
-pub ids_same : (s : ById) (f g : ℕ → Option SessionPlace) → ((n : ℕ) → f n ≡ g n) → IdsFit s f → IdsFit s g
-ids_same s f g same x = record { stand = λ p n. x.stand p n ∙ ap (λ v. is_place v p) (same n); small = x.small }
+pub ids_same : (s : ById) (f g : ℕ → Option Spot) → ((n : ℕ) → f n ≡ g n) → IdsFit s f → IdsFit s g
+ids_same s f g same x = record { stand = λ p n. x.stand p n ∙ ap (λ v. is_spot v p) (same n); small = x.small }
 
-pub ids_stay : (s t : ById) → ((c o id : ℕ) → in_rows t.first c o id ≡ in_rows s.first c o id) → t.further ≡ s.further → (known : ℕ → Option SessionPlace) → IdsFit s known → IdsFit t known
+pub ids_stay : (s t : ById) → ((c o id : ℕ) → in_rows t.first c o id ≡ in_rows s.first c o id) → t.further ≡ s.further → (known : ℕ → Option Spot) → IdsFit s known → IdsFit t known
 ids_stay s t same more known x = record { stand = λ p n. is p n ∙ x.stand p n; small = λ p n e. x.small p n (sym (is p n) ∙ e) }
   where
-    is : (p : SessionPlace) (n : ℕ) → is_at_id t p n ≡ is_at_id s p n
-    is p n = ap (λ v. is_number v n || stands t.further p n) (same p.conn p.own p.at) ∙ ap (λ (f : PlaceIndex). is_first s p n || stands f p n) more
+    is : (p : Spot) (n : ℕ) → is_at_id t p n ≡ is_at_id s p n
+    is p n = ap (λ v. is_number v n || stands t.further p n) (same p.conn p.own p.at) ∙ ap (λ (f : Spots). is_first s p n || stands f p n) more
 
 -- a number moves
-pub ids_moved : (s t u : ById) (m : ℕ) (before after : Option SessionPlace) (known : ℕ → Option SessionPlace)
-    → ((p : SessionPlace) (n : ℕ) → is_at_id t p n ≡ (if is_place before p then (if m == n then false else is_at_id s p n) else is_at_id s p n))
-    → ((p : SessionPlace) (n : ℕ) → is_at_id u p n ≡ (if is_place after p then (if m == n then true else is_at_id t p n) else is_at_id t p n))
-    → ((p : SessionPlace) (n : ℕ) → (is_at_id t p n ≡ true → IsSmall p n) → is_at_id u p n ≡ true → IsSmall p n)
+pub ids_moved : (s t u : ById) (m : ℕ) (before after : Option Spot) (known : ℕ → Option Spot)
+    → ((p : Spot) (n : ℕ) → is_at_id t p n ≡ (if is_spot before p then (if m == n then false else is_at_id s p n) else is_at_id s p n))
+    → ((p : Spot) (n : ℕ) → is_at_id u p n ≡ (if is_spot after p then (if m == n then true else is_at_id t p n) else is_at_id t p n))
+    → ((p : Spot) (n : ℕ) → (is_at_id t p n ≡ true → IsSmall p n) → is_at_id u p n ≡ true → IsSmall p n)
     → known m ≡ before → IdsFit s known → IdsFit u (λ n. if m == n then after else known n)
 ids_moved s t u m before after known out back small is x = record {
   stand = stand_moved (is_at_id s) (is_at_id t) (is_at_id u) m before after known out back is x.stand;
@@ -42,29 +42,29 @@ ids_moved s t u m before after known out back small is x = record {
 }
 
 -- what is at the same place
-same_place : {A : Type 0} (f : ℕ → ℕ → ℕ → A) (p q : SessionPlace) → (p.conn == q.conn) ≡ true → (p.own == q.own) ≡ true → (p.at == q.at) ≡ true → f q.conn q.own q.at ≡ f p.conn p.own p.at
+same_place : {A : Type 0} (f : ℕ → ℕ → ℕ → A) (p q : Spot) → (p.conn == q.conn) ≡ true → (p.own == q.own) ≡ true → (p.at == q.at) ≡ true → f q.conn q.own q.at ≡ f p.conn p.own p.at
 same_place f p q a b d = sym (λ i. f (eqb-true p.conn q.conn a i) (eqb-true p.own q.own b i) (eqb-true p.at q.at d i))
 
 -- the known ids of the further numbers
-abbrev further_of : ById → Option SessionPlace → ℕ → Option SessionPlace
+abbrev further_of : ById → Option Spot → ℕ → Option Spot
 further_of s None n = None
 further_of s (Some p) n = if stands s.further p n then Some p else None
 
-further_fits : (s : ById) (known : ℕ → Option SessionPlace) → IdsFit s known → PlaceIndexFit s.further (λ n. further_of s (known n) n)
+further_fits : (s : ById) (known : ℕ → Option Spot) → IdsFit s known → SpotsFit s.further (λ n. further_of s (known n) n)
 further_fits s known x = record {
   stand = λ p n. by_known p n (known n) (x.stand p n);
   small = λ p n e. x.small p n (or_right (is_first s p n) (stands s.further p n) e);
 }
   where
-    either : (b : Bool) (p q : SessionPlace) → is_same_place q p ≡ true → b ≡ is_place (if b then Some q else None) p
+    either : (b : Bool) (p q : Spot) → same_spot q p ≡ true → b ≡ is_spot (if b then Some q else None) p
     either true p q e = sym e
     either false p q e = refl
 
-    neither : (b : Bool) (p q : SessionPlace) → is_same_place q p ≡ false → false ≡ is_place (if b then Some q else None) p
+    neither : (b : Bool) (p q : Spot) → same_spot q p ≡ false → false ≡ is_spot (if b then Some q else None) p
     neither true p q e = sym e
     neither false p q e = refl
 
-    by_test : (p q : SessionPlace) (n : ℕ) (b : Bool) → is_same_place q p ≡ b → is_at_id s p n ≡ b → stands s.further p n ≡ is_place (if stands s.further q n then Some q else None) p
+    by_test : (p q : Spot) (n : ℕ) (b : Bool) → same_spot q p ≡ b → is_at_id s p n ≡ b → stands s.further p n ≡ is_spot (if stands s.further q n then Some q else None) p
     by_test p q n true e f =
         let rest = both_second (q.conn == p.conn) ((q.own == p.own) && (q.at == p.at)) e in
         same_place (λ c o id. contains key_cmp s.further.keys (c, o, id, n)) q p (both_first (q.conn == p.conn) ((q.own == p.own) && (q.at == p.at)) e)
@@ -72,19 +72,19 @@ further_fits s known x = record {
         ∙ either (stands s.further q n) p q e
     by_test p q n false e f = or_second (is_first s p n) (stands s.further p n) f ∙ neither (stands s.further q n) p q e
 
-    by_known : (p : SessionPlace) (n : ℕ) (v : Option SessionPlace) → is_at_id s p n ≡ is_place v p → stands s.further p n ≡ is_place (further_of s v n) p
+    by_known : (p : Spot) (n : ℕ) (v : Option Spot) → is_at_id s p n ≡ is_spot v p → stands s.further p n ≡ is_spot (further_of s v n) p
     by_known p n None e = or_second (is_first s p n) (stands s.further p n) e
-    by_known p n (Some q) e = by_test p q n (is_same_place q p) refl e
+    by_known p n (Some q) e = by_test p q n (same_spot q p) refl e
 
 -- the ids of a range
 is_first_there : (v : Option ℕ) (n : ℕ) → is_number v n ≡ true → v ≡ Some n
 is_first_there None n e = absurd cc
 is_first_there (Some m) n e = ap Some (eqb-true m n e)
 
-pub found_ids : (s : ById) (c o first last : ℕ) (middle new : List ℕ) (known : ℕ → Option SessionPlace) → IdsFit s known
+pub found_ids : (s : ById) (c o first last : ℕ) (middle new : List ℕ) (known : ℕ → Option Spot) → IdsFit s known
     → ((id n : ℕ) → id < 2 ^ 32 → in_range first last id ≡ true → in_rows s.first c o id ≡ Some n → has n middle ≡ true)
     → ((n : ℕ) → has n middle ≡ true → has n new ≡ true)
-    → ((f : ℕ → Option SessionPlace) → PlaceIndexFit s.further f → (n : ℕ) → is_id_there c o first last (f n) ≡ true → has n new ≡ true)
+    → ((f : ℕ → Option Spot) → SpotsFit s.further f → (n : ℕ) → is_id_there c o first last (f n) ≡ true → has n new ≡ true)
     → (n : ℕ) → is_id_there c o first last (known n) ≡ true → has n new ≡ true
 found_ids s c o first last middle new known x firsts more furthers n there = by_place (known n) refl there
   where
@@ -93,11 +93,11 @@ found_ids s c o first last middle new known x firsts more furthers n there = by_
     all_same true false d e f g = f
     all_same false b d e f g = e
 
-    by_place : (v : Option SessionPlace) → known n ≡ v → is_id_there c o first last v ≡ true → has n new ≡ true
+    by_place : (v : Option Spot) → known n ≡ v → is_id_there c o first last v ≡ true → has n new ≡ true
     by_place None e f = absurd cc
     by_place (Some p) e f =
         let at : is_at_id s p n ≡ true =
-        x.stand p n ∙ ap (λ v. is_place v p) e ∙ all_same (p.conn == p.conn) (p.own == p.own) (p.at == p.at) (same_number p.conn) (same_number p.own) (same_number p.at) in
+        x.stand p n ∙ ap (λ v. is_spot v p) e ∙ all_same (p.conn == p.conn) (p.own == p.own) (p.at == p.at) (same_number p.conn) (same_number p.own) (same_number p.at) in
         let on = both_first ((p.conn == c) && (p.own == o)) (in_range first last p.at) f in
         let conn = eqb-true p.conn c (both_first (p.conn == c) (p.own == o) on) in
         let own = eqb-true p.own o (both_second (p.conn == c) (p.own == o) on) in

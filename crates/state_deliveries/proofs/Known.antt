@@ -28,7 +28,7 @@ gone_stays (Did s) t n low gone = gone_after (λ d. unless_over (after_event s.e
 gone_stays (Out c i) t n low gone = gone_after (λ d. unless_over (after_put (number_named t) i c n (sending t c) d)) (delivery t n) gone
 gone_stays (Took c k) t n low gone = gone
 gone_stays (Booked acts full) t n low gone = gone
-gone_stays (Began g) t n low gone = gone
+gone_stays (Began g) t n low gone = refl
 gone_stays (Bound b) t n low gone =
     ap (λ x. if x then Some (bound (name_in t b) b) else unless_called (name_in t b) (delivery t n)) (apart (bindings t) n low) ∙ ap (unless_called (name_in t b)) gone
   where

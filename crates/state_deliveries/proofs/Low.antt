@@ -37,7 +37,7 @@ low_number (Took c k ∷ t) name = low_number t name
 low_number (Bound b ∷ t) name =
     either (bindings t + 1) (same_name (name_in t b) name) (Some (bindings t + 1)) (number_named t name) (itself (bindings t + 1)) (more (bindings t) (number_named t name) (low_number t name))
 low_number (Booked acts full ∷ t) name = low_number t name
-low_number (Began g ∷ t) name = low_number t name
+low_number (Began g ∷ t) name = tt
 
 -- what frames carry and begin
 abbrev AreLow : ℕ → (DeliveryName → Option ℕ) → Type 0
@@ -79,7 +79,7 @@ low_sending (Out d i ∷ t) c o h =
 low_sending (Took d n ∷ t) c o h = low_sending t c o h
 low_sending (Bound b ∷ t) c o h = more (bindings t) (sending t c o h) (low_sending t c o h)
 low_sending (Booked acts full ∷ t) c o h = low_sending t c o h
-low_sending (Began g ∷ t) c o h = low_sending t c o h
+low_sending (Began g ∷ t) c o h = tt
 
 low_named_in : (k : ℕ) (numbers : DeliveryName → Option ℕ) → AreLow k numbers → (body : Perf) (own o id : ℕ) (v : Option ℕ) → IsLow k v
     → IsLow k (named_in numbers body own o id v)
@@ -104,4 +104,4 @@ low_named (Out d i ∷ t) c o id =
 low_named (Took d n ∷ t) c o id = low_named t c o id
 low_named (Bound b ∷ t) c o id = more (bindings t) (named t c o id) (low_named t c o id)
 low_named (Booked acts full ∷ t) c o id = low_named t c o id
-low_named (Began g ∷ t) c o id = low_named t c o id
+low_named (Began g ∷ t) c o id = tt

@@ -47,7 +47,7 @@ none_beyond [] n l = refl
 none_beyond (Did s ∷ t) n l = none_is (λ d. unless_over (after_event s.event (channels_found t) (named t) n d)) (delivery t n) (none_beyond t n l)
 none_beyond (Out c i ∷ t) n l = none_is (λ d. unless_over (after_put (number_named t) i c n (sending t c) d)) (delivery t n) (none_beyond t n l)
 none_beyond (Took c k ∷ t) n l = none_beyond t n l
-none_beyond (Began g ∷ t) n l = none_beyond t n l
+none_beyond (Began g ∷ t) n l = refl
 none_beyond (Booked acts full ∷ t) n l = none_beyond t n l
 none_beyond (Bound b ∷ t) n l = fresh (bindings t + 1 == n) (Some (fresh_delivery (name_in t b) b)) (unless_called (name_in t b) (delivery t n)) (apart (bindings t) n l) (ap (unless_called (name_in t b)) (none_beyond t n (omega (arith, l))))
   where
@@ -59,7 +59,7 @@ none_before [] = refl
 none_before (Did s ∷ t) = none_is (λ d. unless_over (after_event s.event (channels_found t) (named t) 0 d)) (delivery t 0) (none_before t)
 none_before (Out c i ∷ t) = none_is (λ d. unless_over (after_put (number_named t) i c 0 (sending t c) d)) (delivery t 0) (none_before t)
 none_before (Took c k ∷ t) = none_before t
-none_before (Began g ∷ t) = none_before t
+none_before (Began g ∷ t) = refl
 none_before (Booked acts full ∷ t) = none_before t
 none_before (Bound b ∷ t) = fresh (bindings t + 1 == 0) (Some (fresh_delivery (name_in t b) b)) (unless_called (name_in t b) (delivery t 0)) (apart (bindings t)) (ap (unless_called (name_in t b)) (none_before t))
   where

@@ -14,9 +14,9 @@ use Rattle.std.proofs.lemmas.Bool.Decides.{nat_tests}
 use Rattle.std.proofs.lemmas.List.Folds.{list_any-append}
 use Rattle.amqp_session.specs.Serials.{distance}
 use Rattle.amqp_session.specs.Ranges.{has, in_range}
-use Rattle.state_deliveries.specs.declared.place_index.SessionPlace.{SessionPlace}
-use Rattle.state_deliveries.specs.declared.place_index.PlaceIndex.{PlaceIndex}
-use Rattle.state_deliveries.specs.Placing.{Key, key, key_cmp, numbers_of, stands, is_place, IsSmall, PlaceIndexFit, IsWithin, is_id_there}
+use Rattle.state_deliveries.specs.declared.spots.Spot.{Spot}
+use Rattle.state_deliveries.specs.declared.spots.Spots.{Spots}
+use Rattle.state_deliveries.specs.Placing.{Key, key, key_cmp, numbers_of, stands, is_spot, IsSmall, SpotsFit, IsWithin, is_id_there}
 
 pub both_first : (a b : Bool) → (a && b) ≡ true → a ≡ true
 both_first true b e = refl
@@ -56,31 +56,31 @@ key_test k x =
     ∙ ap (λ b. (((k.0 == x.0) && (k.1 == x.1)) && (k.2 == x.2)) && b) (same_test k.3 x.3)
 
 -- where nothing stands, no number has a place
-pub nowhere_at : (s : PlaceIndex) (known : ℕ → Option SessionPlace) → PlaceIndexFit s known → length s.keys.keys ≡ 0 → (n : ℕ) → known n ≡ None
-nowhere_at s known fit empty n = by_known_place (known n) refl
+pub nowhere_at : (s : Spots) (known : ℕ → Option Spot) → SpotsFit s known → length s.keys.keys ≡ 0 → (n : ℕ) → known n ≡ None
+nowhere_at s known fit empty n = by_spot (known n) refl
   where
     none_of : (ks : List Key) (k : Key) → length ks ≡ 0 → list_any (is_at (key_cmp k)) ks ≡ false
     none_of [] k e = refl
     none_of (x ∷ ks) k e = absurd (omega (arith, e))
 
-    same : (p : SessionPlace) → is_place (Some p) p ≡ true
+    same : (p : Spot) → is_spot (Some p) p ≡ true
     same p = rw (same_number p.conn, same_number p.own, same_number p.at) refl
 
-    by_known_place : (v : Option SessionPlace) → known n ≡ v → v ≡ None
-    by_known_place None e = refl
-    by_known_place (Some p) e =
-        let wrong : true ≡ false = sym (fit.stand p n ∙ ap (λ v. is_place v p) e ∙ same p) ∙ none_of s.keys.keys (key p n) empty in
+    by_spot : (v : Option Spot) → known n ≡ v → v ≡ None
+    by_spot None e = refl
+    by_spot (Some p) e =
+        let wrong : true ≡ false = sym (fit.stand p n ∙ ap (λ v. is_spot v p) e ∙ same p) ∙ none_of s.keys.keys (key p n) empty in
         absurd cc
 
 -- the same known places, by an equal function
-pub fits_same : (s : PlaceIndex) (f g : ℕ → Option SessionPlace) → ((n : ℕ) → f n ≡ g n) → PlaceIndexFit s f → PlaceIndexFit s g
-fits_same s f g same x = record { stand = λ p n. x.stand p n ∙ ap (λ v. is_place v p) (same n); small = x.small }
+pub fits_same : (s : Spots) (f g : ℕ → Option Spot) → ((n : ℕ) → f n ≡ g n) → SpotsFit s f → SpotsFit s g
+fits_same s f g same x = record { stand = λ p n. x.stand p n ∙ ap (λ v. is_spot v p) (same n); small = x.small }
 
 -- a number moves
-pub stand_moved : (s t u : SessionPlace → ℕ → Bool) (m : ℕ) (before after : Option SessionPlace) (known : ℕ → Option SessionPlace)
-    → ((p : SessionPlace) (n : ℕ) → t p n ≡ (if is_place before p then (if m == n then false else s p n) else s p n))
-    → ((p : SessionPlace) (n : ℕ) → u p n ≡ (if is_place after p then (if m == n then true else t p n) else t p n))
-    → known m ≡ before → ((p : SessionPlace) (n : ℕ) → s p n ≡ is_place (known n) p) → (p : SessionPlace) (n : ℕ) → u p n ≡ is_place (if m == n then after else known n) p
+pub stand_moved : (s t u : Spot → ℕ → Bool) (m : ℕ) (before after : Option Spot) (known : ℕ → Option Spot)
+    → ((p : Spot) (n : ℕ) → t p n ≡ (if is_spot before p then (if m == n then false else s p n) else s p n))
+    → ((p : Spot) (n : ℕ) → u p n ≡ (if is_spot after p then (if m == n then true else t p n) else t p n))
+    → known m ≡ before → ((p : Spot) (n : ℕ) → s p n ≡ is_spot (known n) p) → (p : Spot) (n : ℕ) → u p n ≡ is_spot (if m == n then after else known n) p
 stand_moved s t u m before after known out back is x = λ p n. by_test p n (m == n) refl
   where
     gone : (i o : Bool) → o ≡ i → (if i then (if true then false else o) else o) ≡ false
@@ -95,32 +95,32 @@ stand_moved s t u m before after known out back is x = λ p n. by_test p n (m ==
     stays true b o = refl
     stays false b o = refl
 
-    by_test : (p : SessionPlace) (n : ℕ) (b : Bool) → (m == n) ≡ b → u p n ≡ is_place (if b then after else known n) p
+    by_test : (p : Spot) (n : ℕ) (b : Bool) → (m == n) ≡ b → u p n ≡ is_spot (if b then after else known n) p
     by_test p n true f =
-        let old : s p n ≡ is_place before p = x p n ∙ ap (λ v. is_place v p) (ap known (sym (eqb-true m n f)) ∙ is) in
-        let middle : t p n ≡ false = out p n ∙ ap (λ e. if is_place before p then (if e then false else s p n) else s p n) f ∙ gone (is_place before p) (s p n) old in
-        back p n ∙ ap (λ e. if is_place after p then (if e then true else t p n) else t p n) f ∙ comes (is_place after p) (t p n) middle
+        let old : s p n ≡ is_spot before p = x p n ∙ ap (λ v. is_spot v p) (ap known (sym (eqb-true m n f)) ∙ is) in
+        let middle : t p n ≡ false = out p n ∙ ap (λ e. if is_spot before p then (if e then false else s p n) else s p n) f ∙ gone (is_spot before p) (s p n) old in
+        back p n ∙ ap (λ e. if is_spot after p then (if e then true else t p n) else t p n) f ∙ comes (is_spot after p) (t p n) middle
     by_test p n false f =
-        back p n ∙ ap (λ e. if is_place after p then (if e then true else t p n) else t p n) f ∙ stays (is_place after p) true (t p n)
-        ∙ out p n ∙ ap (λ e. if is_place before p then (if e then false else s p n) else s p n) f ∙ stays (is_place before p) false (s p n)
+        back p n ∙ ap (λ e. if is_spot after p then (if e then true else t p n) else t p n) f ∙ stays (is_spot after p) true (t p n)
+        ∙ out p n ∙ ap (λ e. if is_spot before p then (if e then false else s p n) else s p n) f ∙ stays (is_spot before p) false (s p n)
         ∙ x p n
 
 -- what stands after a number was taken out stood before
-pub stood : (s t : SessionPlace → ℕ → Bool) (m : ℕ) (before : Option SessionPlace)
-    → ((p : SessionPlace) (n : ℕ) → t p n ≡ (if is_place before p then (if m == n then false else s p n) else s p n))
-    → (p : SessionPlace) (n : ℕ) → t p n ≡ true → s p n ≡ true
-stood s t m before out p n there = was (is_place before p) (m == n) (s p n) (sym (out p n) ∙ there)
+pub stood : (s t : Spot → ℕ → Bool) (m : ℕ) (before : Option Spot)
+    → ((p : Spot) (n : ℕ) → t p n ≡ (if is_spot before p then (if m == n then false else s p n) else s p n))
+    → (p : Spot) (n : ℕ) → t p n ≡ true → s p n ≡ true
+stood s t m before out p n there = was (is_spot before p) (m == n) (s p n) (sym (out p n) ∙ there)
   where
     was : (i e o : Bool) → (if i then (if e then false else o) else o) ≡ true → o ≡ true
     was true true o f = absurd cc
     was true false o f = f
     was false e o f = f
 
-pub fits_moved : (s t u : PlaceIndex) (m : ℕ) (before after : Option SessionPlace) (known : ℕ → Option SessionPlace)
-    → ((p : SessionPlace) (n : ℕ) → stands t p n ≡ (if is_place before p then (if m == n then false else stands s p n) else stands s p n))
-    → ((p : SessionPlace) (n : ℕ) → stands u p n ≡ (if is_place after p then (if m == n then true else stands t p n) else stands t p n))
-    → ((p : SessionPlace) (n : ℕ) → (stands t p n ≡ true → IsSmall p n) → stands u p n ≡ true → IsSmall p n)
-    → known m ≡ before → PlaceIndexFit s known → PlaceIndexFit u (λ n. if m == n then after else known n)
+pub fits_moved : (s t u : Spots) (m : ℕ) (before after : Option Spot) (known : ℕ → Option Spot)
+    → ((p : Spot) (n : ℕ) → stands t p n ≡ (if is_spot before p then (if m == n then false else stands s p n) else stands s p n))
+    → ((p : Spot) (n : ℕ) → stands u p n ≡ (if is_spot after p then (if m == n then true else stands t p n) else stands t p n))
+    → ((p : Spot) (n : ℕ) → (stands t p n ≡ true → IsSmall p n) → stands u p n ≡ true → IsSmall p n)
+    → known m ≡ before → SpotsFit s known → SpotsFit u (λ n. if m == n then after else known n)
 fits_moved s t u m before after known out back small is x = record {
   stand = stand_moved (stands s) (stands t) (stands u) m before after known out back is x.stand;
   small = λ p n now. small p n (λ there. x.small p n (stood (stands s) (stands t) m before out p n there)) now;
@@ -146,10 +146,10 @@ down a b h = grind arith
 abbrev top : ℕ
 top = 18446744073709551615
 
-abbrev between : SessionPlace → SessionPlace → Key → Bool
+abbrev between : Spot → Spot → Key → Bool
 between low high = range_contains key_cmp (Included (key low 0)) (Included (key high top))
 
-is_between : (low high p : SessionPlace) (n : ℕ) → n < 2 ^ 64 → IsWithin low high p → between low high (key p n) ≡ true
+is_between : (low high p : Spot) (n : ℕ) → n < 2 ^ 64 → IsWithin low high p → between low high (key p n) ≡ true
 is_between low high p n small x = and_true (is_le (key_cmp (key low 0) (key p n))) (not (is_lt (key_cmp (key high top) (key p n))))
     (le_then (ordering_then (ordering_then (nat_cmp low.conn p.conn) (nat_cmp low.own p.own)) (nat_cmp low.at p.at)) (nat_cmp 0 n)
     (le_then (ordering_then (nat_cmp low.conn p.conn) (nat_cmp low.own p.own)) (nat_cmp low.at p.at)
@@ -195,19 +195,19 @@ listed test (x ∷ xs) k e t = by_test (is_at (key_cmp k) x) refl e (λ f. liste
     by_test true f g rest = let same = same_key k x f in here (test x) (ap test (sym same) ∙ t) (ap (λ (j : Key). j.3) same)
     by_test false f g rest = further (test x) (rest (ap (λ b. b || list_any (is_at (key_cmp k)) xs) (sym f) ∙ g))
 
-stands_there : (s : PlaceIndex) (known : ℕ → Option SessionPlace) → PlaceIndexFit s known → (p : SessionPlace) (n : ℕ) → known n ≡ Some p → stands s p n ≡ true
-stands_there s known x p n is = x.stand p n ∙ ap (λ v. is_place v p) is ∙ all_same (p.conn == p.conn) (p.own == p.own) (p.at == p.at) (same_number p.conn) (same_number p.own) (same_number p.at)
+stands_there : (s : Spots) (known : ℕ → Option Spot) → SpotsFit s known → (p : Spot) (n : ℕ) → known n ≡ Some p → stands s p n ≡ true
+stands_there s known x p n is = x.stand p n ∙ ap (λ v. is_spot v p) is ∙ all_same (p.conn == p.conn) (p.own == p.own) (p.at == p.at) (same_number p.conn) (same_number p.own) (same_number p.at)
   where
     all_same : (a b d : Bool) → a ≡ true → b ≡ true → d ≡ true → (a && (b && d)) ≡ true
     all_same true true d e f g = g
     all_same true false d e f g = f
     all_same false b d e f g = e
 
-small_there : (s : PlaceIndex) (known : ℕ → Option SessionPlace) → PlaceIndexFit s known → (p : SessionPlace) (n : ℕ) → known n ≡ Some p → IsSmall p n
+small_there : (s : Spots) (known : ℕ → Option Spot) → SpotsFit s known → (p : Spot) (n : ℕ) → known n ≡ Some p → IsSmall p n
 small_there s known x p n is = x.small p n (stands_there s known x p n is)
 
-pub found_between : (s : PlaceIndex) (low high : SessionPlace) (old new : List ℕ) → new ≡ old ++ numbers_of (keys_between key_cmp (Included (key low 0)) (Included (key high top)) s.keys)
-    → (known : ℕ → Option SessionPlace) → PlaceIndexFit s known → (p : SessionPlace) (n : ℕ) → known n ≡ Some p → IsWithin low high p → has n new ≡ true
+pub found_between : (s : Spots) (low high : Spot) (old new : List ℕ) → new ≡ old ++ numbers_of (keys_between key_cmp (Included (key low 0)) (Included (key high top)) s.keys)
+    → (known : ℕ → Option Spot) → SpotsFit s known → (p : Spot) (n : ℕ) → known n ≡ Some p → IsWithin low high p → has n new ≡ true
 found_between s low high old new is known x p n there within =
     ap (has n) is ∙ list_any-append (λ k. n == k) old (numbers_of (filter (between low high) s.keys.keys))
     ∙ or_right (has n old) (has n (numbers_of (filter (between low high) s.keys.keys)))
@@ -230,32 +230,32 @@ straight first last id o s i h = (grind arith, grind arith)
 wrapped : (first last id : ℕ) → last < first → first < 2 ^ 32 → id < first → distance first id ≤ distance first last → id ≤ last
 wrapped first last id o s i h = grind arith
 
-pub found_straight : (s : PlaceIndex) (c o first last : ℕ) (new : List ℕ) (known : ℕ → Option SessionPlace) → PlaceIndexFit s known → first ≤ last → last < 2 ^ 32
-    → ((p : SessionPlace) (n : ℕ) → known n ≡ Some p → p.conn ≡ c → p.own ≡ o → first ≤ p.at → p.at ≤ last → has n new ≡ true)
+pub found_straight : (s : Spots) (c o first last : ℕ) (new : List ℕ) (known : ℕ → Option Spot) → SpotsFit s known → first ≤ last → last < 2 ^ 32
+    → ((p : Spot) (n : ℕ) → known n ≡ Some p → p.conn ≡ c → p.own ≡ o → first ≤ p.at → p.at ≤ last → has n new ≡ true)
     → (n : ℕ) → is_id_there c o first last (known n) ≡ true → has n new ≡ true
 found_straight s c o first last new known x order small found n there = by_place (known n) refl there
   where
-    by_place : (v : Option SessionPlace) → known n ≡ v → is_id_there c o first last v ≡ true → has n new ≡ true
+    by_place : (v : Option Spot) → known n ≡ v → is_id_there c o first last v ≡ true → has n new ≡ true
     by_place None e f = absurd cc
     by_place (Some p) e f =
         let on = both_first ((p.conn == c) && (p.own == o)) (in_range first last p.at) f in
         let is = straight first last p.at order small (small_there s known x p n e).at (no_further first last p.at (both_second ((p.conn == c) && (p.own == o)) (in_range first last p.at) f)) in
         found p n e (eqb-true p.conn c (both_first (p.conn == c) (p.own == o) on)) (eqb-true p.own o (both_second (p.conn == c) (p.own == o) on)) is.0 is.1
 
-pub found_wrapped : (s : PlaceIndex) (c o first last : ℕ) (middle new : List ℕ) (known : ℕ → Option SessionPlace) → PlaceIndexFit s known → last < first → first < 2 ^ 32
-    → ((p : SessionPlace) (n : ℕ) → known n ≡ Some p → p.conn ≡ c → p.own ≡ o → first ≤ p.at → p.at ≤ 4294967295 → has n middle ≡ true)
+pub found_wrapped : (s : Spots) (c o first last : ℕ) (middle new : List ℕ) (known : ℕ → Option Spot) → SpotsFit s known → last < first → first < 2 ^ 32
+    → ((p : Spot) (n : ℕ) → known n ≡ Some p → p.conn ≡ c → p.own ≡ o → first ≤ p.at → p.at ≤ 4294967295 → has n middle ≡ true)
     → ((n : ℕ) → has n middle ≡ true → has n new ≡ true)
-    → ((p : SessionPlace) (n : ℕ) → known n ≡ Some p → p.conn ≡ c → p.own ≡ o → 0 ≤ p.at → p.at ≤ last → has n new ≡ true)
+    → ((p : Spot) (n : ℕ) → known n ≡ Some p → p.conn ≡ c → p.own ≡ o → 0 ≤ p.at → p.at ≤ last → has n new ≡ true)
     → (n : ℕ) → is_id_there c o first last (known n) ≡ true → has n new ≡ true
 found_wrapped s c o first last middle new known x order small high more low n there = by_place (known n) refl there
   where
-    by_test : (p : SessionPlace) (b : Bool) → nat_le first p.at ≡ b → known n ≡ Some p → p.conn ≡ c → p.own ≡ o → in_range first last p.at ≡ true → has n new ≡ true
+    by_test : (p : Spot) (b : Bool) → nat_le first p.at ≡ b → known n ≡ Some p → p.conn ≡ c → p.own ≡ o → in_range first last p.at ≡ true → has n new ≡ true
     by_test p true t e on own f =
         let at : p.at < 2 ^ 32 = (small_there s known x p n e).at in
         more n (high p n e on own (at_most first p.at t) (omega (arith, at)))
     by_test p false t e on own f = low p n e on own (omega arith) (wrapped first last p.at order small (beyond first p.at t) (no_further first last p.at f))
 
-    by_place : (v : Option SessionPlace) → known n ≡ v → is_id_there c o first last v ≡ true → has n new ≡ true
+    by_place : (v : Option Spot) → known n ≡ v → is_id_there c o first last v ≡ true → has n new ≡ true
     by_place None e f = absurd cc
     by_place (Some p) e f =
         let on = both_first ((p.conn == c) && (p.own == o)) (in_range first last p.at) f in

@@ -42,7 +42,7 @@ kept [] n = refl
 kept (Did s ∷ t) n = kept_after (after_event s.event (channels_found t) (named t) n) (delivery t n)
 kept (Out c i ∷ t) n = kept_after (after_put (number_named t) i c n (sending t c)) (delivery t n)
 kept (Took c k ∷ t) n = kept t n
-kept (Began g ∷ t) n = kept t n
+kept (Began g ∷ t) n = refl
 kept (Booked acts full ∷ t) n = kept t n
 kept (Bound b ∷ t) n = fresh (bindings t + 1 == n) (kept t n)
   where

@@ -10,11 +10,11 @@ use Rattle.state_deliveries.specs.declared.consumers.Consumers.{Consumers}
 use Rattle.state_deliveries.specs.declared.handles.Handles.{Handles}
 use Rattle.state_deliveries.specs.declared.index.Index.{Index}
 use Rattle.state_deliveries.specs.declared.index.Keys.{Keys}
-use Rattle.state_deliveries.specs.declared.place_index.SessionPlace.{SessionPlace}
-use Rattle.state_deliveries.specs.declared.place_index.PlaceIndex.{PlaceIndex}
+use Rattle.state_deliveries.specs.declared.spots.Spot.{Spot}
+use Rattle.state_deliveries.specs.declared.spots.Spots.{Spots}
 use Rattle.state_deliveries.specs.declared.tallies.Tallies.{Tallies}
 use Rattle.state_deliveries.specs.Indexing.{Indexes, standing, in_group}
-use Rattle.state_deliveries.specs.Placing.{PlaceIndexFit, HandlesFit, IdsFit}
+use Rattle.state_deliveries.specs.Placing.{SpotsFit, HandlesFit, IdsFit}
 use Rattle.state_deliveries.specs.Tallying.{IsTallied, AreTallied}
 use Rattle.state_deliveries.proofs.Handled.{handles_same}
 use Rattle.state_deliveries.proofs.Identified.{ids_same}
@@ -49,21 +49,21 @@ abbrev ConsumersMove : Consumers → Consumers → Keys → Keys → Type 0
 ConsumersMove s t before after = (m : ℕ) (waiting undecided : ℕ → Option ℕ) → waiting m ≡ before.waiting → undecided m ≡ before.undecided → AreTallied s waiting undecided
     → AreTallied t (λ n. if m == n then after.waiting else waiting n) (λ n. if m == n then after.undecided else undecided n)
 
-abbrev PlaceMoves : PlaceIndex → PlaceIndex → ℕ → Option SessionPlace → Option SessionPlace → Type 0
-PlaceMoves s t m before after = (known : ℕ → Option SessionPlace) → known m ≡ before → PlaceIndexFit s known → PlaceIndexFit t (λ n. if m == n then after else known n)
+abbrev SpotMoves : Spots → Spots → ℕ → Option Spot → Option Spot → Type 0
+SpotMoves s t m before after = (known : ℕ → Option Spot) → known m ≡ before → SpotsFit s known → SpotsFit t (λ n. if m == n then after else known n)
 
-abbrev HandleMoves : Handles → Handles → ℕ → Option SessionPlace → Option SessionPlace → Type 0
-HandleMoves s t m before after = (known : ℕ → Option SessionPlace) → known m ≡ before → HandlesFit s known → HandlesFit t (λ n. if m == n then after else known n)
+abbrev HandleMoves : Handles → Handles → ℕ → Option Spot → Option Spot → Type 0
+HandleMoves s t m before after = (known : ℕ → Option Spot) → known m ≡ before → HandlesFit s known → HandlesFit t (λ n. if m == n then after else known n)
 
-abbrev IdMoves : ById → ById → ℕ → Option SessionPlace → Option SessionPlace → Type 0
-IdMoves s t m before after = (known : ℕ → Option SessionPlace) → known m ≡ before → IdsFit s known → IdsFit t (λ n. if m == n then after else known n)
+abbrev IdMoves : ById → ById → ℕ → Option Spot → Option Spot → Type 0
+IdMoves s t m before after = (known : ℕ → Option Spot) → known m ≡ before → IdsFit s known → IdsFit t (λ n. if m == n then after else known n)
 
 pub indexes_moved : (s t : Index) (m : ℕ) (before after : Keys) (known : ℕ → Keys)
     → ConsumersMove s.consumers t.consumers before after → GroupMoves s.unsent t.unsent m before.unsent after.unsent
     → TallyMoves s.held t.held before.held after.held
     → (is_marked s.to_tell m ≡ before.to_tell → (n : ℕ) → is_marked t.to_tell n ≡ (if m == n then after.to_tell else is_marked s.to_tell n))
     → HandleMoves s.on t.on m before.on after.on → HandleMoves s.from t.from m before.from after.from → IdMoves s.by_id t.by_id m before.by_id after.by_id
-    → PlaceMoves s.durable t.durable m before.durable after.durable
+    → SpotMoves s.durable t.durable m before.durable after.durable
     → known m ≡ before → Indexes s known → Indexes t (λ n. if m == n then after else known n)
 indexes_moved s t m before after known consumers unsent held to_tell on from by_id durable is x = record {
   consumers = all_same t.consumers (λ n. if m == n then after.waiting else (known n).waiting) (λ n. (if m == n then after else known n).waiting)

@@ -16,8 +16,8 @@ use Rattle.state_deliveries.specs.declared.change.Change.TheVariants as change
 use Rattle.state_deliveries.specs.declared.index.Index.{Index}
 use Rattle.state_deliveries.specs.declared.index.Keys.{Keys}
 use Rattle.state_deliveries.specs.declared.index.Moved.{Moved}
-use Rattle.state_deliveries.specs.declared.place_index.SessionPlace.{SessionPlace}
-use Rattle.state_deliveries.specs.Placing.{PlaceIndexFit, HandlesFit, IdsFit, place_of, on_place, from_place, id_place, own_place, is_gone_there, is_id_there}
+use Rattle.state_deliveries.specs.declared.spots.Spot.{Spot}
+use Rattle.state_deliveries.specs.Placing.{SpotsFit, HandlesFit, IdsFit, spot_of, on_spot, from_spot, id_spot, own_spot, is_gone_there, is_id_there}
 use Rattle.state_deliveries.specs.Tallying.{IsTallied, AreTallied}
 
 -- a link and a number; ordered by link, then by number
@@ -65,8 +65,8 @@ from_link None holds = None
 from_link (Some p) holds = on_link p.link.number holds
 
 -- the place of the id that the router gave, of an undecided delivery with a row
-abbrev pub durable_place : Delivery → Option SessionPlace
-durable_place d = if is_undecided d && has_row d.name then own_place d.link d.id else None
+abbrev pub durable_spot : Delivery → Option Spot
+durable_spot d = if is_undecided d && has_row d.name then own_spot d.link d.id else None
 
 abbrev pub keys : Delivery → Keys
 keys d = record {
@@ -75,10 +75,10 @@ keys d = record {
   undecided = on_link d.link.number (is_none d.outcome && not d.suspended);
   held = from_link (holder d) (is_none d.outcome || has_row d.name);
   to_tell = not (is_none d.outcome) && is_some d.origin;
-  on = on_place (place_of d.link) (d.going_on || (is_none d.outcome && not d.suspended));
-  from = from_place (sender d);
-  by_id = id_place (source d);
-  durable = durable_place d;
+  on = on_spot (spot_of d.link) (d.going_on || (is_none d.outcome && not d.suspended));
+  from = from_spot (sender d);
+  by_id = id_spot (source d);
+  durable = durable_spot d;
 }
 
 abbrev pub nowhere : Keys
@@ -101,7 +101,7 @@ pub record Indexes (s : Index) (known : ℕ → Keys) : Type 0 where
   pub on : HandlesFit s.on (λ n. (known n).on)
   pub from : HandlesFit s.from (λ n. (known n).from)
   pub by_id : IdsFit s.by_id (λ n. (known n).by_id)
-  pub durable : PlaceIndexFit s.durable (λ n. (known n).durable)
+  pub durable : SpotsFit s.durable (λ n. (known n).durable)
 
 -- the change isn't a consumer's disposition, which finds its deliveries by their ids
 abbrev pub is_by_place : Change → Bool

@@ -4,13 +4,13 @@ ghost use Rattle.amqp_session.specs.Ranges.{has, in_range};
 ghost use Rattle.amqp_session.specs.Serials.{distance};
 ghost use Rattle.state_collections.specs.NumberMap.{at_number};
 ghost use Rattle.router_trace.specs.Deliveries.{is_number};
-ghost use Rattle.state_deliveries.specs.declared.place_index.SessionPlace.{SessionPlace as ThePlace};
+ghost use Rattle.state_deliveries.specs.declared.spots.Spot.{Spot as TheSpot};
 ghost use Rattle.state_deliveries.specs.Rowing.{in_rows};
-ghost use Rattle.state_deliveries.specs.Placing.{IdsFit, is_first, is_at_id, stands, is_place, is_same_place, IsSmall, is_id_there};
+ghost use Rattle.state_deliveries.specs.Placing.{IdsFit, is_first, is_at_id, stands, is_spot, same_spot, IsSmall, is_id_there};
 
 use crate::change::Gone;
 use crate::rows::Rows;
-use crate::place_index::{SessionPlace, PlaceIndex};
+use crate::spots::{Spot, Spots};
 use amqp_session::Serial;
 use state_collections::{NumberMap, numbers_in};
 use std::alloc::{AllocError, Global};
@@ -23,7 +23,7 @@ const FEW: u32 = 64;
 #[derive(Drop)]
 pub(crate) struct ById {
     first: Rows<u64>,
-    further: PlaceIndex,
+    further: Spots,
 }
 
 impl ById {
@@ -33,7 +33,7 @@ impl ById {
     {
         ById {
             first: Rows::new(alloc),
-            further: PlaceIndex::new(alloc),
+            further: Spots::new(alloc),
         }
     }
 
@@ -41,10 +41,10 @@ impl ById {
     pub(crate) fn shift(
         &mut self,
         number: u64,
-        before: Option<SessionPlace>,
-        after: Option<SessionPlace>,
+        before: Option<Spot>,
+        after: Option<Spot>,
     ) -> Result<(), AllocError>
-        ensures { OnOk result ((known : ℕ → Option ThePlace) → known number ≡ before → IdsFit self.old known
+        ensures { OnOk result ((known : ℕ → Option TheSpot) → known number ≡ before → IdsFit self.old known
             → IdsFit self.new (λ n. if number == n then after else known n)) }
     {
         if before == after {
@@ -56,64 +56,64 @@ impl ById {
     }
 
     /// Removes a number from an id, if there is one.
-    fn drop_from(&mut self, number: u64, place: Option<SessionPlace>)
-        ensures { (p : ThePlace) (n : ℕ) → is_at_id self.new p n ≡ (if is_place place p then (if number == n then false else is_at_id self.old p n) else is_at_id self.old p n) }
+    fn drop_from(&mut self, number: u64, spot: Option<Spot>)
+        ensures { (p : TheSpot) (n : ℕ) → is_at_id self.new p n ≡ (if is_spot spot p then (if number == n then false else is_at_id self.old p n) else is_at_id self.old p n) }
     {
-        if let Some(place) = place {
-            self.drop_first(number, place);
-            self.further.drop_from(number, Some(place));
+        if let Some(spot) = spot {
+            self.drop_first(number, spot);
+            self.further.drop_from(number, Some(spot));
         }
     }
 
     /// Removes a number from an id, if it is the first there.
-    fn drop_first(&mut self, number: u64, place: SessionPlace)
-        ensures first { (p : ThePlace) (n : ℕ) → is_first self.new p n ≡ (if is_same_place place p then (if number == n then false else is_first self.old p n) else is_first self.old p n) }
+    fn drop_first(&mut self, number: u64, spot: Spot)
+        ensures first { (p : TheSpot) (n : ℕ) → is_first self.new p n ≡ (if same_spot spot p then (if number == n then false else is_first self.old p n) else is_first self.old p n) }
         ensures further { self.new.further ≡ self.old.further }
     {
-        if self.is_first(number, place) {
-            self.first.remove(place.conn, place.own, place.at as u64);
+        if self.is_first(number, spot) {
+            self.first.remove(spot.conn, spot.own, spot.at as u64);
         }
     }
 
     /// Whether a number is the first at an id.
-    fn is_first(&self, number: u64, place: SessionPlace) -> bool
-        ensures { result ≡ is_first self.now place number }
+    fn is_first(&self, number: u64, spot: Spot) -> bool
+        ensures { result ≡ is_first self.now spot number }
     {
-        match self.first_at(place) {
+        match self.first_at(spot) {
             None => false,
             Some(found) => found == number,
         }
     }
 
     /// The first number at an id.
-    fn first_at(&self, place: SessionPlace) -> Option<u64>
-        ensures { result ≡ in_rows self.now.first place.conn place.own place.at }
+    fn first_at(&self, spot: Spot) -> Option<u64>
+        ensures { result ≡ in_rows self.now.first spot.conn spot.own spot.at }
     {
-        self.first.get(place.conn, place.own, place.at as u64).copied()
+        self.first.get(spot.conn, spot.own, spot.at as u64).copied()
     }
 
     /// Adds a number to an id, if there is one.
-    fn add_to(&mut self, number: u64, place: Option<SessionPlace>) -> Result<(), AllocError>
-        ensures stands { OnOk result ((p : ThePlace) (n : ℕ) → is_at_id self.new p n ≡ (if is_place place p then (if number == n then true else is_at_id self.old p n) else is_at_id self.old p n)) }
-        ensures small { OnOk result ((p : ThePlace) (n : ℕ) → (is_at_id self.old p n ≡ true → IsSmall p n) → is_at_id self.new p n ≡ true → IsSmall p n) }
+    fn add_to(&mut self, number: u64, spot: Option<Spot>) -> Result<(), AllocError>
+        ensures stands { OnOk result ((p : TheSpot) (n : ℕ) → is_at_id self.new p n ≡ (if is_spot spot p then (if number == n then true else is_at_id self.old p n) else is_at_id self.old p n)) }
+        ensures small { OnOk result ((p : TheSpot) (n : ℕ) → (is_at_id self.old p n ≡ true → IsSmall p n) → is_at_id self.new p n ≡ true → IsSmall p n) }
     {
-        if let Some(place) = place {
-            self.put(number, place)?;
+        if let Some(spot) = spot {
+            self.put(number, spot)?;
         }
         Ok(())
     }
 
     /// Adds a number to an id.
-    fn put(&mut self, number: u64, place: SessionPlace) -> Result<(), AllocError>
-        ensures stands { OnOk result ((p : ThePlace) (n : ℕ) → is_at_id self.new p n ≡ (if is_same_place place p then (if number == n then true else is_at_id self.old p n) else is_at_id self.old p n)) }
-        ensures small { IsSmall place number }
+    fn put(&mut self, number: u64, spot: Spot) -> Result<(), AllocError>
+        ensures stands { OnOk result ((p : TheSpot) (n : ℕ) → is_at_id self.new p n ≡ (if same_spot spot p then (if number == n then true else is_at_id self.old p n) else is_at_id self.old p n)) }
+        ensures small { IsSmall spot number }
     {
-        if self.first_at(place).is_some() {
-            self.further.add_to(number, Some(place))?;
+        if self.first_at(spot).is_some() {
+            self.further.add_to(number, Some(spot))?;
             return Ok(());
         }
         self.first
-            .insert(place.conn, place.own, place.at as u64, number)?;
+            .insert(spot.conn, spot.own, spot.at as u64, number)?;
         Ok(())
     }
 
@@ -128,7 +128,7 @@ impl ById {
         numbers: &mut Vec<u64>,
     ) -> Result<(), AllocError>
         ensures more { OnOk result ((n : ℕ) → has n numbers.old.items ≡ true → has n numbers.new.items ≡ true) }
-        ensures found { OnOk result ((known : ℕ → Option ThePlace) → IdsFit self.now known → (n : ℕ) → is_id_there conn own first last (known n) ≡ true → has n numbers.new.items ≡ true) }
+        ensures found { OnOk result ((known : ℕ → Option TheSpot) → IdsFit self.now known → (n : ℕ) → is_id_there conn own first last (known n) ≡ true → has n numbers.new.items ≡ true) }
     {
         self.append_first(conn, own, first, last, numbers)?;
         self.further.append_ids(conn, own, first, last, numbers)?;
@@ -162,7 +162,7 @@ impl ById {
 
     /// Lets go of the rows of sessions that end, where they have no numbers.
     pub(crate) fn end(&mut self, gone: Gone) -> Result<(), AllocError>
-        ensures { OnOk result ((known : ℕ → Option ThePlace) → IdsFit self.old known → IdsFit self.new known) }
+        ensures { OnOk result ((known : ℕ → Option TheSpot) → IdsFit self.old known → IdsFit self.new known) }
     {
         self.first.end(gone)?;
         Ok(())

@@ -2,8 +2,8 @@
 ghost use Rattle.std.specs.Prelude.{◌≡◌, ◌==◌, ◌&&◌, ◌∷◌, List, ℕ, OnOk, IfOk, false, if◌then◌else◌};
 ghost use Rattle.std.specs.Option.{option_map, is_none, is_some};
 ghost use Rattle.state_collections.specs.NumberMap.{at_number};
-ghost use Rattle.router_trace.specs.Trace.{Beginning};
-ghost use Rattle.router_trace.specs.Configuration.{beginning};
+ghost use Rattle.router_trace.specs.Trace.{Beginning, Trace};
+ghost use Rattle.router_trace.specs.Configuration.{opened};
 ghost use Rattle.router_trace.specs.Trace.{Entry, Out, Bound, did};
 ghost use Rattle.router_trace.specs.declared.event.Event.TheVariants as event;
 ghost use Rattle.router_trace.specs.Deliveries.{delivery, channels_found, name_of, next_id, sending, named, waits_on, undecided_on, held_from, is_to_tell};
@@ -48,7 +48,7 @@ pub struct Deliveries {
 impl Deliveries {
     /// An empty table.
     pub fn new(alloc: Global) -> Deliveries
-        ensures { (g : Beginning) → DeliveriesFit result (beginning g) }
+        ensures { (g : Beginning) (below : Trace) → DeliveriesFit result (opened g below) }
     {
         Deliveries {
             alloc,

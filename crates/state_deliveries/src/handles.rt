@@ -2,13 +2,13 @@
 ghost use Rattle.std.specs.Prelude.{◌≡◌, ◌==◌, ℕ, Option, None, true, if◌then◌else◌, OnOk};
 ghost use Rattle.amqp_session.specs.Ranges.{has};
 ghost use Rattle.router_trace.specs.Deliveries.{is_number};
-ghost use Rattle.state_deliveries.specs.declared.place_index.SessionPlace.{SessionPlace as ThePlace};
+ghost use Rattle.state_deliveries.specs.declared.spots.Spot.{Spot as TheSpot};
 ghost use Rattle.state_deliveries.specs.Rowing.{in_rows};
 ghost use Rattle.state_deliveries.specs.Placing.{HandlesFit, on_session, handle_in, is_gone_there};
 
 use crate::change::Gone;
 use crate::rows::Rows;
-use crate::place_index::SessionPlace;
+use crate::spots::Spot;
 use std::alloc::{AllocError, Global};
 
 /// The handle of each delivery's link, by the session and the delivery's number, each number at one place at most. It is asked only when a link, a
@@ -32,10 +32,10 @@ impl Handles {
     pub(crate) fn shift(
         &mut self,
         number: u64,
-        before: Option<SessionPlace>,
-        after: Option<SessionPlace>,
+        before: Option<Spot>,
+        after: Option<Spot>,
     ) -> Result<(), AllocError>
-        ensures { OnOk result ((known : ℕ → Option ThePlace) → known number ≡ before → HandlesFit self.old known
+        ensures { OnOk result ((known : ℕ → Option TheSpot) → known number ≡ before → HandlesFit self.old known
             → HandlesFit self.new (λ n. if number == n then after else known n)) }
     {
         if before == after {
@@ -47,20 +47,20 @@ impl Handles {
     }
 
     /// Removes a number from the session of a place, if there is one.
-    fn drop_from(&mut self, number: u64, place: Option<SessionPlace>)
-        ensures { (c o n : ℕ) → in_rows self.new.rows c o n ≡ (if on_session place c o then (if number == n then None else in_rows self.old.rows c o n) else in_rows self.old.rows c o n) }
+    fn drop_from(&mut self, number: u64, spot: Option<Spot>)
+        ensures { (c o n : ℕ) → in_rows self.new.rows c o n ≡ (if on_session spot c o then (if number == n then None else in_rows self.old.rows c o n) else in_rows self.old.rows c o n) }
     {
-        if let Some(place) = place {
-            self.rows.remove(place.conn, place.own, number);
+        if let Some(spot) = spot {
+            self.rows.remove(spot.conn, spot.own, number);
         }
     }
 
     /// Adds a number to a place, if there is one.
-    fn add_to(&mut self, number: u64, place: Option<SessionPlace>) -> Result<(), AllocError>
-        ensures { OnOk result ((c o n : ℕ) → in_rows self.new.rows c o n ≡ (if on_session place c o then (if number == n then handle_in place else in_rows self.old.rows c o n) else in_rows self.old.rows c o n)) }
+    fn add_to(&mut self, number: u64, spot: Option<Spot>) -> Result<(), AllocError>
+        ensures { OnOk result ((c o n : ℕ) → in_rows self.new.rows c o n ≡ (if on_session spot c o then (if number == n then handle_in spot else in_rows self.old.rows c o n) else in_rows self.old.rows c o n)) }
     {
-        if let Some(place) = place {
-            self.rows.insert(place.conn, place.own, number, place.at)?;
+        if let Some(spot) = spot {
+            self.rows.insert(spot.conn, spot.own, number, spot.at)?;
         }
         Ok(())
     }
@@ -68,7 +68,7 @@ impl Handles {
     /// Appends the numbers at the places of links that end.
     pub(crate) fn append_gone(&self, gone: Gone, numbers: &mut Vec<u64>) -> Result<(), AllocError>
         ensures more { OnOk result ((n : ℕ) → has n numbers.old.items ≡ true → has n numbers.new.items ≡ true) }
-        ensures found { OnOk result ((known : ℕ → Option ThePlace) → HandlesFit self.now known → (n : ℕ) → is_gone_there gone (known n) ≡ true → has n numbers.new.items ≡ true) }
+        ensures found { OnOk result ((known : ℕ → Option TheSpot) → HandlesFit self.now known → (n : ℕ) → is_gone_there gone (known n) ≡ true → has n numbers.new.items ≡ true) }
     {
         match gone {
             Gone::Link { conn, own, handle } => self.append_link(conn, own, handle, numbers)?,
@@ -111,7 +111,7 @@ impl Handles {
 
     /// Lets go of the rows of sessions that end, where they have no numbers.
     pub(crate) fn end(&mut self, gone: Gone) -> Result<(), AllocError>
-        ensures { OnOk result ((known : ℕ → Option ThePlace) → HandlesFit self.old known → HandlesFit self.new known) }
+        ensures { OnOk result ((known : ℕ → Option TheSpot) → HandlesFit self.old known → HandlesFit self.new known) }
     {
         self.rows.end(gone)?;
         Ok(())

@@ -6,8 +6,8 @@ ghost use Rattle.state_collections.specs.NumberSet.{has as is_marked};
 ghost use Rattle.state_deliveries.specs.declared.index.Keys.{Keys as TheKeys};
 ghost use Rattle.state_deliveries.specs.Deciding.{decides, decide};
 ghost use Rattle.router_trace.specs.Deliveries.{is_over, unless_over};
-ghost use Rattle.state_deliveries.specs.Indexing.{Indexes, nowhere, keys, standing, moved, on_link, durable_place, concerns};
-ghost use Rattle.state_deliveries.specs.Placing.{place_of, on_place, from_place, id_place, own_place, is_gone_there};
+ghost use Rattle.state_deliveries.specs.Indexing.{Indexes, nowhere, keys, standing, moved, on_link, durable_spot, concerns};
+ghost use Rattle.state_deliveries.specs.Placing.{spot_of, on_spot, from_spot, id_spot, own_spot, is_gone_there};
 ghost use Rattle.amqp_session.specs.Ranges.{has};
 
 use crate::by_id::ById;
@@ -17,7 +17,7 @@ use crate::consumers::Consumers;
 use crate::delivery::Delivery;
 use crate::handles::Handles;
 use crate::sets::add;
-use crate::place_index::{SessionPlace, PlaceIndex};
+use crate::spots::{Spot, Spots};
 use crate::tallies::Tallies;
 use router_trace::{Attachment, DeliveryName, Origin};
 use state_collections::{Boxed, NumberSet};
@@ -38,13 +38,13 @@ pub(crate) struct Keys {
     /// Whether its outcome must be reported to its producer.
     pub(crate) to_tell: bool,
     /// The place of its consumer's link, if the end of that link would change it.
-    pub(crate) on: Option<SessionPlace>,
+    pub(crate) on: Option<Spot>,
     /// The place of its producer's link, if the producer still needs its outcome.
-    pub(crate) from: Option<SessionPlace>,
+    pub(crate) from: Option<Spot>,
     /// The place of the id that its producer gave it, if the producer still needs its outcome.
-    pub(crate) by_id: Option<SessionPlace>,
+    pub(crate) by_id: Option<Spot>,
     /// The place of the id that the router gave it, if it is undecided and has a row in the journal.
-    pub(crate) durable: Option<SessionPlace>,
+    pub(crate) durable: Option<Spot>,
 }
 
 /// What the indexes have to know of a delivery that was changed in its place.
@@ -76,7 +76,7 @@ pub(crate) struct Index {
     from: Handles,
     by_id: ById,
     // those whose row a consumer's disposition may decide, by the router's delivery-id; a suspended one stays when its session ends
-    durable: PlaceIndex,
+    durable: Spots,
 }
 
 impl Keys {
@@ -146,10 +146,10 @@ impl Keys {
                 Some(origin) => on_link(origin.link.number, undecided || delivery.name.has_row()),
             },
             to_tell: !undecided && delivery.origin.is_some(),
-            on: on_place(place_of(delivery.link), delivery.going_on || open),
-            from: from_place(delivery.sender()),
-            by_id: id_place(source),
-            durable: durable_place(delivery),
+            on: on_spot(spot_of(delivery.link), delivery.going_on || open),
+            from: from_spot(delivery.sender()),
+            by_id: id_spot(source),
+            durable: durable_spot(delivery),
         };
     }
 }
@@ -190,10 +190,10 @@ fn on_link(link: u64, holds: bool) -> Option<u64>
 }
 
 /// The place of a link.
-fn place_of(link: Attachment) -> SessionPlace
-    ensures { result ≡ place_of link }
+fn spot_of(link: Attachment) -> Spot
+    ensures { result ≡ spot_of link }
 {
-    SessionPlace {
+    Spot {
         conn: link.conn.0,
         own: link.channel,
         at: link.handle,
@@ -201,29 +201,29 @@ fn place_of(link: Attachment) -> SessionPlace
 }
 
 /// The place, if `holds`.
-fn on_place(place: SessionPlace, holds: bool) -> Option<SessionPlace>
-    ensures { result ≡ on_place place holds }
+fn on_spot(spot: Spot, holds: bool) -> Option<Spot>
+    ensures { result ≡ on_spot spot holds }
 {
-    if holds { Some(place) } else { None }
+    if holds { Some(spot) } else { None }
 }
 
 /// The place of the producer's link, if there is one.
-fn from_place(origin: Option<Origin>) -> Option<SessionPlace>
-    ensures { result ≡ from_place origin }
+fn from_spot(origin: Option<Origin>) -> Option<Spot>
+    ensures { result ≡ from_spot origin }
 {
     match origin {
         None => None,
-        Some(origin) => Some(place_of(origin.link)),
+        Some(origin) => Some(spot_of(origin.link)),
     }
 }
 
 /// The place of the id that the producer gave, if there is one.
-fn id_place(origin: Option<Origin>) -> Option<SessionPlace>
-    ensures { result ≡ id_place origin }
+fn id_spot(origin: Option<Origin>) -> Option<Spot>
+    ensures { result ≡ id_spot origin }
 {
     match origin {
         None => None,
-        Some(origin) => Some(SessionPlace {
+        Some(origin) => Some(Spot {
             conn: origin.link.conn.0,
             own: origin.link.channel,
             at: origin.id,
@@ -232,22 +232,22 @@ fn id_place(origin: Option<Origin>) -> Option<SessionPlace>
 }
 
 /// The place of the id that the router gave to an undecided delivery with a row, if it gave it one.
-fn durable_place(delivery: &Delivery) -> Option<SessionPlace>
-    ensures { result ≡ durable_place delivery.now }
+fn durable_spot(delivery: &Delivery) -> Option<Spot>
+    ensures { result ≡ durable_spot delivery.now }
 {
     if delivery.is_undecided() && delivery.name.has_row() {
-        return own_place(delivery.link, delivery.id);
+        return own_spot(delivery.link, delivery.id);
     }
     None
 }
 
 /// The place of an id that the router gave on a link's session, if it gave one.
-fn own_place(link: Attachment, id: Option<u32>) -> Option<SessionPlace>
-    ensures { result ≡ own_place link id }
+fn own_spot(link: Attachment, id: Option<u32>) -> Option<Spot>
+    ensures { result ≡ own_spot link id }
 {
     match id {
         None => None,
-        Some(id) => Some(SessionPlace {
+        Some(id) => Some(Spot {
             conn: link.conn.0,
             own: link.channel,
             at: id,
@@ -268,7 +268,7 @@ impl Index {
             on: Handles::new(alloc),
             from: Handles::new(alloc),
             by_id: ById::new(alloc),
-            durable: PlaceIndex::new(alloc),
+            durable: Spots::new(alloc),
         }
     }
 

@@ -27,7 +27,7 @@ mod next_ids;
 mod rows;
 mod sending;
 mod sets;
-mod place_index;
+mod spots;
 mod state;
 mod store;
 mod tag;

@@ -4,8 +4,8 @@ ghost use Rattle.std.specs.Option.{option_and_then};
 ghost use Rattle.state_collections.specs.NumberMap.{at_number};
 ghost use Rattle.amqp_model.specs.declared.perf.Perf.TheVariants as perf;
 ghost use Rattle.amqp_model.specs.declared.item.Item.TheVariants as item;
-ghost use Rattle.router_trace.specs.Trace.{Beginning};
-ghost use Rattle.router_trace.specs.Configuration.{beginning};
+ghost use Rattle.router_trace.specs.Trace.{Beginning, Trace};
+ghost use Rattle.router_trace.specs.Configuration.{opened};
 ghost use Rattle.router_trace.specs.Trace.{Entry, Out, did};
 ghost use Rattle.router_trace.specs.declared.event.Event.TheVariants as event;
 ghost use Rattle.router_trace.specs.Deliveries.{delivery, is_id, number_tagged, tag_in, is_number};
@@ -35,7 +35,7 @@ pub(crate) struct Names {
 impl Names {
     /// An empty table.
     pub(crate) fn new(alloc: Global) -> Names
-        ensures { (g : Beginning) → NamesFit result (beginning g) }
+        ensures { (g : Beginning) (below : Trace) → NamesFit result (opened g below) }
     {
         Names {
             alloc,

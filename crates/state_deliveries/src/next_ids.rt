@@ -3,8 +3,8 @@ ghost use Rattle.std.specs.Prelude.{◌≡◌, ◌==◌, ◌∷◌, List, ℕ, B
 ghost use Rattle.std.specs.Ordering.{nat_cmp};
 ghost use Rattle.std.specs.BTreeMap.{get};
 ghost use Rattle.amqp_model.specs.declared.item.Item.TheVariants as item;
-ghost use Rattle.router_trace.specs.Trace.{Beginning};
-ghost use Rattle.router_trace.specs.Configuration.{beginning};
+ghost use Rattle.router_trace.specs.Trace.{Beginning, Trace};
+ghost use Rattle.router_trace.specs.Configuration.{opened};
 ghost use Rattle.router_trace.specs.Trace.{Entry, Out, did};
 ghost use Rattle.router_trace.specs.declared.event.Event.TheVariants as event;
 ghost use Rattle.router_trace.specs.Deliveries.{next_id, after_id};
@@ -31,7 +31,7 @@ pub(crate) struct NextIds {
 impl NextIds {
     /// An empty table.
     pub(crate) fn new(alloc: Global) -> NextIds
-        ensures { (g : Beginning) → NextIdsFit result (beginning g) }
+        ensures { (g : Beginning) (below : Trace) → NextIdsFit result (opened g below) }
     {
         NextIds {
             alloc,

@@ -5,8 +5,8 @@ ghost use Rattle.std.specs.Map.{values_of};
 ghost use Rattle.std.specs.BTreeMap.{IsOrdered};
 ghost use Rattle.state_deliveries.specs.Finding.{IsListed};
 ghost use Rattle.amqp_model.specs.declared.item.Item.TheVariants as item;
-ghost use Rattle.router_trace.specs.Trace.{Beginning};
-ghost use Rattle.router_trace.specs.Configuration.{beginning};
+ghost use Rattle.router_trace.specs.Trace.{Beginning, Trace};
+ghost use Rattle.router_trace.specs.Configuration.{opened};
 ghost use Rattle.router_trace.specs.Trace.{Entry, Out, did};
 ghost use Rattle.router_trace.specs.declared.event.Event.TheVariants as event;
 ghost use Rattle.router_trace.specs.Deliveries.{carried, tag_in};
@@ -29,7 +29,7 @@ pub(crate) struct Sending {
 impl Sending {
     /// An empty table.
     pub(crate) fn new(alloc: Global) -> Sending
-        ensures { (g : Beginning) → SendingFit result (beginning g) }
+        ensures { (g : Beginning) (below : Trace) → SendingFit result (opened g below) }
     {
         Sending {
             numbers: ByHandle::new(alloc),

@@ -50,7 +50,7 @@ old_key (Out d i ∷ t) k a e = bound_by i d (attachments t) (λ x. same_key (ke
 old_key (Took d n ∷ t) k a e = old_key t k a e
 old_key (Bound b ∷ t) k a e = old_key t k a e
 old_key (Booked acts full ∷ t) k a e = old_key t k a e
-old_key (Began g ∷ t) k a e = old_key t k a e
+old_key (Began g ∷ t) k a e = absurd cc
 
 pub old_number : (t : Trace) (m : ℕ) (a : Attachment) → numbered t m ≡ Some a → a.number ≤ attachments t
 old_number [] m a e = absurd cc
@@ -59,7 +59,7 @@ old_number (Out d i ∷ t) m a e = bound_by i d (attachments t) (λ x. attachmen
 old_number (Took d n ∷ t) m a e = old_number t m a e
 old_number (Bound b ∷ t) m a e = old_number t m a e
 old_number (Booked acts full ∷ t) m a e = old_number t m a e
-old_number (Began g ∷ t) m a e = old_number t m a e
+old_number (Began g ∷ t) m a e = absurd cc
 
 -- an item that takes no link doesn't change the newest
 newest_in_same : (body : Perf) (own c n : ℕ) (passes : Attach → Bool) (v : Option Attachment) → is_taken_in body ≡ false → newest_in body own c n passes v ≡ v

@@ -88,7 +88,7 @@ stands_where (Did s ∷ t) c o h n e =
 stands_where (Took d k ∷ t) c o h n e = stands_where t c o h n e
 stands_where (Bound b ∷ t) c o h n e = stands_where t c o h n e
 stands_where (Booked acts full ∷ t) c o h n e = stands_where t c o h n e
-stands_where (Began g ∷ t) c o h n e = stands_where t c o h n e
+stands_where (Began g ∷ t) c o h n e = absurd cc
 stands_where (Out d i ∷ t) c o h n e = by_new (attachments t + 1 == n) refl (stands_where t c o h n)
   where
     by_old : (b : Bool) → (attachments t + 1 == n) ≡ true → has_number n (link t c o h) ≡ b → (has_number n (link t c o h) ≡ true → numbered t n ≡ Some (attachment n c o h))

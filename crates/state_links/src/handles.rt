@@ -3,8 +3,8 @@ ghost use Rattle.std.specs.Prelude.{◌≡◌, ◌==◌, ◌∷◌, List, ℕ, B
 ghost use Rattle.std.specs.Option.{option_map};
 ghost use Rattle.std.specs.Ordering.{nat_cmp};
 ghost use Rattle.std.specs.BTreeMap.{get};
-ghost use Rattle.router_trace.specs.Trace.{Beginning};
-ghost use Rattle.router_trace.specs.Configuration.{beginning};
+ghost use Rattle.router_trace.specs.Trace.{Beginning, Trace};
+ghost use Rattle.router_trace.specs.Configuration.{opened};
 ghost use Rattle.router_trace.specs.Trace.{Entry, Out, did};
 ghost use Rattle.router_trace.specs.Sessions.{is_channel, maps, theirs};
 ghost use Rattle.router_trace.specs.Links.{is_handle, names, handle_asked, detached, first_free_below, is_free_handle, free_handle};
@@ -46,7 +46,7 @@ pub struct HandleTable {
 impl HandleTable {
     /// An empty table.
     pub fn new(alloc: Global) -> HandleTable
-        ensures { (g : Beginning) → HandlesFit result (beginning g) }
+        ensures { (g : Beginning) (below : Trace) → HandlesFit result (opened g below) }
     {
         HandleTable {
             alloc,

@@ -1,8 +1,8 @@
 //! The table of links.
 ghost use Rattle.std.specs.Prelude.{◌≡◌, ◌==◌, ◌&&◌, ◌∷◌, List, ℕ, Bool, Some, true, false, if◌then◌else◌, IfOk, OnOk};
 ghost use Rattle.amqp_model.specs.declared.item.Item.TheVariants as item;
-ghost use Rattle.router_trace.specs.Trace.{Beginning};
-ghost use Rattle.router_trace.specs.Configuration.{beginning};
+ghost use Rattle.router_trace.specs.Trace.{Beginning, Trace};
+ghost use Rattle.router_trace.specs.Configuration.{opened};
 ghost use Rattle.router_trace.specs.Trace.{Entry, Out, did};
 ghost use Rattle.router_trace.specs.Sessions.{is_channel, maps, theirs};
 ghost use Rattle.router_trace.specs.Links.{link, link_place, found_link, free_handle, holder, place_of, durable_key, holds_durable};
@@ -41,7 +41,7 @@ pub struct Links {
 impl Links {
     /// An empty table.
     pub fn new(alloc: Global) -> Links
-        ensures fits { (g : Beginning) → LinksFit result (beginning g) }
+        ensures fits { (g : Beginning) (below : Trace) → LinksFit result (opened g below) }
         ensures untouched { (k : ℕ) → is_touched result k ≡ false }
     {
         Links {

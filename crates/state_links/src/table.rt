@@ -11,8 +11,8 @@ ghost use Rattle.amqp_model.specs.declared.perf.Close.{Close};
 ghost use Rattle.amqp_model.specs.declared.item.Item.TheVariants as item;
 ghost use Rattle.book_model.specs.Keys.{key_cmp};
 ghost use Rattle.book_model.specs.declared.terminus.LinkKey.{LinkKey as AKey};
-ghost use Rattle.router_trace.specs.Trace.{Beginning};
-ghost use Rattle.router_trace.specs.Configuration.{beginning};
+ghost use Rattle.router_trace.specs.Trace.{Beginning, Trace};
+ghost use Rattle.router_trace.specs.Configuration.{opened};
 ghost use Rattle.router_trace.specs.Trace.{Entry, Out, did};
 ghost use Rattle.router_trace.specs.Sessions.{is_channel, maps, theirs};
 ghost use Rattle.router_trace.specs.Links.{is_handle, their_handle, asked, initial_of, key_at, is_attached, if_attached, holder, place_of, is_durable_at, holds_durable};
@@ -59,7 +59,7 @@ pub struct LinkTable {
 impl LinkTable {
     /// An empty table.
     pub fn new(alloc: Global) -> LinkTable
-        ensures fits { (g : Beginning) → TableFit result (beginning g) }
+        ensures fits { (g : Beginning) (below : Trace) → TableFit result (opened g below) }
         ensures untouched { (k : ℕ) → has result.touched k ≡ false }
     {
         LinkTable {

@@ -40,7 +40,7 @@ number_is (Out d i ∷ t) n a e = is_by i d (attachments t + 1) n (numbered t n)
 number_is (Took d k ∷ t) n a e = number_is t n a e
 number_is (Bound b ∷ t) n a e = number_is t n a e
 number_is (Booked acts full ∷ t) n a e = number_is t n a e
-number_is (Began g ∷ t) n a e = number_is t n a e
+number_is (Began g ∷ t) n a e = absurd cc
 
 -- no attachment has the number 0
 none_if : (taken pass : Bool) (new : Attachment) (v : Option Attachment) → pass ≡ false → v ≡ None → (if taken && pass then Some new else v) ≡ None
@@ -66,7 +66,7 @@ none_first (Out d i ∷ t) = none_by i d (attachments t + 1) 0 (numbered t 0) (n
 none_first (Took d k ∷ t) = none_first t
 none_first (Bound b ∷ t) = none_first t
 none_first (Booked acts full ∷ t) = none_first t
-none_first (Began g ∷ t) = none_first t
+none_first (Began g ∷ t) = refl
 
 -- or one above the count
 pub none_beyond : (t : Trace) (n : ℕ) → attachments t < n → numbered t n ≡ None

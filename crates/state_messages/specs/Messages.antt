@@ -35,7 +35,7 @@ last_chosen (Out c i ∷ t) address = last_chosen t address
 last_chosen (Took c n ∷ t) address = last_chosen t address
 last_chosen (Bound b ∷ t) address = if is_of address (link_of t b.consumer) b.consumer.number then b.consumer.number else last_chosen t address
 last_chosen (Booked acts full ∷ t) address = last_chosen t address
-last_chosen (Began g ∷ t) address = last_chosen t address
+last_chosen (Began g ∷ t) address = 0
 
 -- the same after this consumer is chosen too, if there is one
 abbrev pub last_after : Trace → Option Attachment → List ℕ → ℕ

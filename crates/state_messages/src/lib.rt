@@ -8,8 +8,8 @@ mod figures;
 mod grant;
 mod granting;
 mod hearing;
-mod owing;
 mod messages;
+mod owing;
 mod sharing;
 
 pub use grant::LinkGrant;

@@ -1,8 +1,8 @@
 //! Links, the deliveries on them and the pools of their addresses.
 ghost use Rattle.std.specs.Prelude.{◌≡◌, ℕ, List, ◌∷◌, OnOk, IfOk};
 ghost use Rattle.route_table.specs.Places.{FindsAs};
-ghost use Rattle.router_trace.specs.Trace.{Beginning};
-ghost use Rattle.router_trace.specs.Configuration.{beginning};
+ghost use Rattle.router_trace.specs.Trace.{Beginning, Trace};
+ghost use Rattle.router_trace.specs.Configuration.{opened};
 ghost use Rattle.router_trace.specs.Trace.{Entry, Out, did};
 ghost use Rattle.router_trace.specs.Deliveries.{channels_found};
 ghost use Rattle.router_trace.specs.Sessions.{is_channel, maps, theirs};
@@ -39,7 +39,7 @@ pub struct Messages {
 impl Messages {
     /// Tables without any links; addresses are shared as this table says.
     pub fn new(alloc: Global, table: Table) -> Messages
-        ensures { (g : Beginning) → FindsAs table g.routing → MessagesFit result (beginning g) }
+        ensures { (g : Beginning) (below : Trace) → FindsAs table g.routing → MessagesFit result (opened g below) }
     {
         Messages {
             alloc,

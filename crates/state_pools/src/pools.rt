@@ -21,7 +21,7 @@ use crate::by_address::ByAddress;
 use crate::seat::Seat;
 use route_credit::{ConsumerId, ProducerId};
 use route_table::{Distribution, Table};
-use state_collections::{NumberSet, NumberMap};
+use state_collections::{NumberMap, NumberSet};
 use std::alloc::{AllocError, Global};
 
 /// So many places stand for links, each for those of the numbers whose remainder it is.

@@ -3,8 +3,8 @@ ghost use Rattle.std.specs.Prelude.{◌≡◌, ◌<◌, ◌∷◌, ◌++◌, Lis
 ghost use Rattle.std.specs.Ordering.{nat_cmp};
 ghost use Rattle.std.specs.BTreeSet.{contains};
 ghost use Rattle.state_collections.specs.NumberMap.{at_number};
-ghost use Rattle.router_trace.specs.Trace.{Beginning};
-ghost use Rattle.router_trace.specs.Configuration.{beginning};
+ghost use Rattle.router_trace.specs.Trace.{Beginning, Trace};
+ghost use Rattle.router_trace.specs.Configuration.{opened};
 ghost use Rattle.router_trace.specs.Trace.{Entry, Out, did, puts_of};
 ghost use Rattle.std.specs.List.{find};
 ghost use Rattle.router_trace.specs.Sessions.{place, session, is_free, free_channel, is_channel, maps, theirs};
@@ -47,7 +47,7 @@ pub struct Sessions {
 impl Sessions {
     /// An empty table.
     pub fn new(alloc: Global) -> Sessions
-        ensures { (g : Beginning) → SessionsFit result (beginning g) }
+        ensures { (g : Beginning) (below : Trace) → SessionsFit result (opened g below) }
     {
         Sessions {
             alloc,

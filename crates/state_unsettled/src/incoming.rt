@@ -1,8 +1,8 @@
 //! The deliveries that peers have not settled, by delivery-id.
 ghost use Rattle.std.specs.Prelude.{◌≡◌, ◌==◌, ◌∷◌, List, ℕ, Some, None, true, if◌then◌else◌, OnOk, IfOk};
 ghost use Rattle.std.specs.Option.{option_map};
-ghost use Rattle.router_trace.specs.Trace.{Beginning};
-ghost use Rattle.router_trace.specs.Configuration.{beginning};
+ghost use Rattle.router_trace.specs.Trace.{Beginning, Trace};
+ghost use Rattle.router_trace.specs.Configuration.{opened};
 ghost use Rattle.router_trace.specs.Trace.{Entry, Out, Bound, did};
 ghost use Rattle.router_trace.specs.declared.binding.Binding.{Binding};
 ghost use Rattle.router_trace.specs.Claims.{claims, claim, unless_claimed, claimed_later, bound_claim, claim_after_in};
@@ -77,7 +77,7 @@ pub struct IncomingDeliveries {
 impl IncomingDeliveries {
     /// An empty table.
     pub fn new(alloc: Global) -> IncomingDeliveries
-        ensures { (g : Beginning) → IncomingFit result (beginning g) }
+        ensures { (g : Beginning) (below : Trace) → IncomingFit result (opened g below) }
     {
         IncomingDeliveries {
             ids: BySession::new(alloc),

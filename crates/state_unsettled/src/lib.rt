@@ -10,4 +10,4 @@
 mod by_link;
 mod incoming;
 
-pub use incoming::{IncomingDelivery, IncomingDeliveries, Middle, Receiving};
+pub use incoming::{IncomingDeliveries, IncomingDelivery, Middle, Receiving};

@@ -180,7 +180,7 @@ event_binds id t s b sound is =
 pub handled_sound : (id : List ℕ) (t : List Entry) (s : Step) → Sound t → Sound (handled id t s)
 handled_sound id t s sound = answered_sound id (booked t s.event) s (booked_keeps Sound t s.event (λ acts w. batch_sound t acts w) sound)
 
-moves_sound : (id : List ℕ) (ms : List Move) (t u : List Entry) → Sound t → Goes id ms t u → Sound u
+pub moves_sound : (id : List ℕ) (ms : List Move) (t u : List Entry) → Sound t → Goes id ms t u → Sound u
 moves_sound id [] t u sound went = subst (λ (w : List Entry). Sound w) (sym went) sound
 moves_sound id (handles s ∷ ms) t u sound went = moves_sound id ms (handled id t s) u (handled_sound id t s sound) went.1
 moves_sound id (takes x ∷ ms) t u sound went = moves_sound id ms (took_one x t) u (took_sound _ _ t sound) went

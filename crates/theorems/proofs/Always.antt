@@ -3,10 +3,14 @@ use Rattle.router_trace.specs.Trace.{Trace, Beginning}
 use Rattle.router_core.proofs.Moves.{run_is_trace}
 use Rattle.router_play.specs.Script.{new_router}
 use Rattle.router_play.proofs.PlayMoves.{play_is_trace}
-use Rattle.theorems.specs.Always.{Always, AlwaysFrom, InTraces, InTracesFrom, InScripts}
+use Rattle.theorems.specs.Always.{Always, AlwaysFrom, InOneRun, InTraces, InTracesFrom, InScripts}
+use Rattle.theorems.specs.Lives.{InLives}
 
-pub holds_always : (P : Trace → Type 0) → InTraces P → Always P
-holds_always P all = (all, λ id g events xs u run. all id g u (run_is_trace id g events xs u run))
+pub holds_in_one_run : (P : Trace → Type 0) → InTraces P → InOneRun P
+holds_in_one_run P all = (all, λ id g events xs u run. all id g u (run_is_trace id g events xs u run))
+
+pub holds_always : (P : Trace → Type 0) → InTraces P → InLives P → Always P
+holds_always P all lives = (holds_in_one_run P all, lives)
 
 pub holds_from : (P : Beginning → Trace → Type 0) → InTracesFrom P → AlwaysFrom P
 holds_from P all = (all, λ id g events xs u run. all id g u (run_is_trace id g events xs u run))

@@ -87,7 +87,7 @@ same_newest (Out c i ∷ t) = same_newest t
 same_newest (Took c n ∷ t) = same_newest t
 same_newest (Bound b ∷ t) = same_newest t
 same_newest (Booked acts full ∷ t) = same_newest t
-same_newest (Began g ∷ t) = same_newest t
+same_newest (Began g ∷ t) = refl
 
 pub same_refused : (t : List Entry) (e : Event) → Calm t → refuses t e ≡ plain_refuses (untaken t) e
 same_refused t (event.Up c p) calm = ap (λ (l : Option ℕ). not (rises c.0 l)) (same_newest t)

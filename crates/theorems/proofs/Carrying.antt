@@ -11,7 +11,7 @@ use Rattle.amqp_model.specs.declared.item.Item.{Item}
 use Rattle.amqp_model.specs.declared.item.Item.TheVariants as item
 use Rattle.router_trace.specs.declared.binding.Binding.{Binding}
 use Rattle.router_trace.specs.declared.binding.DeliveryName.{DeliveryName}
-use Rattle.router_trace.specs.Trace.{Entry, Did, Out, Took, Bound, Booked, Began}
+use Rattle.router_trace.specs.Trace.{Entry, Did, Out, Took, Bound, Booked, Began, IsOneRun}
 use Rattle.router_trace.specs.Deliveries.{Delivery, bindings, name_in, number_named, delivery, sending, named, unless_over, after_frame, closes, ended_by, put_in, after_put, after_event, carried, tag_in, is_number, channels_found}
 use Rattle.theorems.specs.OneConsumer.{IsOf, WhileThere}
 use Rattle.theorems.specs.Each.{EachOut}
@@ -196,7 +196,7 @@ none_early (Out c i ∷ t) n all small early =
         (λ test. let same = same_number t c own x payload n is small (number_is (carried (number_named t) (tag_in x) (sending t c own x.handle)) n test)
         in absurd (above n (bindings t) (subst (λ (k : ℕ). k ≤ bindings t) same (there_bound t is.number is.of is.there)) early))
         (λ test. rw test before)
-none_early (Began g ∷ t) n all small early = none_early t n all small early
+none_early (Began g ∷ t) n all small early = refl
 none_early (Took c k ∷ t) n all small early = none_early t n all small early
 none_early (Booked acts full ∷ t) n all small early = none_early t n all small early
 none_early (Bound b ∷ t) n all small early = none_early t n all (lower t b small) (lower_still (bindings t) n early)
@@ -266,7 +266,7 @@ went (Did s ∷ t) n all small d there =
     in unmoved_went (bytes_out t n) was.0 d (went t n all small was.0 was.1)
     (subst (λ (g : Delivery). Unmoved was.0 g) (sym was.2) (event_left Unmoved unmoved_left s.event (channels_found t) (named t) n was.0))
 went (Out c i ∷ t) n all small d there = out_went t c n i small (went t n all.1 small) all.0 d there
-went (Began g ∷ t) n all small d there = went t n all small d there
+went (Began g ∷ t) n all small d there = absurd cc
 went (Took c k ∷ t) n all small d there = went t n all small d there
 went (Booked acts full ∷ t) n all small d there = went t n all small d there
 went (Bound b ∷ t) n all small d there =
@@ -330,24 +330,24 @@ payload_of : (b : Binding) (v : Option Delivery) → WhileThere (IsOf b) v → W
 payload_of b None is = tt
 payload_of b (Some d) is = is.payload
 
-begins_later : (later t : List Entry) (b : Binding) → AllCarried (later ++ Bound b ∷ t) → HasSmallNumbers (later ++ Bound b ∷ t)
+begins_later : (later t : List Entry) (b : Binding) → IsOneRun later → AllCarried (later ++ Bound b ∷ t) → HasSmallNumbers (later ++ Bound b ∷ t)
     → IsBeginning (bytes_out (later ++ Bound b ∷ t) (bindings t + 1)) b.payload
-begins_later [] t b all small =
+begins_later [] t b one all small =
     record { rest = b.payload; joined = ap (λ (xs : List ℕ). xs ++ b.payload) (none_early t (bindings t + 1) all (lower t b small) (above (bindings t))) }
   where
     above : (k : ℕ) → k < k + 1
     above k = omega arith
-begins_later (Did s ∷ later) t b all small = begins_later later t b all small
-begins_later (Out c i ∷ later) t b all small =
+begins_later (Did s ∷ later) t b one all small = begins_later later t b one.1 all small
+begins_later (Out c i ∷ later) t b one all small =
     out_begins (later ++ Bound b ∷ t) c (bindings t + 1) i b.payload small all.1
-    (payload_of b (delivery (later ++ Bound b ∷ t) (bindings t + 1)) (stays_with_consumer b t later))
-    (begins_later later t b all.1 small) all.0
-begins_later (Took c k ∷ later) t b all small = begins_later later t b all small
-begins_later (Bound a ∷ later) t b all small = begins_later later t b all (lower (later ++ Bound b ∷ t) a small)
-begins_later (Booked acts full ∷ later) t b all small = begins_later later t b all small
-begins_later (Began g ∷ later) t b all small = begins_later later t b all small
+    (payload_of b (delivery (later ++ Bound b ∷ t) (bindings t + 1)) (stays_with_consumer b t later one.1))
+    (begins_later later t b one.1 all.1 small) all.0
+begins_later (Took c k ∷ later) t b one all small = begins_later later t b one.1 all small
+begins_later (Bound a ∷ later) t b one all small = begins_later later t b one.1 all (lower (later ++ Bound b ∷ t) a small)
+begins_later (Booked acts full ∷ later) t b one all small = begins_later later t b one.1 all small
+begins_later (Began g ∷ later) t b one all small = absurd (let wrong : true ≡ false = one.0 in cc)
 
 pub goes_in_order : (u : List Entry) → AllCarried u → GoesInOrder u
-goes_in_order u all small b t later is =
+goes_in_order u all small b t later one is =
     subst (λ (v : List Entry). IsBeginning (bytes_out v (bindings t + 1)) b.payload) (sym is)
-    (begins_later later t b (subst (λ (v : List Entry). AllCarried v) is all) (subst (λ (v : List Entry). HasSmallNumbers v) is small))
+    (begins_later later t b one (subst (λ (v : List Entry). AllCarried v) is all) (subst (λ (v : List Entry). HasSmallNumbers v) is small))

@@ -108,7 +108,7 @@ answered_within id t s within =
 
 -- moves
 
-moves_within : (id : List ℕ) (ms : List Move) (t u : List Entry) → WithinCredit t → Goes id ms t u → WithinCredit u
+pub moves_within : (id : List ℕ) (ms : List Move) (t u : List Entry) → WithinCredit t → Goes id ms t u → WithinCredit u
 moves_within id [] t u within went = subst (λ (w : List Entry). WithinCredit w) (sym went) within
 moves_within id (handles s ∷ ms) t u within went = moves_within id ms (handled id t s) u (answered_within id (booked t s.event) s (booked_keeps WithinCredit t s.event (λ acts w. w) within)) went.1
 moves_within id (takes x ∷ ms) t u within went = moves_within id ms (took_one x t) u within went

@@ -17,7 +17,7 @@ use Rattle.router_trace.specs.declared.channel.PeerChannel.{PeerChannel}
 use Rattle.router_trace.specs.declared.event.Event.{Event}
 use Rattle.router_trace.specs.declared.event.Event.TheVariants as event
 use Rattle.router_trace.specs.declared.handle.Attachment.{Attachment}
-use Rattle.router_trace.specs.Trace.{Entry, Did, Out, Took, Booked, Bound, Began}
+use Rattle.router_trace.specs.Trace.{Entry, Did, Out, Took, Booked, Bound, Began, is_opening, IsOneRun}
 use Rattle.router_trace.specs.Deliveries.{Delivery, bindings, name_in, same_name, number_named, unless_called, delivery, sending, named, is_over, unless_over, after_frame, decided, source, untold, unsettled, told, ended, decided_at_end, suspended_at_end, closes, is_undecided, is_meant, is_named, decision, terminal, is_gone_with, after_origin, after_ends, ended_by, put_in, after_put, carried, tag_in, is_number, is_on, is_settled_at, disposed, heard_in, heard, lost_with, after_event, origin_id, channels_found, sender, forsaken}
 use Rattle.theorems.specs.OneConsumer.{IsOrNone, WhileThere}
 use Rattle.state_connections.proofs.Lists.{by_test}
@@ -182,6 +182,10 @@ unless_left P e holds = by (is_over e)
     by true = tt
     by false = holds
 
+all_gone : (v : Option Delivery) → AllFollow v None
+all_gone None = refl
+all_gone (Some d) = tt
+
 changed : (f : Delivery → Delivery) → ((d : Delivery) → Follows d (f d)) → (v : Option Delivery) → AllFollow v (option_and_then (λ d. unless_over (f d)) v)
 changed f follows None = refl
 changed f follows (Some d) = unless_left (Follows d) (f d) (follows d)
@@ -198,7 +202,7 @@ pub entry_follows : (e : Entry) (t : List Entry) (n : ℕ) → n ≤ bindings t 
 entry_follows (Did s) t n given = changed (after_event s.event (channels_found t) (named t) n) (event_follows s.event (channels_found t) (named t) n) (delivery t n)
 entry_follows (Out c i) t n given = changed (after_put (number_named t) i c n (sending t c)) (item_follows (number_named t) i c n (sending t c)) (delivery t n)
 entry_follows (Took c k) t n given = all_same (delivery t n)
-entry_follows (Began g) t n given = all_same (delivery t n)
+entry_follows (Began g) t n given = all_gone (delivery t n)
 entry_follows (Booked acts full) t n given = all_same (delivery t n)
 entry_follows (Bound b) t n given =
     by_test (bindings t + 1 == n) (λ e. absurd (too_high n (bindings t) given (eqb-true (bindings t + 1) n e))) (λ e. rw e (uncalled_follow (name_in t b) (delivery t n)))
@@ -206,23 +210,23 @@ entry_follows (Bound b) t n given =
     too_high : (n k : ℕ) → n ≤ k → k + 1 ≡ n → ⊥
     too_high n k h e = omega (arith, h, e)
 
-pub more_bound : (e : Entry) (t : List Entry) (n : ℕ) → n ≤ bindings t → n ≤ bindings (e ∷ t)
-more_bound (Did s) t n h = h
-more_bound (Out c i) t n h = h
-more_bound (Took c k) t n h = h
-more_bound (Began g) t n h = h
-more_bound (Booked acts full) t n h = h
-more_bound (Bound b) t n h = one_more n (bindings t) h
+pub more_bound : (e : Entry) (t : List Entry) (n : ℕ) → is_opening e ≡ false → n ≤ bindings t → n ≤ bindings (e ∷ t)
+more_bound (Did s) t n one h = h
+more_bound (Out c i) t n one h = h
+more_bound (Took c k) t n one h = h
+more_bound (Began g) t n one h = absurd cc
+more_bound (Booked acts full) t n one h = h
+more_bound (Bound b) t n one h = one_more n (bindings t) h
   where
     one_more : (n k : ℕ) → n ≤ k → n ≤ k + 1
     one_more n k h = omega (arith, h)
 
-pub all_bound : (later t : List Entry) (n : ℕ) → n ≤ bindings t → n ≤ bindings (later ++ t)
-all_bound [] t n h = h
-all_bound (e ∷ later) t n h = more_bound e (later ++ t) n (all_bound later t n h)
+pub all_bound : (later t : List Entry) (n : ℕ) → IsOneRun later → n ≤ bindings t → n ≤ bindings (later ++ t)
+all_bound [] t n one h = h
+all_bound (e ∷ later) t n one h = more_bound e (later ++ t) n one.0 (all_bound later t n one.1 h)
 
-pub later_follows : (later t : List Entry) (n : ℕ) → n ≤ bindings t → AllFollow (delivery t n) (delivery (later ++ t) n)
-later_follows [] t n given = all_same (delivery t n)
-later_follows (e ∷ later) t n given =
-    then_all (delivery t n) (delivery (later ++ t) n) (delivery (e ∷ later ++ t) n) (later_follows later t n given)
-    (entry_follows e (later ++ t) n (all_bound later t n given))
+pub later_follows : (later t : List Entry) (n : ℕ) → IsOneRun later → n ≤ bindings t → AllFollow (delivery t n) (delivery (later ++ t) n)
+later_follows [] t n one given = all_same (delivery t n)
+later_follows (e ∷ later) t n one given =
+    then_all (delivery t n) (delivery (later ++ t) n) (delivery (e ∷ later ++ t) n) (later_follows later t n one.1 given)
+    (entry_follows e (later ++ t) n (all_bound later t n one.1 given))

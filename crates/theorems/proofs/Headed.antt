@@ -89,7 +89,7 @@ quiet (Out d i ∷ t) c h =
     by_test (d == c) (λ e. absurd (push_some (outs t c) i (rw e at h))) (λ e. rw e (quiet t c (rw e at h)))
 quiet (Bound b ∷ t) c h = quiet t c h
 quiet (Booked acts full ∷ t) c h = quiet t c h
-quiet (Began g ∷ t) c h = quiet t c h
+quiet (Began g ∷ t) c h = refl
 quiet (Took d n ∷ t) c h =
     by_test (d == c) (λ e. rw e (waits_took n (conn t c) (quiet t c h))) (λ e. rw e (quiet t c h))
 
@@ -168,7 +168,7 @@ untold (Out d i ∷ t) c h = goes_strange (record { conn = d; item = i } ∷ [])
 untold (Took d n ∷ t) c h = untold t c h
 untold (Bound b ∷ t) c h = untold t c h
 untold (Booked acts full ∷ t) c h = untold t c h
-untold (Began g ∷ t) c h = untold t c h
+untold (Began g ∷ t) c h = refl
 
 -- an item of another connection puts nothing if no link is attached
 

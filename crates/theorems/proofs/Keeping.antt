@@ -426,7 +426,7 @@ handled_kept id t s was =
     let behind : List Entry = passed_on (replied id at s) in
     goes_kept (windows behind) behind (less_windows behind) (passed_keeps Kept passed_kept (replied id at s) rows)
 
-moves_kept : (id : List ℕ) (ms : List Move) (t u : List Entry) → Kept t → Goes id ms t u → Kept u
+pub moves_kept : (id : List ℕ) (ms : List Move) (t u : List Entry) → Kept t → Goes id ms t u → Kept u
 moves_kept id [] t u was went = subst Kept (sym went) was
 moves_kept id (handles s ∷ ms) t u was went = moves_kept id ms (handled id t s) u (handled_kept id t s was) went.1
 moves_kept id (takes x ∷ ms) t u was went = moves_kept id ms (took_one x t) u was went

@@ -11,17 +11,17 @@ use Rattle.amqp_model.specs.declared.item.Item.TheVariants as item
 use Rattle.amqp_conn.specs.declared.conn.Conn.{Conn}
 use Rattle.amqp_link.specs.declared.part.Part.{Part}
 use Rattle.book_model.specs.declared.act.Act.{Act}
-use Rattle.book_model.specs.Book.{BookView, effects}
+use Rattle.book_model.specs.Book.{BookView, empty_book, first_fault, effects}
 use Rattle.gate_journal.specs.Ordered.{IsOrdered}
 use Rattle.gate_journal.proofs.Nexts.{made_ordered}
 use Rattle.book_model.specs.Made.{IsMade}
-use Rattle.router_trace.specs.Configuration.{beginning}
+use Rattle.router_trace.specs.Configuration.{beginning, opened}
 use Rattle.router_trace.specs.declared.binding.Binding.{Binding}
 use Rattle.router_trace.specs.declared.condition.Condition.TheVariants.{ResourceLimitExceeded}
 use Rattle.router_trace.specs.declared.event.ConnectionId.{ConnectionId}
 use Rattle.router_trace.specs.declared.event.Event.{Event}
 use Rattle.router_trace.specs.declared.event.Event.TheVariants as event
-use Rattle.router_trace.specs.Trace.{Beginning, Trace, Did, Out, Took, Booked, Put, Step, goes, puts, each_to, step_of, ups}
+use Rattle.router_trace.specs.Trace.{Beginning, Trace, Did, Out, Took, Booked, Put, Step, did, goes, puts, each_to, step_of, ups}
 use Rattle.router_trace.specs.Connection.{conn, due, found, standing, live_of}
 use Rattle.router_trace.specs.Clocks.{terms, written, needs_beat}
 use Rattle.router_trace.specs.Deliveries.{Delivery, bindings, delivery}
@@ -47,8 +47,9 @@ use Rattle.core_machine.specs.Turns.{is_started, declines}
 use Rattle.router_core.proofs.Books.{started_handled}
 use Rattle.router_core.proofs.Following.{all_keep}
 use Rattle.theorems.specs.Carried.{HasSmallNumbers}
-use Rattle.theorems.specs.Always.{GoesInTurn}
-use Rattle.theorems.specs.Kept.{may_be_decided, times_in, times_decided, IsDecidedOnce, EachOutcomeIsKept, EachRowIsDecidedOnce}
+use Rattle.theorems.specs.Each.{EachOut}
+use Rattle.theorems.specs.Lives.{GoesInTurn}
+use Rattle.theorems.specs.Kept.{OutcomeIsKept, may_be_decided, times_in, times_decided, IsDecidedOnce, EachOutcomeIsKept, EachRowIsDecidedOnce}
 use Rattle.theorems.proofs.Admitted.{answer_after}
 use Rattle.theorems.proofs.AllSound.{handled_sound}
 use Rattle.theorems.proofs.Answering.{IfAttach, attach_answered, attach_finds, taken_receives, may_bind}
@@ -59,7 +60,7 @@ use Rattle.theorems.proofs.Ending.{takes_none, answer_rest, came_kept, ends_kept
 use Rattle.theorems.proofs.Keeps.{Kept, PlainPut, plain_both, plain_goes, took_kept, small_before, SmallKept, followed_kept}
 use Rattle.theorems.proofs.Once.{Decides, decides_once}
 use Rattle.theorems.proofs.Rowing.{MayBind, Receives, plain_row, disposed_row, taken_row}
-use Rattle.theorems.proofs.Sound.{Sound, sound_start, took_sound, batch_sound}
+use Rattle.theorems.proofs.Sound.{Sound, none_sound, opened_sound, sound_start, did_sound, took_sound, batch_sound}
 use Rattle.theorems.proofs.Standing.{began_standing, booked_standing}
 use Rattle.theorems.proofs.Tests.{none_not_some}
 use Rattle.theorems.proofs.Transfers.{IfTaken, transfer_taken}
@@ -275,15 +276,15 @@ start_all g made = record {
   kept = λ small. record {
     law = tt;
     facts = λ n d r there name. absurd (none_not_some there);
-    standing = began_standing g;
+    standing = began_standing g [];
     named = λ n id d there undecided has. absurd (none_not_some there);
     ordered = made_is_ordered g.book made;
   };
   before = λ not. refl;
 }
 
-moves_all : (id : List ℕ) (ms : List Move) (t u : Trace) → All t → GoesInTurn id ms t u → SmallKept u
-moves_all id [] t u all went = subst SmallKept (sym went) all.kept
+moves_all : (id : List ℕ) (ms : List Move) (t u : Trace) → All t → GoesInTurn id ms t u → All u
+moves_all id [] t u all went = subst All (sym went) all
 moves_all id (handles s ∷ ms) t u all went =
     moves_all id ms (handled id t s) u
     (record {
@@ -295,15 +296,53 @@ moves_all id (handles s ∷ ms) t u all went =
 moves_all id (takes x ∷ ms) t u all went =
     moves_all id ms (took_one x t) u (record { sound = took_sound _ _ t all.sound; kept = λ small. took_kept _ _ t (all.kept small); before = all.before }) went
 
+-- Over runs: what the outcomes told before a stop leave.
+pub record Past (t : Trace) : Type 0 where
+  pub sound : Sound t
+  pub law : EachOut OutcomeIsKept t
+  pub ordered : IsOrdered (book_in t)
+
+pub no_past : Past []
+unfolding first_fault effects
+no_past = record { sound = none_sound; law = tt; ordered = made_is_ordered empty_book ([], refl, refl) }
+
+opened_all : (g : Beginning) (below : Trace) → g.book ≡ book_in below → Past below → All (opened g below)
+opened_all g below book was = record {
+  sound = opened_sound g below was.sound;
+  kept = λ small. record {
+    law = was.law;
+    facts = λ n d r there name. absurd (none_not_some there);
+    standing = began_standing g below;
+    named = λ n id d there undecided has. absurd (none_not_some there);
+    ordered = subst IsOrdered (sym book) was.ordered;
+  };
+  before = λ not. refl;
+}
+
+-- the moves of a run, in which few messages are bound, and then an event that a stop cut off
+pub moves_past : (id : List ℕ) (ms : List Move) (g : Beginning) (below u : Trace) → g.book ≡ book_in below → Past below → GoesInTurn id ms (opened g below) u
+    → HasSmallNumbers u → Past u
+moves_past id ms g below u book was went small =
+    let all : All u = moves_all id ms (opened g below) u (opened_all g below book was) went in
+    let kept = all.kept small in
+    record { sound = all.sound; law = kept.law; ordered = kept.ordered }
+
+pub cut_past : (t : Trace) (e : Event) → Past t → Past (did e ∷ booked t e)
+cut_past t e was = record {
+  sound = did_sound (step_of e) (booked t e) (booked_keeps Sound t e (λ acts w. batch_sound t acts w) was.sound);
+  law = was.law;
+  ordered = ordered_acts t e was.ordered;
+}
+
 pub outcomes_kept : (id : List ℕ) (g : Beginning) (u : Trace) (moves : List Move) → GoesInTurn id moves (beginning g) u → IsMade g.book → EachOutcomeIsKept g u
-outcomes_kept id g u moves went made small = (moves_all id moves (beginning g) u (start_all g made) went small).law
+outcomes_kept id g u moves went made small = ((moves_all id moves (beginning g) u (start_all g made) went).kept small).law
 
 -- each row is decided at most once
 
-record Once (first : BookView) (t : Trace) : Type 0 where
-  ordered : IsOrdered (book_in t)
-  once : (n : ℕ) → IsDecidedOnce first t n
-  stays : (n : ℕ) → may_be_decided first n ≡ false → may_be_decided (book_in t) n ≡ false
+pub record Once (first : BookView) (t : Trace) : Type 0 where
+  pub ordered : IsOrdered (book_in t)
+  pub once : (n : ℕ) → IsDecidedOnce first t n
+  pub stays : (n : ℕ) → may_be_decided first n ≡ false → may_be_decided (book_in t) n ≡ false
 
 booked_once : (first : BookView) (t : Trace) (e : Event) → Once first t → Once first (booked t e)
 booked_once first t e was = record {
@@ -383,7 +422,27 @@ handled_once first id t s was =
     let came : Once first u = ends_once first id (due t s.event) (Did s ∷ at) (did_once first s at (booked_once first t s.event was)) in
     all_keep (Once first) (goes_once first) (replied id at s) (goes_once first (own_row id at u s.event) (with_bound b u) (bound_once first b u came))
 
-moves_once : (first : BookView) (id : List ℕ) (ms : List Move) (t u : Trace) → Once first t → Goes id ms t u → Once first u
+pub none_once : Once empty_book []
+none_once = record { ordered = no_past.ordered; once = λ n. record { once = zero_one; waits = λ might. refl; before = λ shut. refl }; stays = λ n shut. shut }
+  where
+    zero_one : 0 ≤ 1
+    zero_one = omega arith
+
+pub opened_once : (first : BookView) (g : Beginning) (below : Trace) → g.book ≡ book_in below → Once first below → Once first (opened g below)
+opened_once first g below book was = record {
+  ordered = subst IsOrdered (sym book) was.ordered;
+  once = λ n. record {
+    once = (was.once n).once;
+    waits = λ might. (was.once n).waits (subst (λ (b : BookView). may_be_decided b n ≡ true) book might);
+    before = (was.once n).before;
+  };
+  stays = λ n shut. subst (λ (b : BookView). may_be_decided b n ≡ false) (sym book) (was.stays n shut);
+}
+
+pub cut_once : (first : BookView) (t : Trace) (e : Event) → Once first t → Once first (did e ∷ booked t e)
+cut_once first t e was = did_once first (step_of e) (booked t e) (booked_once first t e was)
+
+pub moves_once : (first : BookView) (id : List ℕ) (ms : List Move) (t u : Trace) → Once first t → Goes id ms t u → Once first u
 moves_once first id [] t u was went = subst (Once first) (sym went) was
 moves_once first id (handles s ∷ ms) t u was went = moves_once first id ms (handled id t s) u (handled_once first id t s was) went.1
 moves_once first id (takes x ∷ ms) t u was went = moves_once first id ms (took_one x t) u (took_once first _ _ t was) went
@@ -401,10 +460,10 @@ rows_once id g u trace made =
 
 -- runs decline what is out of turn
 
-abbrev LeadsInTurn : List ℕ → Trace → Trace → Type 0
+abbrev pub LeadsInTurn : List ℕ → Trace → Trace → Type 0
 LeadsInTurn id t u = (moves : List Move) × GoesInTurn id moves t u
 
-turns_on : (id : List ℕ) (ms ns : List Move) (t u v : Trace) → GoesInTurn id ms t u → GoesInTurn id ns u v → GoesInTurn id (ms ++ ns) t v
+pub turns_on : (id : List ℕ) (ms ns : List Move) (t u v : Trace) → GoesInTurn id ms t u → GoesInTurn id ns u v → GoesInTurn id (ms ++ ns) t v
 turns_on id [] ns t u v first rest = subst (λ (w : Trace). GoesInTurn id ns w v) first rest
 turns_on id (handles s ∷ ms) ns t u v first rest = (first.0, turns_on id ms ns (handled id t s) u v first.1 rest)
 turns_on id (takes x ∷ ms) ns t u v first rest = turns_on id ms ns (took_one x t) u v first rest
@@ -420,7 +479,7 @@ step_leads : (id : List ℕ) (t : Trace) (e : Event) (u : Trace) → MayStep id 
 step_leads id t e u (inl is_refused) = ([], is_refused.1)
 step_leads id t e u (inr taken) = (handles (step_of e) ∷ [], (taken.0, taken.1.answers))
 
-run_leads : (id : List ℕ) (place : ℕ) (t : Trace) (es : List Event) (xs : List Sent) (u : Trace) → Run id place t es xs u → LeadsInTurn id t u
+pub run_leads : (id : List ℕ) (place : ℕ) (t : Trace) (es : List Event) (xs : List Sent) (u : Trace) → Run id place t es xs u → LeadsInTurn id t u
 run_leads id place t [] xs u run = ([], run.0)
 run_leads id place t (e ∷ es) xs u run =
     let behind : Trace = run.3.behind in

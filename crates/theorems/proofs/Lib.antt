@@ -45,6 +45,8 @@ pub mod Rowing
 pub mod Attaching
 pub mod Answering
 pub mod KeptFirst
+-- Runs that end by stops.
+pub mod Lives
 -- The order on a connection.
 pub mod Headed
 pub mod OnlyHeaders

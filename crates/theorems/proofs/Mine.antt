@@ -83,7 +83,7 @@ apart (Out d i ∷ t) c = if d == c then option_and_then (stand_after i) (apart 
 apart (Took d n ∷ t) c = apart t c
 apart (Bound b ∷ t) c = apart t c
 apart (Booked acts full ∷ t) c = apart t c
-apart (Began g ∷ t) c = apart t c
+apart (Began g ∷ t) c = None
 
 -- the views of a connection
 
@@ -95,7 +95,7 @@ own_moment (Out d i ∷ t) c = by_test (d == c) (λ e. rw e (own_moment t c)) (�
 own_moment (Took d n ∷ t) c = own_moment t c
 own_moment (Bound b ∷ t) c = own_moment t c
 own_moment (Booked acts full ∷ t) c = own_moment t c
-own_moment (Began g ∷ t) c = own_moment t c
+own_moment (Began g ∷ t) c = refl
 
 pub own_terms : (t : List Entry) (c : ℕ) → terms t c ≡ terms (own_part c t) c
 own_terms [] c = refl
@@ -105,7 +105,7 @@ own_terms (Out d i ∷ t) c = by_test (d == c) (λ e. rw e (rw e (ap (unless_clo
 own_terms (Took d n ∷ t) c = own_terms t c
 own_terms (Bound b ∷ t) c = own_terms t c
 own_terms (Booked acts full ∷ t) c = own_terms t c
-own_terms (Began g ∷ t) c = own_terms t c
+own_terms (Began g ∷ t) c = refl
 
 own_offered : (t : List Entry) (c : ℕ) → offered t c ≡ offered (own_part c t) c
 own_offered [] c = refl
@@ -115,7 +115,7 @@ own_offered (Out d i ∷ t) c = by_test (d == c) (λ e. rw e (rw e (ap (unless_c
 own_offered (Took d n ∷ t) c = own_offered t c
 own_offered (Bound b ∷ t) c = own_offered t c
 own_offered (Booked acts full ∷ t) c = own_offered t c
-own_offered (Began g ∷ t) c = own_offered t c
+own_offered (Began g ∷ t) c = refl
 
 pub own_written : (t : List Entry) (c : ℕ) → written t c ≡ written (own_part c t) c
 own_written [] c = refl
@@ -125,7 +125,7 @@ own_written (Out d i ∷ t) c = by_test (d == c) (λ e. rw e (rw e (ap (λ m. un
 own_written (Took d n ∷ t) c = own_written t c
 own_written (Bound b ∷ t) c = own_written t c
 own_written (Booked acts full ∷ t) c = own_written t c
-own_written (Began g ∷ t) c = own_written t c
+own_written (Began g ∷ t) c = refl
 
 own_answered : (t : List Entry) (c o : ℕ) → answered_channel t c o ≡ answered_channel (own_part c t) c o
 own_answered [] c o = refl
@@ -136,7 +136,7 @@ own_answered (Out d i ∷ t) c o = by_test (d == c) (λ e. rw e (rw e (ap (answe
 own_answered (Took d n ∷ t) c o = own_answered t c o
 own_answered (Bound b ∷ t) c o = own_answered t c o
 own_answered (Booked acts full ∷ t) c o = own_answered t c o
-own_answered (Began g ∷ t) c o = own_answered t c o
+own_answered (Began g ∷ t) c o = refl
 
 pub own_theirs : (t : List Entry) (c p : ℕ) → theirs t c p ≡ theirs (own_part c t) c p
 own_theirs [] c p = refl
@@ -148,7 +148,7 @@ own_theirs (Out d i ∷ t) c p =
 own_theirs (Took d n ∷ t) c p = own_theirs t c p
 own_theirs (Bound b ∷ t) c p = own_theirs t c p
 own_theirs (Booked acts full ∷ t) c p = own_theirs t c p
-own_theirs (Began g ∷ t) c p = own_theirs t c p
+own_theirs (Began g ∷ t) c p = refl
 
 pub own_session : (t : List Entry) (c o : ℕ) → session t c o ≡ session (own_part c t) c o
 own_session [] c o = refl
@@ -160,7 +160,7 @@ own_session (Out d i ∷ t) c o =
 own_session (Took d n ∷ t) c o = own_session t c o
 own_session (Bound b ∷ t) c o = own_session t c o
 own_session (Booked acts full ∷ t) c o = own_session t c o
-own_session (Began g ∷ t) c o = own_session t c o
+own_session (Began g ∷ t) c o = refl
 
 pub own_outs : (t : List Entry) (c : ℕ) → outs t c ≡ outs (own_part c t) c
 own_outs [] c = refl
@@ -169,7 +169,7 @@ own_outs (Out d i ∷ t) c = by_test (d == c) (λ e. rw e (rw e (ap (λ (is : Li
 own_outs (Took d n ∷ t) c = own_outs t c
 own_outs (Bound b ∷ t) c = own_outs t c
 own_outs (Booked acts full ∷ t) c = own_outs t c
-own_outs (Began g ∷ t) c = own_outs t c
+own_outs (Began g ∷ t) c = refl
 
 pub own_place : (t : List Entry) (c p : ℕ) → place t c p ≡ place (own_part c t) c p
 own_place t c p = λ j. place_by (own_theirs t c p j) (λ o. own_session t c o j)
@@ -189,7 +189,7 @@ own_apart (Out d i ∷ t) c = by_test (d == c) (λ e. rw e (rw e (ap (option_and
 own_apart (Took d n ∷ t) c = own_apart t c
 own_apart (Bound b ∷ t) c = own_apart t c
 own_apart (Booked acts full ∷ t) c = own_apart t c
-own_apart (Began g ∷ t) c = own_apart t c
+own_apart (Began g ∷ t) c = refl
 
 -- its outbox was not full when an event came, and it was admitted
 abbrev pub Eased : ℕ → List Entry → Type 0
@@ -232,7 +232,7 @@ stood_apart (Out d i ∷ t) c eased =
 stood_apart (Took d n ∷ t) c eased = standing_took (d == c) n (conn t c) ∙ stood_apart t c eased
 stood_apart (Bound b ∷ t) c eased = stood_apart t c eased
 stood_apart (Booked acts full ∷ t) c eased = stood_apart t c eased
-stood_apart (Began g ∷ t) c eased = stood_apart t c eased
+stood_apart (Began g ∷ t) c eased = refl
 
 -- the phase of a live connection follows from its own part
 pub own_phase : (t : List Entry) (c : ℕ) → Eased c t → standing (conn t c) ≡ apart (own_part c t) c

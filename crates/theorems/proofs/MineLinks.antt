@@ -62,7 +62,7 @@ own_asked (Out d i ∷ t) c = by_test (d == c) (λ e. rw e (rw e (ap (unless_clo
 own_asked (Took d n ∷ t) c = own_asked t c
 own_asked (Bound b ∷ t) c = own_asked t c
 own_asked (Booked acts full ∷ t) c = own_asked t c
-own_asked (Began g ∷ t) c = own_asked t c
+own_asked (Began g ∷ t) c = refl
 
 own_answers : (t : List Entry) (c o h : ℕ) → answered_handle t c o h ≡ answered_handle (own_part c t) c o h
 own_answers [] c o h = refl
@@ -74,7 +74,7 @@ own_answers (Out d i ∷ t) c o h =
 own_answers (Took d n ∷ t) c o h = own_answers t c o h
 own_answers (Bound b ∷ t) c o h = own_answers t c o h
 own_answers (Booked acts full ∷ t) c o h = own_answers t c o h
-own_answers (Began g ∷ t) c o h = own_answers t c o h
+own_answers (Began g ∷ t) c o h = refl
 
 own_handle : (t : List Entry) (c o p : ℕ) → their_handle t c o p ≡ their_handle (own_part c t) c o p
 own_handle [] c o p = refl
@@ -88,7 +88,7 @@ own_handle (Out d i ∷ t) c o p =
 own_handle (Took d n ∷ t) c o p = own_handle t c o p
 own_handle (Bound b ∷ t) c o p = own_handle t c o p
 own_handle (Booked acts full ∷ t) c o p = own_handle t c o p
-own_handle (Began g ∷ t) c o p = own_handle t c o p
+own_handle (Began g ∷ t) c o p = refl
 
 own_told : (t : List Entry) (c : ℕ) → told_handle_max t c ≡ told_handle_max (own_part c t) c
 own_told [] c = refl
@@ -98,7 +98,7 @@ own_told (Out d i ∷ t) c = by_test (d == c) (λ e. rw e (rw e (ap (unless_clos
 own_told (Took d n ∷ t) c = own_told t c
 own_told (Bound b ∷ t) c = own_told t c
 own_told (Booked acts full ∷ t) c = own_told t c
-own_told (Began g ∷ t) c = own_told t c
+own_told (Began g ∷ t) c = refl
 
 own_highest : (t : List Entry) (c o : ℕ) → highest_handle t c o ≡ highest_handle (own_part c t) c o
 own_highest [] c o = refl
@@ -110,7 +110,7 @@ own_highest (Out d i ∷ t) c o =
 own_highest (Took d n ∷ t) c o = own_highest t c o
 own_highest (Bound b ∷ t) c o = own_highest t c o
 own_highest (Booked acts full ∷ t) c o = own_highest t c o
-own_highest (Began g ∷ t) c o = own_highest t c o
+own_highest (Began g ∷ t) c o = refl
 
 own_free_handle : (t : List Entry) (c o : ℕ) → free_handle t c o ≡ free_handle (own_part c t) c o
 unfolding free_handle

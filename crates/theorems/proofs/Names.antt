@@ -16,7 +16,7 @@ few_counters (Did s ∷ t) = few_counters t
 few_counters (Out d i ∷ t) = few_counters t
 few_counters (Took d n ∷ t) = few_counters t
 few_counters (Booked acts full ∷ t) = few_counters t
-few_counters (Began g ∷ t) = few_counters t
+few_counters (Began g ∷ t) = omega arith
 few_counters (Bound b ∷ t) = by (is_none b.row) (few_counters t)
   where
     by : (q : Bool) → counters t ≤ bindings t → (if q then counters t + 1 else counters t) ≤ bindings t + 1

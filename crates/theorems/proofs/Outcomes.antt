@@ -18,7 +18,7 @@ use Rattle.router_trace.specs.declared.event.ConnectionId.{ConnectionId}
 use Rattle.router_trace.specs.declared.event.Event.{Event}
 use Rattle.router_trace.specs.declared.event.Event.TheVariants as event
 use Rattle.router_trace.specs.declared.handle.Attachment.{Attachment}
-use Rattle.router_trace.specs.Trace.{Entry, Did, Out, Took, Booked, Bound, Began, Step}
+use Rattle.router_trace.specs.Trace.{Entry, Did, Out, Took, Booked, Bound, Began, Step, is_opening}
 use Rattle.router_trace.specs.Links.{ends_handle}
 use Rattle.router_trace.specs.Sessions.{maps}
 use Rattle.router_trace.specs.Deliveries.{Delivery, bindings, name_in, number_named, delivery, sending, named, failed, after_frame, decided, source, untold, unsettled, told, ended, decided_at_end, suspended_at_end, is_undecided, is_meant, is_named, is_number, last_of, decision, terminal, is_gone_with, after_origin, after_ends, ended_by, put_in, after_put, carried, tag_in, is_on, is_settled_at, disposed, heard_in, heard, lost_with, after_event, origin_id, channels_found, sender, forsaken}
@@ -241,42 +241,50 @@ event_from s t n d _ is = was_there _ d
 
 -- all entries
 
-later_decided : (x : Entry) (t : List Entry) (n : ℕ) (s : DeliveryState) → Decided t n s → Decided (x ∷ t) n s
-later_decided x t n s was = record {
+-- what decides a delivery is no opening
+not_opening : (x : Entry) {t : List Entry} {n : ℕ} {d : Delivery} {s : DeliveryState} → Decides x t n d s → is_opening x ≡ false
+not_opening x (given_by_consumer given) = subst (λ (y : Entry). is_opening y ≡ false) (sym given.entry_is) refl
+not_opening x (link_lost lost none is_failed) = subst (λ (y : Entry). is_opening y ≡ false) (sym lost.entry_is) refl
+not_opening x (link_ended ended none is_failed) = subst (λ (y : Entry). is_opening y ≡ false) (sym ended.entry_is) refl
+not_opening x (sent_settled sent accepted) = subst (λ (y : Entry). is_opening y ≡ false) (sym sent.entry_is) refl
+
+later_decided : (x : Entry) (t : List Entry) (n : ℕ) (s : DeliveryState) → is_opening x ≡ false → Decided t n s → Decided (x ∷ t) n s
+later_decided x t n s one was = record {
   later = x ∷ was.later;
   entry = was.entry;
   before = was.before;
   trace = ap (λ (u : List Entry). x ∷ u) was.trace;
+  one_run = (one, was.one_run);
   found = was.found;
   there = was.there;
   decides = was.decides;
 }
 
 now_decided : (x : Entry) (t : List Entry) (n : ℕ) (d : Delivery) (s : DeliveryState) → delivery t n ≡ Some d → Decides x t n d s → Decided (x ∷ t) n s
-now_decided x t n d s there decides = record { later = []; entry = x; before = t; trace = refl; found = d; there = there; decides = decides }
+now_decided x t n d s there decides = record { later = []; entry = x; before = t; trace = refl; one_run = tt; found = d; there = there; decides = decides }
 
-either_decided : (x : Entry) (t : List Entry) (n : ℕ) (d : Delivery) (s : DeliveryState) → delivery t n ≡ Some d
+either_decided : (x : Entry) (t : List Entry) (n : ℕ) (d : Delivery) (s : DeliveryState) → is_opening x ≡ false → delivery t n ≡ Some d
     → (d.outcome ≡ Some s → Decided t n s) → (d.outcome ≡ Some s) ⊎ Decides x t n d s → Decided (x ∷ t) n s
-either_decided x t n d s there was (inl e) = later_decided x t n s (was e)
-either_decided x t n d s there was (inr now) = now_decided x t n d s there now
+either_decided x t n d s one there was (inl e) = later_decided x t n s one (was e)
+either_decided x t n d s one there was (inr now) = now_decided x t n d s there now
 
 pub outcomes_given : (u : List Entry) (n : ℕ) (d : Delivery) (s : DeliveryState) → delivery u n ≡ Some d → d.outcome ≡ Some s → Decided u n s
 outcomes_given [] n d s h e = absurd cc
 outcomes_given (Did x ∷ t) n d s h e =
     let was = of_what (after_event x.event (channels_found t) (named t) n) (delivery t n) d h
-    in either_decided (Did x) t n was.0 s was.1 (outcomes_given t n was.0 s was.1)
+    in either_decided (Did x) t n was.0 s refl was.1 (outcomes_given t n was.0 s was.1)
     (event_from x t n was.0 x.event refl s (sym (ap (λ (f : Delivery). f.outcome) was.2) ∙ e))
 outcomes_given (Out c i ∷ t) n d s h e =
     let was = of_what (after_put (number_named t) i c n (sending t c)) (delivery t n) d h
-    in either_decided (Out c i) t n was.0 s was.1 (outcomes_given t n was.0 s was.1)
+    in either_decided (Out c i) t n was.0 s refl was.1 (outcomes_given t n was.0 s was.1)
     (put_from c i t n was.0 s (sym (ap (λ (f : Delivery). f.outcome) was.2) ∙ e))
-outcomes_given (Took c k ∷ t) n d s h e = later_decided (Took c k) t n s (outcomes_given t n d s h e)
-outcomes_given (Booked acts full ∷ t) n d s h e = later_decided (Booked acts full) t n s (outcomes_given t n d s h e)
-outcomes_given (Began g ∷ t) n d s h e = later_decided (Began g) t n s (outcomes_given t n d s h e)
+outcomes_given (Took c k ∷ t) n d s h e = later_decided (Took c k) t n s refl (outcomes_given t n d s h e)
+outcomes_given (Booked acts full ∷ t) n d s h e = later_decided (Booked acts full) t n s refl (outcomes_given t n d s h e)
+outcomes_given (Began g ∷ t) n d s h e = absurd cc
 outcomes_given (Bound b ∷ t) n d s h e =
     by_test (bindings t + 1 == n)
     (λ f. absurd (none_not_some (ap (λ (g : Delivery). g.outcome) (some_same (rw f at h)) ∙ e)))
-    (λ f. later_decided (Bound b) t n s (outcomes_given t n d s (uncalled (name_in t b) (delivery t n) d (rw f at h)).0 e))
+    (λ f. later_decided (Bound b) t n s refl (outcomes_given t n d s (uncalled (name_in t b) (delivery t n) d (rw f at h)).0 e))
 
 -- if its producer hadn't settled it, by its consumer
 
@@ -300,7 +308,7 @@ outcomes_of_consumers u n d s there outcome unsettled =
         let followed : AllFollow (delivery is.before n) (delivery (is.later ++ is.entry ∷ is.before) n)
         = then_all (delivery is.before n) (delivery (is.entry ∷ is.before) n) (delivery (is.later ++ is.entry ∷ is.before) n)
         (entry_follows is.entry is.before n (there_bound is.before n is.found is.there))
-        (later_follows is.later (is.entry ∷ is.before) n (more_bound is.entry is.before n (there_bound is.before n is.found is.there)))
+        (later_follows is.later (is.entry ∷ is.before) n is.one_run (more_bound is.entry is.before n (not_opening is.entry is.decides) (there_bound is.before n is.found is.there)))
         in let from : WhileThere (Follows is.found) (delivery (is.later ++ is.entry ∷ is.before) n)
         = subst (λ (v : Option Delivery). AllFollow v (delivery (is.later ++ is.entry ∷ is.before) n)) is.there followed
         in let now : delivery (is.later ++ is.entry ∷ is.before) n ≡ Some d = subst (λ (t : List Entry). delivery t n ≡ Some d) is.trace there

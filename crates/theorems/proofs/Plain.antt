@@ -36,7 +36,7 @@ plain (Out d i ∷ t) c = if d == c then option_and_then (stand_after i) (plain 
 plain (Took d n ∷ t) c = plain t c
 plain (Bound b ∷ t) c = plain t c
 plain (Booked acts full ∷ t) c = plain t c
-plain (Began g ∷ t) c = plain t c
+plain (Began g ∷ t) c = None
 
 abbrev pub plain_live : List Entry → List ℕ
 plain_live t = standing_of (ups t) (plain t)
@@ -115,7 +115,7 @@ stood (Out d i ∷ t) calm c =
 stood (Took d n ∷ t) calm c = standing_took (d == c) n (conn t c) ∙ stood t calm c
 stood (Bound b ∷ t) calm c = stood t calm c
 stood (Booked acts full ∷ t) calm c = stood t calm c
-stood (Began g ∷ t) calm c = stood t calm c
+stood (Began g ∷ t) calm c = refl
 
 -- and so are those that are live
 pub same_live : (t : List Entry) → Calm t → live t ≡ plain_live (untaken t)

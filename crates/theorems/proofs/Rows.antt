@@ -8,10 +8,11 @@ use Rattle.book_model.specs.declared.act.Act.TheVariants.{Make, Admit, Decide, F
 use Rattle.book_model.specs.declared.act.Admission.{Admission}
 use Rattle.book_model.specs.declared.row.RowNumber.{RowNumber}
 use Rattle.book_model.specs.Book.{BookView, effect, effects}
-use Rattle.router_trace.specs.Configuration.{beginning}
+use Rattle.router_trace.specs.Configuration.{beginning, opened}
 use Rattle.router_trace.specs.Connection.{conn, due}
-use Rattle.router_trace.specs.Trace.{Beginning, Entry, Did, Out, Took, Bound, Booked, Began, Put, Step, goes, puts, each_to}
+use Rattle.router_trace.specs.Trace.{Beginning, Entry, Did, Out, Took, Bound, Booked, Began, Put, Step, did, goes, puts, each_to}
 use Rattle.router_trace.specs.declared.binding.Binding.{Binding}
+use Rattle.router_trace.specs.declared.event.Event.{Event}
 use Rattle.router_trace.specs.declared.condition.Condition.TheVariants.{ResourceLimitExceeded}
 use Rattle.state_messages.specs.Messages.{with_bound}
 use Rattle.router_reply.specs.Acts.{book_in, booked}
@@ -146,11 +147,36 @@ pub record Rows (t : List Entry) : Type 0 where
   pub once : EachRowIsBoundOnce t
   before : Before t
 
+pub no_rows : Rows []
+no_rows = record { admitted = tt; once = λ n. record { once = zero_one; known = λ h. refl }; before = tt }
+  where
+    zero_one : 0 ≤ 1
+    zero_one = omega arith
+
+-- of rows bound before it was opened a router knows what its book knows
+pub opened_rows : (g : Beginning) (below : List Entry) → g.book ≡ book_in below → Rows below → Rows (opened g below)
+opened_rows g below book was = record {
+  admitted = was.admitted;
+  once = λ n. record { once = (was.once n).once; known = λ h. (was.once n).known (subst (λ (b : BookView). b.next_row ≤ n) book h) };
+  before = tt;
+}
+
 pub start_rows : (g : Beginning) → Rows (beginning g)
 start_rows g = record { admitted = tt; once = λ n. record { once = zero_one; known = λ h. refl }; before = tt }
   where
     zero_one : 0 ≤ 1
     zero_one = omega arith
+
+-- an event that a stop cut off binds nothing
+pub cut_rows : (t : List Entry) (e : Event) → Rows t → Rows (did e ∷ booked t e)
+cut_rows t e was = record {
+  admitted = was.admitted;
+  once = λ n. record { once = (acted n).once; known = λ h. (acted n).known h };
+  before = was.once;
+}
+  where
+    acted : EachRowIsBoundOnce (booked t e)
+    acted = booked_keeps EachRowIsBoundOnce t e (λ acts w. batch_once acts t w) was.once
 
 did_rows : (s : Step) (t : List Entry) → Rows t → Rows (Did s ∷ t)
 did_rows s t was = record { admitted = was.admitted; once = λ n. record { once = (was.once n).once; known = (was.once n).known }; before = was.before }
@@ -186,7 +212,7 @@ handled_rows id t s was =
     let bound : Rows (with_bound (bound_by at u s.event) u) = bound_rows u (bound_by at u s.event) (λ x is. bound_row id t s.event x is) came in
     all_keep Rows goes_rows (replied id at s) (goes_rows (own_row id at u s.event) (with_bound (bound_by at u s.event) u) bound)
 
-moves_rows : (id : List ℕ) (ms : List Move) (t u : List Entry) → Rows t → Goes id ms t u → Rows u
+pub moves_rows : (id : List ℕ) (ms : List Move) (t u : List Entry) → Rows t → Goes id ms t u → Rows u
 moves_rows id [] t u was went = subst (λ (w : List Entry). Rows w) (sym went) was
 moves_rows id (handles s ∷ ms) t u was went = moves_rows id ms (handled id t s) u (handled_rows id t s was) went.1
 moves_rows id (takes x ∷ ms) t u was went = moves_rows id ms (took_one x t) u (took_rows _ _ t was) went

@@ -9,7 +9,7 @@ use Rattle.amqp_model.specs.declared.perf.Role.TheVariants.{Sender, Receiver}
 use Rattle.amqp_model.specs.declared.item.Item.{Item}
 use Rattle.amqp_model.specs.declared.item.Item.TheVariants as item
 use Rattle.router_trace.specs.Trace.{Beginning}
-use Rattle.router_trace.specs.Configuration.{beginning}
+use Rattle.router_trace.specs.Configuration.{beginning, opened}
 use Rattle.router_trace.specs.declared.binding.Binding.{Binding}
 use Rattle.book_model.specs.declared.act.Act.{Act}
 use Rattle.router_trace.specs.Trace.{Entry, Put, Did, Out, Took, Bound, Booked, Step, goes, each_to}
@@ -28,11 +28,18 @@ pub record Sound (t : List Entry) : Type 0 where
   pub binds : EachBound BindsMessage t
   pub unstarted : Unstarted t
 
-none_yet : (g : Beginning) → Unstarted (beginning g)
-none_yet g n d there = absurd (none_not_some there)
+none_yet : (g : Beginning) (below : List Entry) → Unstarted (opened g below)
+none_yet g below n d there = absurd (none_not_some there)
+
+pub none_sound : Sound []
+none_sound = record { carries = tt; tells = tt; binds = tt; unstarted = λ n d there. absurd (none_not_some there) }
+
+-- a router that is opened has no delivery
+pub opened_sound : (g : Beginning) (below : List Entry) → Sound below → Sound (opened g below)
+opened_sound g below was = record { carries = was.carries; tells = was.tells; binds = was.binds; unstarted = none_yet g below }
 
 pub sound_start : (g : Beginning) → Sound (beginning g)
-sound_start g = record { carries = tt; tells = tt; binds = tt; unstarted = none_yet g }
+sound_start g = record { carries = tt; tells = tt; binds = tt; unstarted = none_yet g [] }
 
 pub did_sound : (s : Step) (t : List Entry) → Sound t → Sound (Did s ∷ t)
 did_sound s t sound = record { carries = sound.carries; tells = sound.tells; binds = sound.binds; unstarted = did_unstarted t s sound.unstarted }

@@ -22,7 +22,7 @@ use Rattle.book_model.specs.declared.terminus.LinkKey.{LinkKey}
 use Rattle.book_model.specs.declared.terminus.LinkRole.{LinkRole}
 use Rattle.book_model.specs.declared.terminus.LinkRole.TheVariants.{Producer, Consumer}
 use Rattle.book_model.specs.Keys.{rank, keys_total}
-use Rattle.router_trace.specs.Configuration.{beginning}
+use Rattle.router_trace.specs.Configuration.{opened}
 use Rattle.router_trace.specs.declared.binding.Binding.{Binding}
 use Rattle.router_trace.specs.declared.binding.Origin.{Origin}
 use Rattle.router_trace.specs.declared.channel.PeerChannel.{PeerChannel}
@@ -246,8 +246,8 @@ sends_after : (u : List Entry) (a b : Attachment) (l : Link) → b ≡ a → Lin
 sends_after u a b l same is number way =
     subst (λ (x : Attachment). Sends u x) (sym same) (record { at = is.behind; there = is.there; number = is.same.number ∙ number; way = is.same.way ∙ way })
 
-pub began_standing : (g : Beginning) → Standing (beginning g)
-began_standing g = record {
+pub began_standing : (g : Beginning) (below : List Entry) → Standing (opened g below)
+began_standing g below = record {
   answered = λ c o h l is. absurd (none_not_some is);
   keys = λ c o h l is. absurd (none_not_some is);
   consumers = λ n d is undecided. absurd (none_not_some is);

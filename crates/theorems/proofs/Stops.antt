@@ -1,11 +1,21 @@
--- A router's journal that stands: each file that a stop leaves opens to the book of the router's trace.
-use Rattle.std.proofs.Common.{◌∙◌, sym, subst, ℕ, List}
+-- A router's journal that stands: each file that a stop leaves opens to the book of the router's trace. And what a stop leaves at any
+-- moment is the book of the runs so far.
+use Rattle.std.proofs.Common.{◌≡◌, ◌∙◌, ◌≤◌, refl, sym, subst, ℕ, List, [], ◌∷◌, ◌++◌, inl, inr, arith}
+use Rattle.book_model.specs.Book.{BookView}
+use Rattle.disk_core.specs.Disk.{LeavesOnly}
+use Rattle.disk_core.specs.DiskLaws.{widened}
 use Rattle.journal_codec.specs.Batches.{Holds}
 use Rattle.journal_store.specs.Store.{OpensTo, Stands, disk_of}
-use Rattle.router_trace.specs.Trace.{Trace}
-use Rattle.router_reply.specs.Acts.{book_in}
+use Rattle.router_trace.specs.declared.event.Event.{Event}
+use Rattle.router_trace.specs.Configuration.{opened}
+use Rattle.router_trace.specs.Trace.{Trace, did}
+use Rattle.router_reply.specs.Acts.{book_in, booked}
 use Rattle.router_core.specs.declared.router.Core.{Core}
-use Rattle.router_core.specs.Handling.{Fits, store_of}
+use Rattle.router_core.specs.Handling.{Fits, id_of, store_of}
+use Rattle.router_core.specs.Leaving.{IsBookAt, IsLeftBy, LeftBy}
+use Rattle.theorems.specs.Lives.{Life, Lives, CutOff, GoesInTurn}
+use Rattle.theorems.specs.Stops.{IsUnderWay, EndsLife}
+use Rattle.theorems.proofs.KeptFirst.{LeadsInTurn, turns_on, run_leads}
 
 pub opens_to_book : {D : Type 0} (seen : D → List ℕ) (may_leave : D → List ℕ → Type 0) (core : Core D) (u : Trace)
     → Fits core u → Stands seen may_leave (store_of core)
@@ -15,3 +25,66 @@ opens_to_book seen may_leave core u fits stands file left = record {
   holds = subst (λ (x : List ℕ). Holds x stands.batches) (sym (stands.keeps.at.durable file left)) stands.keeps.at.file;
   leaves = sym fits.journal.book ∙ stands.leaves;
 }
+
+-- a run under way goes from its opening to its trace
+went_on : (id : List ℕ) (life : Life) (lives : List Life) (t : Trace) (way : IsUnderWay id life lives t) → GoesInTurn id life.moves (opened life.opening way.1.0) t
+went_on id life lives t way = subst (λ (w : Trace). GoesInTurn id life.moves (opened life.opening way.1.0) w) (sym same) way.1.4
+  where
+    same : t ≡ way.1.1
+    same = subst (λ (es : List Event). CutOff es way.1.1 t) way.0 way.1.5
+
+-- a book that events leave is that of a run that a stop ends
+pub ends_life : (id : List ℕ) (life : Life) (lives : List Life) (t : Trace) (es : List Event) → IsUnderWay id life lives t
+    → (file : List ℕ) → LeftBy id t es file → EndsLife id life lives t es file
+ends_life id life lives t es way file left = by (left.2).rest (left.2).events (left.2).book
+  where
+    is : IsLeftBy id t es left.0
+    is = left.2
+
+    led : LeadsInTurn id t is.mid
+    led = run_leads id 0 t is.first is.taken is.mid is.run
+
+    all : GoesInTurn id (life.moves ++ led.0) (opened life.opening way.1.0) is.mid
+    all = turns_on id life.moves led.0 (opened life.opening way.1.0) t is.mid (went_on id life lives t way) led.1
+
+    none : 0 ≤ 1
+    none = omega arith
+
+    one : 1 ≤ 1
+    one = omega arith
+
+    at : (rest : List Event) → es ≡ is.first ++ rest → left.0 ≡ book_in is.mid → EndsLife id life lives t es file
+    at rest are book = record {
+      first = is.first;
+      rest = rest;
+      are = are;
+      taken = is.taken;
+      mid = is.mid;
+      run = is.run;
+      most = 0;
+      at_most_one = none;
+      more = led.0;
+      trace = is.mid;
+      cut_off = refl;
+      lives = (way.1.0, is.mid, way.1.2, way.1.3, all, refl);
+      opens = subst (λ (b : BookView). OpensTo file b) book left.1;
+    }
+
+    by : (rest : List Event) → es ≡ is.first ++ rest → IsBookAt is.mid rest left.0 → EndsLife id life lives t es file
+    by [] are book = at [] are book
+    by (e ∷ rest) are (inl book) = at (e ∷ rest) are book
+    by (e ∷ rest) are (inr (turn, book)) = record {
+      first = is.first;
+      rest = e ∷ rest;
+      are = are;
+      taken = is.taken;
+      mid = is.mid;
+      run = is.run;
+      most = 1;
+      at_most_one = one;
+      more = led.0;
+      trace = did e ∷ booked is.mid e;
+      cut_off = (turn, refl);
+      lives = (way.1.0, is.mid, way.1.2, way.1.3, all, (turn, refl));
+      opens = subst (λ (b : BookView). OpensTo file b) book left.1;
+    }

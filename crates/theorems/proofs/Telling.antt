@@ -11,7 +11,7 @@ use Rattle.amqp_model.specs.declared.item.Item.{Item}
 use Rattle.amqp_model.specs.declared.item.Item.TheVariants as item
 use Rattle.router_trace.specs.declared.binding.DeliveryName.{DeliveryName}
 use Rattle.router_trace.specs.declared.binding.Origin.{Origin}
-use Rattle.router_trace.specs.Trace.{Entry, Did, Out, Took, Bound, Booked, Began}
+use Rattle.router_trace.specs.Trace.{Entry, Did, Out, Took, Bound, Booked, Began, IsOneRun}
 use Rattle.router_trace.specs.Deliveries.{Delivery, bindings, name_in, same_name, number_named, unless_called, delivery, sending, named, unless_over, either_origin, source, untold, unsettled, told, is_meant, last_of, origin_id, ended_by, after_put, after_event, channels_found}
 use Rattle.amqp_session.specs.Serials.{distance}
 use Rattle.amqp_session.specs.Ranges.{in_range}
@@ -158,11 +158,7 @@ spent (Took c k ∷ t) n = by (spent t n)
     by : Spent t n → Spent (Took c k ∷ t) n
     by (inl none) = inl none
     by (inr was) = inr (record { once = was.once; given = was.given; none = was.none })
-spent (Began g ∷ t) n = by (spent t n)
-  where
-    by : Spent t n → Spent (Began g ∷ t) n
-    by (inl none) = inl none
-    by (inr was) = inr (record { once = was.once; given = was.given; none = was.none })
+spent (Began g ∷ t) n = inl refl
 spent (Booked acts full ∷ t) n = by (spent t n)
   where
     by : Spent t n → Spent (Booked acts full ∷ t) n
@@ -252,7 +248,7 @@ entry_under c own id (Did s) t n given none =
 entry_under c own id (Out d i) t n given none =
     not_under c own id (after_put (number_named t) i d n (sending t d)) (item_left (WasUnder c own id) (was_left c own id) (was_frames c own id) (number_named t) i d n (sending t d)) (delivery t n) none
 entry_under c own id (Took d k) t n given none = none
-entry_under c own id (Began g) t n given none = none
+entry_under c own id (Began g) t n given none = tt
 entry_under c own id (Booked acts full) t n given none = none
 entry_under c own id (Bound b) t n given none =
     by_test (bindings t + 1 == n) (λ e. absurd (too_high n (bindings t) given (eqb-true (bindings t + 1) n e))) (λ e. rw e (uncalled_under c own id (name_in t b) (delivery t n) none))
@@ -260,11 +256,11 @@ entry_under c own id (Bound b) t n given none =
     too_high : (n k : ℕ) → n ≤ k → k + 1 ≡ n → ⊥
     too_high n k h e = omega (arith, h, e)
 
-later_under : (c own id : ℕ) (later t : List Entry) (n : ℕ) → n ≤ bindings t → WhileThere (NotUnder c own id) (delivery t n)
+later_under : (c own id : ℕ) (later t : List Entry) (n : ℕ) → IsOneRun later → n ≤ bindings t → WhileThere (NotUnder c own id) (delivery t n)
     → WhileThere (NotUnder c own id) (delivery (later ++ t) n)
-later_under c own id [] t n given none = none
-later_under c own id (e ∷ later) t n given none =
-    entry_under c own id e (later ++ t) n (all_bound later t n given) (later_under c own id later t n given none)
+later_under c own id [] t n one given none = none
+later_under c own id (e ∷ later) t n one given none =
+    entry_under c own id e (later ++ t) n (all_bound later t n one.1 given) (later_under c own id later t n one.1 given none)
 
 -- the id of a disposition of one id is in its range
 own_range : (first : ℕ) → in_range first first first ≡ true
@@ -290,10 +286,10 @@ told_under Receiver x c own d role one under =
     clash : true ≡ false → ⊥
     clash e = cc
 
-pub told_anew : (t later : List Entry) (c own : ℕ) (sasl : Bool) (x : Disposition) (payload : List ℕ) (n : ℕ) → x.role ≡ Receiver → x.last ≡ None
+pub told_anew : (t later : List Entry) (c own : ℕ) (sasl : Bool) (x : Disposition) (payload : List ℕ) (n : ℕ) → IsOneRun later → x.role ≡ Receiver → x.last ≡ None
     → n ≤ bindings t → WhileThere (λ d. IsUnder c own x.first d → ⊥) (delivery (later ++ Out c (item.Frame sasl own (perf.Disposition x) payload) ∷ t) n)
-told_anew t later c own sasl x payload n role one given =
-    later_under c own x.first later (Out c (item.Frame sasl own (perf.Disposition x) payload) ∷ t) n given (by (delivery t n))
+told_anew t later c own sasl x payload n run role one given =
+    later_under c own x.first later (Out c (item.Frame sasl own (perf.Disposition x) payload) ∷ t) n run given (by (delivery t n))
   where
     by : (v : Option Delivery) → WhileThere (NotUnder c own x.first) (option_and_then (λ d. unless_over (after_put (number_named t) (item.Frame sasl own (perf.Disposition x) payload) c n (sending t c) d)) v)
     by None = tt

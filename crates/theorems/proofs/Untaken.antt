@@ -28,7 +28,7 @@ same_ups (Out d i ∷ t) = same_ups t
 same_ups (Took d n ∷ t) = same_ups t
 same_ups (Bound b ∷ t) = same_ups t
 same_ups (Booked acts full ∷ t) = same_ups t
-same_ups (Began g ∷ t) = same_ups t
+same_ups (Began g ∷ t) = refl
 
 pub same_outs : (t : List Entry) (c : ℕ) → outs t c ≡ outs (untaken t) c
 same_outs [] c = refl
@@ -37,7 +37,7 @@ same_outs (Out d i ∷ t) c = ap (λ (is : List Item). if d == c then is ++ i �
 same_outs (Took d n ∷ t) c = same_outs t c
 same_outs (Bound b ∷ t) c = same_outs t c
 same_outs (Booked acts full ∷ t) c = same_outs t c
-same_outs (Began g ∷ t) c = same_outs t c
+same_outs (Began g ∷ t) c = refl
 
 same_moment : (t : List Entry) → moment t ≡ moment (untaken t)
 same_moment [] = refl
@@ -46,7 +46,7 @@ same_moment (Out d i ∷ t) = same_moment t
 same_moment (Took d n ∷ t) = same_moment t
 same_moment (Bound b ∷ t) = same_moment t
 same_moment (Booked acts full ∷ t) = same_moment t
-same_moment (Began g ∷ t) = same_moment t
+same_moment (Began g ∷ t) = refl
 
 same_terms : (t : List Entry) (c : ℕ) → terms t c ≡ terms (untaken t) c
 same_terms [] c = refl
@@ -55,7 +55,7 @@ same_terms (Out d i ∷ t) c = ap (λ (v : Option Terms). if d == c then unless_
 same_terms (Took d n ∷ t) c = same_terms t c
 same_terms (Bound b ∷ t) c = same_terms t c
 same_terms (Booked acts full ∷ t) c = same_terms t c
-same_terms (Began g ∷ t) c = same_terms t c
+same_terms (Began g ∷ t) c = refl
 
 same_written : (t : List Entry) (c : ℕ) → written t c ≡ written (untaken t) c
 same_written [] c = refl
@@ -64,7 +64,7 @@ same_written (Out d i ∷ t) c = λ j. if d == c then unless_close i (Some (same
 same_written (Took d n ∷ t) c = same_written t c
 same_written (Bound b ∷ t) c = same_written t c
 same_written (Booked acts full ∷ t) c = same_written t c
-same_written (Began g ∷ t) c = same_written t c
+same_written (Began g ∷ t) c = refl
 
 same_offered : (t : List Entry) (c : ℕ) → offered t c ≡ offered (untaken t) c
 same_offered [] c = refl
@@ -73,7 +73,7 @@ same_offered (Out d i ∷ t) c = ap (λ (v : Option BeginState). if d == c then 
 same_offered (Took d n ∷ t) c = same_offered t c
 same_offered (Bound b ∷ t) c = same_offered t c
 same_offered (Booked acts full ∷ t) c = same_offered t c
-same_offered (Began g ∷ t) c = same_offered t c
+same_offered (Began g ∷ t) c = refl
 
 same_answered : (t : List Entry) (c o : ℕ) → answered_channel t c o ≡ answered_channel (untaken t) c o
 same_answered [] c o = refl
@@ -82,7 +82,7 @@ same_answered (Out d i ∷ t) c o = ap (λ (v : Option ℕ). if d == c then answ
 same_answered (Took d n ∷ t) c o = same_answered t c o
 same_answered (Bound b ∷ t) c o = same_answered t c o
 same_answered (Booked acts full ∷ t) c o = same_answered t c o
-same_answered (Began g ∷ t) c o = same_answered t c o
+same_answered (Began g ∷ t) c o = refl
 
 pub same_theirs : (t : List Entry) (c p : ℕ) → theirs t c p ≡ theirs (untaken t) c p
 same_theirs [] c p = refl
@@ -91,7 +91,7 @@ same_theirs (Out d i ∷ t) c p = λ j. if d == c then theirs_after i p (λ o. s
 same_theirs (Took d n ∷ t) c p = same_theirs t c p
 same_theirs (Bound b ∷ t) c p = same_theirs t c p
 same_theirs (Booked acts full ∷ t) c p = same_theirs t c p
-same_theirs (Began g ∷ t) c p = same_theirs t c p
+same_theirs (Began g ∷ t) c p = refl
 
 pub same_session : (t : List Entry) (c o : ℕ) → session t c o ≡ session (untaken t) c o
 same_session [] c o = refl
@@ -100,7 +100,7 @@ same_session (Out d i ∷ t) c o = λ j. if d == c then after_item i o (same_off
 same_session (Took d n ∷ t) c o = same_session t c o
 same_session (Bound b ∷ t) c o = same_session t c o
 same_session (Booked acts full ∷ t) c o = same_session t c o
-same_session (Began g ∷ t) c o = same_session t c o
+same_session (Began g ∷ t) c o = refl
 
 -- what rows need of them
 

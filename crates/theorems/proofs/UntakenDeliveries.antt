@@ -25,7 +25,7 @@ same_bindings (Out d i ∷ t) = same_bindings t
 same_bindings (Took d n ∷ t) = same_bindings t
 same_bindings (Bound b ∷ t) = ap (λ (n : ℕ). n + 1) (same_bindings t)
 same_bindings (Booked acts full ∷ t) = same_bindings t
-same_bindings (Began g ∷ t) = same_bindings t
+same_bindings (Began g ∷ t) = refl
 
 pub same_counters : (t : List Entry) → counters t ≡ counters (untaken t)
 same_counters [] = refl
@@ -34,7 +34,7 @@ same_counters (Out d i ∷ t) = same_counters t
 same_counters (Took d n ∷ t) = same_counters t
 same_counters (Bound b ∷ t) = ap (λ (n : ℕ). if is_none b.row then n + 1 else n) (same_counters t)
 same_counters (Booked acts full ∷ t) = same_counters t
-same_counters (Began g ∷ t) = same_counters t
+same_counters (Began g ∷ t) = refl
 
 same_name_in : (t : List Entry) (b : Binding) → name_in t b ≡ name_in (untaken t) b
 same_name_in t b = ap (λ (n : ℕ). name_of b.row (n + 1)) (same_counters t)
@@ -46,7 +46,7 @@ same_numbers (Out d i ∷ t) name = same_numbers t name
 same_numbers (Took d n ∷ t) name = same_numbers t name
 same_numbers (Bound b ∷ t) name = λ j. if same_name (same_name_in t b j) name then Some (same_bindings t j + 1) else same_numbers t name j
 same_numbers (Booked acts full ∷ t) name = same_numbers t name
-same_numbers (Began g ∷ t) name = same_numbers t name
+same_numbers (Began g ∷ t) name = refl
 
 same_sending : (t : List Entry) (c o h : ℕ) → sending t c o h ≡ sending (untaken t) c o h
 same_sending [] c o h = refl
@@ -55,7 +55,7 @@ same_sending (Out d i ∷ t) c o h = λ j. if d == c then sending_by (λ name. s
 same_sending (Took d n ∷ t) c o h = same_sending t c o h
 same_sending (Bound b ∷ t) c o h = same_sending t c o h
 same_sending (Booked acts full ∷ t) c o h = same_sending t c o h
-same_sending (Began g ∷ t) c o h = same_sending t c o h
+same_sending (Began g ∷ t) c o h = refl
 
 pub same_named : (t : List Entry) (c o id : ℕ) → named t c o id ≡ named (untaken t) c o id
 same_named [] c o id = refl
@@ -64,7 +64,7 @@ same_named (Out d i ∷ t) c o id = λ j. if d == c then named_by (λ name. same
 same_named (Took d n ∷ t) c o id = same_named t c o id
 same_named (Bound b ∷ t) c o id = same_named t c o id
 same_named (Booked acts full ∷ t) c o id = same_named t c o id
-same_named (Began g ∷ t) c o id = same_named t c o id
+same_named (Began g ∷ t) c o id = refl
 
 same_next_id : (t : List Entry) (c o : ℕ) → next_id t c o ≡ next_id (untaken t) c o
 same_next_id [] c o = refl
@@ -73,7 +73,7 @@ same_next_id (Out d i ∷ t) c o = ap (λ (n : ℕ). if d == c then next_id_by i
 same_next_id (Took d n ∷ t) c o = same_next_id t c o
 same_next_id (Bound b ∷ t) c o = same_next_id t c o
 same_next_id (Booked acts full ∷ t) c o = same_next_id t c o
-same_next_id (Began g ∷ t) c o = same_next_id t c o
+same_next_id (Began g ∷ t) c o = refl
 
 same_ended : (t : List Entry) → ended_first t ≡ ended_first (untaken t)
 same_ended [] = refl
@@ -95,7 +95,7 @@ same_delivery (Out c i ∷ t) n = λ j. option_and_then (λ d. unless_over (afte
 same_delivery (Took c k ∷ t) n = same_delivery t n
 same_delivery (Bound b ∷ t) n = λ j. if same_bindings t j + 1 == n then Some (bound (same_name_in t b j) b) else unless_called (same_name_in t b j) (same_delivery t n j)
 same_delivery (Booked acts full ∷ t) n = same_delivery t n
-same_delivery (Began g ∷ t) n = same_delivery t n
+same_delivery (Began g ∷ t) n = refl
 
 pub same_claims : (t : List Entry) (c o id : ℕ) → claims t c o id ≡ claims (untaken t) c o id
 same_claims [] c o id = refl
@@ -105,7 +105,7 @@ same_claims (Out d i ∷ t) c o id = ap (λ (v : Option Claim). if d == c then c
 same_claims (Took d n ∷ t) c o id = same_claims t c o id
 same_claims (Bound b ∷ t) c o id = ap (bind_claim b.origin c o id) (same_claims t c o id)
 same_claims (Booked acts full ∷ t) c o id = same_claims t c o id
-same_claims (Began g ∷ t) c o id = same_claims t c o id
+same_claims (Began g ∷ t) c o id = refl
 
 pub same_numbered : (t : List Entry) (n : ℕ) → numbered t n ≡ numbered (untaken t) n
 same_numbered [] n = refl
@@ -114,7 +114,7 @@ same_numbered (Out d i ∷ t) n = λ j. newest_by i d (same_attachments t j + 1)
 same_numbered (Took d k ∷ t) n = same_numbered t n
 same_numbered (Bound b ∷ t) n = same_numbered t n
 same_numbered (Booked acts full ∷ t) n = same_numbered t n
-same_numbered (Began g ∷ t) n = same_numbered t n
+same_numbered (Began g ∷ t) n = refl
 
 -- outcomes to producers
 

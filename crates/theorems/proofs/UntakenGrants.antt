@@ -69,7 +69,7 @@ same_last [] address = refl
 same_last (Did s ∷ t) address = same_last t address
 same_last (Out c i ∷ t) address = same_last t address
 same_last (Took c n ∷ t) address = same_last t address
-same_last (Began g ∷ t) address = same_last t address
+same_last (Began g ∷ t) address = refl
 same_last (Bound b ∷ t) address =
     λ j. if is_of address (same_link t b.consumer.conn.0 b.consumer.channel b.consumer.handle j) b.consumer.number then b.consumer.number else same_last t address j
 same_last (Booked acts full ∷ t) address = same_last t address

@@ -20,7 +20,7 @@ same_user (Out d i ∷ t) c = ap (λ (v : Option (List ℕ)). if d == c then unl
 same_user (Took d n ∷ t) c = same_user t c
 same_user (Bound b ∷ t) c = same_user t c
 same_user (Booked acts full ∷ t) c = same_user t c
-same_user (Began g ∷ t) c = same_user t c
+same_user (Began g ∷ t) c = refl
 
 same_container : (t : List Entry) (c : ℕ) → container t c ≡ container (untaken t) c
 same_container [] c = refl
@@ -29,7 +29,7 @@ same_container (Out d i ∷ t) c = ap (λ (v : Option Container). if d == c then
 same_container (Took d n ∷ t) c = same_container t c
 same_container (Bound b ∷ t) c = same_container t c
 same_container (Booked acts full ∷ t) c = same_container t c
-same_container (Began g ∷ t) c = same_container t c
+same_container (Began g ∷ t) c = refl
 
 pub same_largest : (t : List Entry) (c : ℕ) → largest_frame t c ≡ largest_frame (untaken t) c
 same_largest t c = ap (λ (v : Option Container). unwrap_or (option_map (λ told. told.largest) v) 4294967295) (same_container t c)
@@ -46,7 +46,7 @@ same_asked (Out d i ∷ t) c = ap (λ (v : Option Asked). if d == c then unless_
 same_asked (Took d n ∷ t) c = same_asked t c
 same_asked (Bound b ∷ t) c = same_asked t c
 same_asked (Booked acts full ∷ t) c = same_asked t c
-same_asked (Began g ∷ t) c = same_asked t c
+same_asked (Began g ∷ t) c = refl
 
 same_answers : (t : List Entry) (c o h : ℕ) → answered_handle t c o h ≡ answered_handle (untaken t) c o h
 same_answers [] c o h = refl
@@ -55,7 +55,7 @@ same_answers (Out d i ∷ t) c o h = λ j. if d == c then answers_by i o h (same
 same_answers (Took d n ∷ t) c o h = same_answers t c o h
 same_answers (Bound b ∷ t) c o h = same_answers t c o h
 same_answers (Booked acts full ∷ t) c o h = same_answers t c o h
-same_answers (Began g ∷ t) c o h = same_answers t c o h
+same_answers (Began g ∷ t) c o h = refl
 
 pub same_handle : (t : List Entry) (c o p : ℕ) → their_handle t c o p ≡ their_handle (untaken t) c o p
 same_handle [] c o p = refl
@@ -65,7 +65,7 @@ same_handle (Out d i ∷ t) c o p =
 same_handle (Took d n ∷ t) c o p = same_handle t c o p
 same_handle (Bound b ∷ t) c o p = same_handle t c o p
 same_handle (Booked acts full ∷ t) c o p = same_handle t c o p
-same_handle (Began g ∷ t) c o p = same_handle t c o p
+same_handle (Began g ∷ t) c o p = refl
 
 same_told : (t : List Entry) (c : ℕ) → told_handle_max t c ≡ told_handle_max (untaken t) c
 same_told [] c = refl
@@ -74,7 +74,7 @@ same_told (Out d i ∷ t) c = ap (λ (v : Option ℕ). if d == c then unless_clo
 same_told (Took d n ∷ t) c = same_told t c
 same_told (Bound b ∷ t) c = same_told t c
 same_told (Booked acts full ∷ t) c = same_told t c
-same_told (Began g ∷ t) c = same_told t c
+same_told (Began g ∷ t) c = refl
 
 same_highest : (t : List Entry) (c o : ℕ) → highest_handle t c o ≡ highest_handle (untaken t) c o
 same_highest [] c o = refl
@@ -83,7 +83,7 @@ same_highest (Out d i ∷ t) c o = λ j. if d == c then most_after i o (same_tol
 same_highest (Took d n ∷ t) c o = same_highest t c o
 same_highest (Bound b ∷ t) c o = same_highest t c o
 same_highest (Booked acts full ∷ t) c o = same_highest t c o
-same_highest (Began g ∷ t) c o = same_highest t c o
+same_highest (Began g ∷ t) c o = refl
 
 pub same_free_handle : (t : List Entry) (c o : ℕ) → free_handle t c o ≡ free_handle (untaken t) c o
 unfolding free_handle
@@ -98,7 +98,7 @@ same_attachments (Out d i ∷ t) = ap (λ (n : ℕ). if is_taken i then n + 1 el
 same_attachments (Took d n ∷ t) = same_attachments t
 same_attachments (Bound b ∷ t) = same_attachments t
 same_attachments (Booked acts full ∷ t) = same_attachments t
-same_attachments (Began g ∷ t) = same_attachments t
+same_attachments (Began g ∷ t) = refl
 
 pub same_link : (t : List Entry) (c o h : ℕ) → link t c o h ≡ link (untaken t) c o h
 same_link [] c o h = refl
@@ -108,7 +108,7 @@ same_link (Out d i ∷ t) c o h =
 same_link (Took d n ∷ t) c o h = same_link t c o h
 same_link (Bound b ∷ t) c o h = same_link t c o h
 same_link (Booked acts full ∷ t) c o h = same_link t c o h
-same_link (Began g ∷ t) c o h = same_link t c o h
+same_link (Began g ∷ t) c o h = refl
 
 pub same_link_place : (t : List Entry) (c o p : ℕ) → link_place t c o p ≡ link_place (untaken t) c o p
 same_link_place t c o p = λ j. link_place_by (same_handle t c o p j) (λ h. same_link t c o h j)
@@ -123,7 +123,7 @@ same_last u e b (Out d i ∷ t) =
 same_last u e b (Took d n ∷ t) = same_last u e b t
 same_last u e b (Bound x ∷ t) = same_last u e b t
 same_last u e b (Booked acts full ∷ t) = same_last u e b t
-same_last u e b (Began g ∷ t) = same_last u e b t
+same_last u e b (Began g ∷ t) = refl
 
 same_attached : (t : List Entry) (v : Option Attachment) → if_attached t v ≡ if_attached (untaken t) v
 same_attached t None = refl

@@ -1,4 +1,4 @@
--- What always holds: in every trace of the router, and so of every list of events, and of every script of bytes.
+-- What always holds: in every trace of the router, and so of every list of events, and of every script of bytes; and over runs that end by stops.
 use Rattle.std.specs.Prelude.{ℕ, List}
 use Rattle.route_table.specs.Settings.{Settings}
 use Rattle.book_model.specs.Made.{IsMade}
@@ -6,12 +6,12 @@ use Rattle.router_trace.specs.declared.event.Event.{Event}
 use Rattle.router_trace.specs.Trace.{Trace, Beginning}
 use Rattle.router_trace.specs.Configuration.{beginning}
 use Rattle.router_core.specs.declared.driving.Sent.{Sent}
-use Rattle.router_core.specs.Replies.{handled}
 use Rattle.router_core.specs.Runs.{Run}
 use Rattle.router_core.specs.Moves.{IsTrace}
-use Rattle.core_machine.specs.Moves.{Move, GoesInTurnBy}
+use Rattle.core_machine.specs.Moves.{Move}
 use Rattle.core_player.specs.declared.script.Step.{Step}
 use Rattle.router_play.specs.Script.{Scene, opening, Plays}
+use Rattle.theorems.specs.Lives.{GoesInTurn, InLives}
 
 -- in every trace of the router
 abbrev pub InTraces : (Trace → Type 0) → Type 0
@@ -23,8 +23,13 @@ InRuns P =
     (id : List ℕ) (g : Beginning) (events : List Event) (xs : List Sent) (u : Trace)
     → Run id 0 (beginning g) events xs u → P u
 
+-- in one run, whatever happens
+abbrev pub InOneRun : (Trace → Type 0) → Type 0
+InOneRun P = InTraces P × InRuns P
+
+-- in one run, and over every list of runs, each ended by a stop
 abbrev pub Always : (Trace → Type 0) → Type 0
-Always P = InTraces P × InRuns P
+Always P = InOneRun P × InLives P
 
 -- in the trace of every script of bytes, whatever the peers send
 abbrev pub InScripts : (Trace → Type 0) → Type 0
@@ -41,11 +46,6 @@ InRunsFrom P =
 
 abbrev pub AlwaysFrom : (Beginning → Trace → Type 0) → Type 0
 AlwaysFrom P = InTracesFrom P × InRunsFrom P
-
--- u is t after these moves, one after another, and no event of them is declined: none is refused, and Start comes
--- first, and once
-abbrev pub GoesInTurn : List ℕ → List Move → Trace → Trace → Type 0
-GoesInTurn id = GoesInTurnBy (handled id)
 
 -- in every trace of the router in which no event is declined, and of every list of events
 abbrev pub InTracesInTurn : (Beginning → Trace → Type 0) → Type 0

@@ -46,7 +46,7 @@ bound_since (Out c i ∷ t) = bound_since t
 bound_since (Took c n ∷ t) = bound_since t
 bound_since (Bound b ∷ t) = bound_since t + 1
 bound_since (Booked acts full ∷ t) = bound_since t
-bound_since (Began g ∷ t) = bound_since t
+bound_since (Began g ∷ t) = 0
 
 -- A message is complete, on a link of a connection on which the peer is the sender, by the router's channel and handle: the frame just received,
 -- on the session and the handle of the link, is the last of its delivery; the message is what its frames carry, in order.

@@ -8,7 +8,7 @@ use Rattle.amqp_model.specs.declared.item.Item.{Item}
 use Rattle.amqp_model.specs.declared.item.Item.TheVariants as item
 use Rattle.router_trace.specs.declared.binding.Binding.{Binding}
 use Rattle.router_trace.specs.declared.binding.DeliveryName.{DeliveryName}
-use Rattle.router_trace.specs.Trace.{Trace, Did, Out, Took, Bound, Booked, Began}
+use Rattle.router_trace.specs.Trace.{Trace, Did, Out, Took, Bound, Booked, Began, IsOneRun}
 use Rattle.router_trace.specs.Deliveries.{Delivery, bindings, number_named, delivery, sending, carried, tag_in, tag_of, tagged, is_number}
 use Rattle.theorems.specs.Each.{EachOut, EachBound}
 
@@ -79,7 +79,7 @@ bytes_out (Out c i ∷ t) n = bytes_by (number_named t) i n (sending t c) (bytes
 bytes_out (Took c k ∷ t) n = bytes_out t n
 bytes_out (Bound b ∷ t) n = bytes_out t n
 bytes_out (Booked acts full ∷ t) n = bytes_out t n
-bytes_out (Began g ∷ t) n = bytes_out t n
+bytes_out (Began g ∷ t) n = []
 
 -- It is a beginning of the message that was bound, and after a frame that says that no more are to come it is the whole message.
 pub record IsBeginning (bytes whole : List ℕ) : Type 0 where
@@ -87,7 +87,7 @@ pub record IsBeginning (bytes whole : List ℕ) : Type 0 where
   pub joined : bytes ++ rest ≡ whole
 
 abbrev pub GoesInOrder : Trace → Type 0
-GoesInOrder u = HasSmallNumbers u → (b : Binding) (t later : Trace) → u ≡ later ++ Bound b ∷ t → IsBeginning (bytes_out u (bindings t + 1)) b.payload
+GoesInOrder u = HasSmallNumbers u → (b : Binding) (t later : Trace) → IsOneRun later → u ≡ later ++ Bound b ∷ t → IsBeginning (bytes_out u (bindings t + 1)) b.payload
 
 abbrev pub perf_completes : Perf → Trace → ℕ → Item → ℕ → Type 0
 perf_completes (perf.Transfer x) t c i own =

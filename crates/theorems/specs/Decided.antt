@@ -13,7 +13,7 @@ use Rattle.amqp_session.specs.Ranges.{in_range}
 use Rattle.router_trace.specs.declared.event.ConnectionId.{ConnectionId}
 use Rattle.router_trace.specs.declared.event.Event.TheVariants as event
 use Rattle.router_trace.specs.declared.channel.PeerChannel.TheVariants.{Mapped}
-use Rattle.router_trace.specs.Trace.{Trace, Entry, Did, Out, Step}
+use Rattle.router_trace.specs.Trace.{Trace, Entry, Did, Out, Step, IsOneRun}
 use Rattle.router_trace.specs.Links.{ends_handle}
 use Rattle.router_trace.specs.Deliveries.{Delivery, channels_found, number_named, delivery, named, terminal, decision, failed, closes, last_of, tag_in, carried, sending}
 
@@ -82,12 +82,13 @@ pub data Decides (entry : Entry) (t : Trace) (n : ℕ) (d : Delivery) (outcome :
   link_ended : LinkEnded entry d → d.outcome ≡ None → outcome ≡ failed → Decides entry t n d outcome
   sent_settled : SentSettled entry t n d → outcome ≡ state.Accepted → Decides entry t n d outcome
 
--- an entry of a trace decided a delivery, and the outcome is the one that it gives
+-- an entry of a trace decided a delivery in this run, and the outcome is the one that it gives
 pub record Decided (u : Trace) (n : ℕ) (outcome : DeliveryState) : Type 0 where
   pub later : Trace
   pub entry : Entry
   pub before : Trace
   pub trace : u ≡ later ++ entry ∷ before
+  pub one_run : IsOneRun later
   pub found : Delivery
   pub there : delivery before n ≡ Some found
   pub decides : Decides entry before n found outcome

@@ -12,7 +12,7 @@ use Rattle.amqp_model.specs.declared.item.Item.TheVariants as item
 use Rattle.book_model.specs.declared.act.Act.{Act}
 use Rattle.book_model.specs.declared.act.Act.TheVariants.{Make, Admit, Decide, Forget, Drop}
 use Rattle.book_model.specs.declared.row.Row.{Row as ARow}
-use Rattle.book_model.specs.Book.{BookView, row_at, is_undecided}
+use Rattle.book_model.specs.Book.{BookView, empty_book, row_at, is_undecided}
 use Rattle.journal_store.specs.Acting.{journal_outcome}
 use Rattle.router_trace.specs.declared.binding.DeliveryName.{DeliveryName}
 use Rattle.router_trace.specs.declared.binding.DeliveryName.TheVariants.{Row, Counter}
@@ -86,3 +86,7 @@ EachOutcomeIsKept g u = HasSmallNumbers u → EachOut OutcomeIsKept u
 -- each row is decided at most once
 abbrev pub EachRowIsDecidedOnce : Beginning → Trace → Type 0
 EachRowIsDecidedOnce g u = (n : ℕ) → IsDecidedOnce g.book u n
+
+-- over runs, the first of which was opened on an empty book: each row is decided at most once in all of them
+abbrev pub RowsAreDecidedOnce : Trace → Type 0
+RowsAreDecidedOnce u = (n : ℕ) → IsDecidedOnce empty_book u n

@@ -1,8 +1,12 @@
 -- The theorem: a line for each law.
 pub mod Theorem
--- What its lines are made of.
+-- What its lines are made of, by subject.
+pub mod Messages
+pub mod Durable
+pub mod Alike
 pub mod Always
 pub mod Each
+pub mod Lives
 pub mod Stops
 pub mod Locked
 pub mod Credit

@@ -3,7 +3,7 @@
 use Rattle.std.specs.Prelude.{◌≡◌, ◌≤◌, ◌⊎◌, ◌&&◌, ℕ, ◌+◌, ◌∷◌, ◌++◌, Option, Some, None, is_none}
 use Rattle.router_trace.specs.declared.binding.Binding.{Binding}
 use Rattle.router_trace.specs.declared.binding.Origin.{Origin}
-use Rattle.router_trace.specs.Trace.{Trace, Bound}
+use Rattle.router_trace.specs.Trace.{Trace, Bound, IsOneRun}
 use Rattle.router_trace.specs.Deliveries.{Delivery, has_row, bindings, name_in, delivery}
 
 -- where an outcome is still to be reported: to the producer's delivery, or nowhere
@@ -26,20 +26,21 @@ abbrev pub WhileThere : (Delivery → Type 0) → Option Delivery → Type 0
 WhileThere P None = Unit {0}
 WhileThere P (Some d) = P d
 
--- After a message was bound, whatever happens later, the delivery with its number is of it.
+-- After a message was bound, whatever happens later in the run, the delivery with its number is of it.
 abbrev pub StaysWithConsumer : Type 0
-StaysWithConsumer = (b : Binding) (t later : Trace) → WhileThere (IsOf b) (delivery (later ++ Bound b ∷ t) (bindings t + 1))
+StaysWithConsumer = (b : Binding) (t later : Trace) → IsOneRun later → WhileThere (IsOf b) (delivery (later ++ Bound b ∷ t) (bindings t + 1))
 
--- Once a delivery is gone it never comes back.
+-- Once a delivery is gone it never comes back, in the run.
 abbrev pub NeverComesBack : Type 0
-NeverComesBack = (n : ℕ) (t later : Trace) → n ≤ bindings t → delivery t n ≡ None → delivery (later ++ t) n ≡ None
+NeverComesBack = (n : ℕ) (t later : Trace) → IsOneRun later → n ≤ bindings t → delivery t n ≡ None → delivery (later ++ t) n ≡ None
 
--- Each delivery is of a message that was bound under its number, and has the name that it got then.
+-- Each delivery is of a message that was bound under its number in this run, and has the name that it got then.
 pub record IsOfMessage (u : Trace) (n : ℕ) (d : Delivery) : Type 0 where
   pub later : Trace
   pub binding : Binding
   pub before : Trace
   pub trace : u ≡ later ++ Bound binding ∷ before
+  pub one_run : IsOneRun later
   pub number : bindings before + 1 ≡ n
   pub name : d.name ≡ name_in before binding
   pub is : IsOf binding d

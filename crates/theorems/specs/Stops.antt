@@ -1,15 +1,20 @@
--- What a stop leaves of the journal, at any moment of a call that handles events: a crash, or the end of the program.
-use Rattle.std.specs.Prelude.{◌≡◌, ℕ, List, None}
+-- What a stop leaves of the journal, at any moment of a call that handles events: a crash, or the end of the program; and how the next
+-- router goes on.
+use Rattle.std.specs.Prelude.{◌≡◌, ◌≤◌, ℕ, List, [], ◌∷◌, ◌++◌, take, None}
 use Rattle.disk_core.specs.Disk.{LeavesOnly}
 use Rattle.journal_store.specs.Store.{OpensTo, Stands, disk_of}
 use Rattle.router_trace.specs.declared.event.Event.{Event}
-use Rattle.router_trace.specs.Trace.{Trace}
+use Rattle.router_trace.specs.Trace.{Trace, Beginning}
+use Rattle.router_trace.specs.Configuration.{opened}
 use Rattle.router_reply.specs.Acts.{book_in}
+use Rattle.core_machine.specs.Moves.{Move}
 use Rattle.router_core.specs.declared.driving.Driven.{Driven}
+use Rattle.router_core.specs.declared.driving.Sent.{Sent}
 use Rattle.router_core.specs.declared.router.Core.{Core}
 use Rattle.router_core.specs.Handling.{Fits, id_of, store_of}
 use Rattle.router_core.specs.Leaving.{LeftBy}
 use Rattle.router_core.specs.Runs.{Run}
+use Rattle.theorems.specs.Lives.{Life, Lives, CutOff}
 
 -- A kind of disk, by what the trait `Disk` says of it: what a read gives, what a stop may leave, which moment it is,
 -- and what a stop since some moment might have left.
@@ -46,3 +51,46 @@ TheEndLeavesAll d old events new driven =
     driven.fault ≡ None → JournalStands d old
     → JournalStands d new
     × ((t : Trace) → Fits old t → (u : Trace) × Run (id_of old) 0 t events driven.taken.items u × AllOpenTo d new u)
+
+-- Over runs.
+
+-- a run that goes on: nothing is cut off yet
+abbrev pub IsUnderWay : List ℕ → Life → List Life → Trace → Type 0
+IsUnderWay id life lives t = (life.cut ≡ []) × Lives id (life ∷ lives) t
+
+-- the run that a stop leaves: as it went so far, with more moves, and these events cut off
+abbrev pub stopped : Life → List Move → List Event → Life
+stopped life more cut = record { opening = life.opening; moves = life.moves ++ more; cut = cut }
+
+-- A file that a stop leaves while these events are handled after t opens to the book of the runs before, and of this one: with the moves of
+-- some first events, each handled and its items taken, and cut off there, or within the event that comes next.
+pub record EndsLife (id : List ℕ) (life : Life) (lives : List Life) (t : Trace) (events : List Event) (file : List ℕ) : Type 0 where
+  pub first : List Event
+  pub rest : List Event
+  pub are : events ≡ first ++ rest
+  pub taken : List Sent
+  pub mid : Trace
+  pub run : Run id 0 t first taken mid
+  pub most : ℕ
+  pub at_most_one : most ≤ 1
+  pub more : List Move
+  pub trace : Trace
+  pub cut_off : CutOff (take most rest) mid trace
+  pub lives : Lives id (stopped life more (take most rest) ∷ lives) trace
+  pub opens : OpensTo file (book_in trace)
+
+-- whatever runs were before, and whatever this one did so far
+abbrev pub EndsALife : {D : Type 0} → Stopping D → Core D → List Event → Core D → Type 0
+EndsALife d old events new =
+    (life : Life) (lives : List Life) (t : Trace) → IsUnderWay (id_of old) life lives t → Fits old t → JournalStands d old
+    → LeavesOnly d.moment d.left_since (disk_of (store_of old)) (disk_of (store_of new)) (EndsLife (id_of old) life lives t events)
+
+-- a run that has just begun
+abbrev pub born : Beginning → Life
+born g = record { opening = g; moves = []; cut = [] }
+
+-- A router that was opened on a file goes on from the runs to whose book the file opens.
+abbrev pub GoesOnFrom : {D : Type 0} → Stopping D → List ℕ → Beginning → List ℕ → Core D → Type 0
+GoesOnFrom d id opening file core =
+    (lives : List Life) (u : Trace) → Lives id lives u → OpensTo file (book_in u)
+    → IsUnderWay id (born opening) lives (opened opening u) × Fits core (opened opening u) × JournalStands d core

@@ -1,33 +1,31 @@
 -- The theorem: what the router promises, whatever peers send, and whenever it is stopped. Each law is one line; the
 -- function of its name in src/theorems.rt proves it. A trace is what happened since the opening (docs/trace.md).
--- `Always`: in every trace of the router, so of every list of events. `Each`: over the trace so far.
-use Rattle.std.specs.Prelude.{List}
+-- `Always`: in every trace of the router, and over every list of runs; `InOneRun`: in one. `Each`: over the trace so far.
+use Rattle.std.specs.Prelude.{ℕ, List}
 use Rattle.router_trace.specs.declared.event.Event.{Event}
+use Rattle.router_trace.specs.Trace.{Beginning}
 use Rattle.router_core.specs.declared.driving.Driven.{Driven}
 use Rattle.router_core.specs.declared.router.Core.{Core}
-use Rattle.theorems.specs.Admitted.{RowIsAdmitted, EachRowIsBoundOnce, EachNewRowIsBound}
-use Rattle.theorems.specs.Alone.{AnsweredAlone}
-use Rattle.theorems.specs.Always.{Always, AlwaysFrom, AlwaysInTurn, InScripts, OnMade}
-use Rattle.theorems.specs.Came.{BindsMessage, EachDeliveryCame}
-use Rattle.theorems.specs.Carried.{CarriesWhatWasBound, FramesJoin}
+use Rattle.theorems.specs.Alike
+use Rattle.theorems.specs.Always.{Always, AlwaysFrom, AlwaysInTurn, InOneRun, InScripts, OnMade}
 use Rattle.theorems.specs.Credit.{WithinCredit}
-use Rattle.theorems.specs.Decided.{OutcomesAreGiven, OutcomesAreOfConsumers}
+use Rattle.theorems.specs.Durable
 use Rattle.theorems.specs.Each.{EachOut, EachBound}
-use Rattle.theorems.specs.Keeping.{IsKeptFirst}
-use Rattle.theorems.specs.Kept.{EachOutcomeIsKept, EachRowIsDecidedOnce}
-use Rattle.theorems.specs.Locked.{Kind, UnderTheLock}
-use Rattle.theorems.specs.OneConsumer.{StaysWithConsumer, NeverComesBack, OfMessages}
+use Rattle.theorems.specs.Lives.{InLives, InSmallLives}
+use Rattle.theorems.specs.Locked.{Kind, UnderTheLock, UnderTheLockIfSmall}
+use Rattle.theorems.specs.Messages
 use Rattle.theorems.specs.Order.{KeepsOrder, BeginsWithHeaders}
-use Rattle.theorems.specs.Pieces.{SameHoweverCut}
-use Rattle.theorems.specs.Stops.{Stopping, AnyMomentLeavesAPrefix, TheEndLeavesAll}
-use Rattle.theorems.specs.Takes.{SameWheneverTaken}
-use Rattle.theorems.specs.Told.{ToldAtMostOnce, ToldAnew, TellsAsGiven}
+use Rattle.theorems.specs.Stops.{Stopping, AnyMomentLeavesAPrefix, TheEndLeavesAll, EndsALife, GoesOnFrom}
 use Rattle.theorems.specs.Windows.{WindowKept}
 
 -- Stopped at any moment, the journal opens to the book after some first events, or after the next one too; at the
--- end, if no fault was answered, to the book after all of them.
+-- end, if no fault was answered, to the book after all of them. It is the book of the runs before, and of this one.
 abbrev pub AStopLeavesAPrefix : {D : Type 0} → Stopping D → Core D → List Event → Core D → Driven → Type 0
-AStopLeavesAPrefix d old es new driven = AnyMomentLeavesAPrefix d old es new × TheEndLeavesAll d old es new driven
+AStopLeavesAPrefix d old es new x = AnyMomentLeavesAPrefix d old es new × TheEndLeavesAll d old es new x × EndsALife d old es new
+
+-- A router that is opened on what a stop left goes on from the runs of whose book that is the file.
+abbrev pub ARouterGoesOn : {D : Type 0} → Stopping D → List ℕ → Beginning → List ℕ → Core D → Type 0
+ARouterGoesOn d id opening file core = GoesOnFrom d id opening file core
 
 -- A transfer goes to an attached link, and starts a delivery only where the link has credit left.
 abbrev pub NoDeliveryStartsBeyondCredit : Type 0
@@ -55,11 +53,15 @@ OutcomesAreToldOnce = ToldAtMostOnce × ToldAnew × Always (EachOut TellsAsGiven
 
 -- The outcome of a delivery with a row is in the journal's book before it is told, and no row is decided twice.
 abbrev pub DurableOutcomesAreKeptFirst : Type 0
-DurableOutcomesAreKeptFirst = AlwaysInTurn (OnMade EachOutcomeIsKept) × AlwaysFrom (OnMade EachRowIsDecidedOnce)
+DurableOutcomesAreKeptFirst =
+    AlwaysInTurn (OnMade EachOutcomeIsKept) × AlwaysFrom (OnMade EachRowIsDecidedOnce)
+    × InSmallLives (EachOut OutcomeIsKept) × InLives RowsAreDecidedOnce
 
--- Under the lock, whatever threads do: within credit, outcomes kept first, no row decided twice.
+-- Under the lock, whatever threads do and whatever runs were before: within credit, outcomes kept first, decided once.
 abbrev pub TheLockKeepsThem : {D : Type 0} → Kind D → Type 0
-TheLockKeepsThem d = UnderTheLock d (λ g u. WithinCredit u) × UnderTheLock d EachOutcomeIsKept × UnderTheLock d EachRowIsDecidedOnce
+TheLockKeepsThem d =
+    UnderTheLock d (λ g u. WithinCredit u) WithinCredit × UnderTheLockIfSmall d EachOutcomeIsKept (EachOut OutcomeIsKept)
+    × UnderTheLock d EachRowIsDecidedOnce RowsAreDecidedOnce
 
 -- A durable link is taken only once its terminus is in the book.
 abbrev pub DurableLinksAreKeptFirst : Type 0
@@ -67,12 +69,11 @@ DurableLinksAreKeptFirst = Always (EachOut IsKeptFirst)
 
 -- A durable message is in the book, whole, before it is bound; each row is bound at most once, and each new one is.
 abbrev pub DurableMessagesAreKeptFirst : Type 0
-DurableMessagesAreKeptFirst =
-    Always (EachBound RowIsAdmitted) × Always EachRowIsBoundOnce × AlwaysFrom EachNewRowIsBound
+DurableMessagesAreKeptFirst = Always (EachBound RowIsAdmitted) × Always EachRowIsBoundOnce × AlwaysFrom EachNewRowIsBound
 
 -- On each connection header, open and close come at most once, in order, and all other frames in their turn.
 abbrev pub ConnectionsKeepOrder : Type 0
-ConnectionsKeepOrder = Always KeepsOrder
+ConnectionsKeepOrder = InOneRun KeepsOrder
 
 -- Before each transfer the session's window has room.
 abbrev pub WindowsAreKept : Type 0

@@ -12,7 +12,7 @@ use Rattle.amqp_model.specs.declared.item.Item.TheVariants as item
 use Rattle.amqp_link.specs.declared.part.Delivery.{Delivery as Told}
 use Rattle.book_model.specs.declared.row.RowNumber.{RowNumber}
 use Rattle.router_trace.specs.declared.binding.Origin.{Origin}
-use Rattle.router_trace.specs.Trace.{Trace, Did, Out, Took, Bound, Booked, Began}
+use Rattle.router_trace.specs.Trace.{Trace, Did, Out, Took, Bound, Booked, Began, IsOneRun}
 use Rattle.router_trace.specs.Deliveries.{Delivery, has_row, bindings, delivery, is_meant, origin_id}
 use Rattle.router_trace.specs.DeliveryFrames.{kept_outcome}
 use Rattle.router_trace.specs.Links.{Link, link}
@@ -46,9 +46,9 @@ tellings (Out c i ∷ t) n = tellings t n + (if tells i c (delivery t n) then 1 
 tellings (Took c k ∷ t) n = tellings t n
 tellings (Bound b ∷ t) n = tellings t n
 tellings (Booked acts full ∷ t) n = tellings t n
-tellings (Began g ∷ t) n = tellings t n
+tellings (Began g ∷ t) n = 0
 
--- at most once, whatever happens
+-- at most once in a run, whatever happens
 abbrev pub ToldAtMostOnce : Type 0
 ToldAtMostOnce = (u : Trace) (n : ℕ) → tellings u n ≤ 1
 
@@ -58,7 +58,7 @@ abbrev pub IsUnder : ℕ → ℕ → ℕ → Delivery → Type 0
 IsUnder c own id d = origin_id d.origin c own ≡ Some id
 
 abbrev pub ToldAnew : Type 0
-ToldAnew = (t later : Trace) (c own : ℕ) (sasl : Bool) (x : Disposition) (payload : List ℕ) (n : ℕ) → x.role ≡ Receiver → x.last ≡ None → n ≤ bindings t
+ToldAnew = (t later : Trace) (c own : ℕ) (sasl : Bool) (x : Disposition) (payload : List ℕ) (n : ℕ) → IsOneRun later → x.role ≡ Receiver → x.last ≡ None → n ≤ bindings t
     → WhileThere (λ d. IsUnder c own x.first d → ⊥) (delivery (later ++ Out c (item.Frame sasl own (perf.Disposition x) payload) ∷ t) n)
 
 -- The outcome of a delivery is reported: its producer has not been sent it, and gets it with its own delivery-id, on its link's session. It is

@@ -1,9 +1,11 @@
 //! The laws of the router, in terms of the protocol: `specs/Theorem.antt` states each in one line. The functions do
-//! nothing: their contracts are the laws. Only `a_stop_leaves_a_prefix`, which speaks of a disk, makes a call:
-//! `drive`, of which it is a law.
+//! nothing: their contracts are the laws. Only `a_stop_leaves_a_prefix` and `a_router_goes_on`, which speak of a disk,
+//! make a call: `drive`, and `Core::open`, of which they are laws.
 ghost use Rattle.theorems.specs.Stops.{stopping};
 ghost use Rattle.theorems.specs.Locked.{kind};
-ghost use Rattle.theorems.specs.Theorem.{AStopLeavesAPrefix};
+ghost use Rattle.std.specs.Prelude.{IfOk};
+ghost use Rattle.router_core.specs.Machine.{opening_of};
+ghost use Rattle.theorems.specs.Theorem.{AStopLeavesAPrefix, ARouterGoesOn};
 ghost use Rattle.theorems.specs.Theorem.{NoDeliveryStartsBeyondCredit};
 ghost use Rattle.theorems.specs.Theorem.{ADeliveryHasOneConsumer, FramesCarryWhatWasBound, MessagesAreBoundOnce};
 ghost use Rattle.theorems.specs.Theorem.{OutcomesAreAsGiven, OutcomesAreToldOnce, DurableOutcomesAreKeptFirst};
@@ -14,7 +16,8 @@ ghost use Rattle.theorems.specs.Theorem.{ScriptsKeepOrder, ScriptsKeepWindowsAnd
 ghost use Rattle.theorems.specs.Theorem.{TakesMakeNoDifference, ConnectionsAreAnsweredAlone, PiecesMakeNoDifference};
 
 use disk_core::Disk;
-use router_core::{Core, Driven, drive};
+use gate_journal::OpenFault;
+use router_core::{Config, Core, Driven, drive};
 use router_trace::Event;
 use std::alloc::Global;
 
@@ -31,6 +34,23 @@ pub fn a_stop_leaves_a_prefix<D: Disk>(
         core.old events.items core.new result }
 {
     drive(alloc, core, events)
+}
+
+/// Opens a router as `Core::open` does. If the disk reads as a file that opens to the book of some runs, as what a stop leaves does, the
+/// router goes on from these: its trace is theirs, and a new opening on top. So what holds over every list of runs holds of what it does
+/// next, and of what the stop after it leaves (`a_stop_leaves_a_prefix`).
+pub fn a_router_goes_on<D: Disk>(
+    alloc: Global,
+    disk: D,
+    config: &Config,
+) -> Result<Core<D>, OpenFault>
+    ensures { IfOk result (λ core. ARouterGoesOn (stopping D.seen D.may_leave D.moment D.left_since)
+        config.now.router_id (opening_of config.now core) (D.seen disk) core) }
+{
+    match Core::open(alloc, disk, config) {
+        Ok(core) => Ok(core),
+        Err(fault) => Err(fault),
+    }
 }
 
 /// In every trace of the router each transfer is put out on an attached link, and before each that starts a delivery
@@ -91,7 +111,7 @@ pub fn durable_outcomes_are_kept_first()
 
 /// A router under the lock, whatever its threads do, has a history since its very opening, which is a trace: on no link does it
 /// start a delivery beyond the granted credit, the outcome of a delivery with a row stands in the book before it is told, and no row is
-/// decided twice.
+/// decided twice. The same holds over every list of runs before, if it was opened on the book that they left.
 pub fn the_lock_keeps_them<D: Disk>()
     ensures { TheLockKeepsThem (kind D.seen D.may_leave D.failures) }
 {}

@@ -1,4 +1,5 @@
-use Rattle.theorems.proofs.Stops.{opens_to_book}
+use Rattle.disk_core.specs.DiskLaws.{widened}
+use Rattle.theorems.proofs.Stops.{opens_to_book, ends_life}
 use Rattle.theorems.proofs.theorems.a_stop_leaves_a_prefix.Goals as goal
 
 pub returns : goal.returns
@@ -11,4 +12,6 @@ returns g c = (
         in let stands = c.drive.ensures.stands none s
         in (w.0, w.1, opens_to_book g.D.Disk.seen g.D.Disk.may_leave c.drive.new.core w.0 w.2 stands),
   ),
+  λ life lives t way f s.
+      widened g.D.Disk.moment g.D.Disk.left_since _ _ _ _ (c.drive.ensures.any_moment t f s) (ends_life _ life lives t c.args.events.items way),
 )

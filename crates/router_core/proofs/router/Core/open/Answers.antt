@@ -5,8 +5,8 @@ use Rattle.router_core.proofs.Machines.{made_of}
 use Rattle.router_core.proofs.router.Core.open.Goals as goal
 
 pub returns-clause-fits : goal.returns-clause-fits
-returns-clause-fits g c = record {
-  tables = c.new-3.ensures (record { routing = routing_of c.args.config.now; book = c.in_ok-store.store.kept.book; used = used_of c.in_ok-store.store; batches = count_of c.in_ok-store.store }) c.in-Ok.ensures;
+returns-clause-fits g c below = record {
+  tables = c.new-3.ensures (record { routing = routing_of c.args.config.now; book = c.in_ok-store.store.kept.book; used = used_of c.in_ok-store.store; batches = count_of c.in_ok-store.store }) below c.in-Ok.ensures;
   started = refl;
   journal = record { book = refl; batches = refl; used = refl; kept = c.in_ok-store.ensures.kept };
 }
@@ -14,7 +14,7 @@ returns-clause-fits g c = record {
 pub returns-clause-opened : goal.returns-clause-opened
 returns-clause-opened g c = record {
   fits = returns-clause-fits g c;
-  keeps = (c.in_ok-store.ensures.stands, refl);
+  keeps = λ below. (c.in_ok-store.ensures.stands, refl);
   made = made_of (g.D.Disk.seen c.args.disk) c.in_ok-store.store.kept.book c.in_ok-store.ensures.book;
   works = refl;
   counts = c.none.ensures;

@@ -5,7 +5,7 @@ use Rattle.state_unsettled.proofs.Counted.{counted_none}
 use Rattle.state_unsettled.proofs.incoming.IncomingDeliveries.new.Goals as goal
 
 pub returns : goal.returns
-returns c = λ g. record {
+returns c = λ g below. record {
   ids = c.new.ensures;
   small = λ p o id. subst (IsSmall id) (sym (c.new.ensures p o id)) tt;
   marked = record {

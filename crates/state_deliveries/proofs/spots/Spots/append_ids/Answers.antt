@@ -1,7 +1,7 @@
 use Rattle.std.proofs.Common.{◌≡◌, ◌∙◌, true, false, rules, sym, ap}
 use Rattle.state_deliveries.proofs.Placed.{found_straight, found_wrapped, nowhere_at}
 use Rattle.state_deliveries.specs.Placing.{is_id_there}
-use Rattle.state_deliveries.proofs.place_index.PlaceIndex.append_ids.Goals as goal
+use Rattle.state_deliveries.proofs.spots.Spots.append_ids.Goals as goal
 
 pub returns-then-first-last-clause-found : goal.returns-then-first-last-clause-found
 returns-then-first-last-clause-found c = λ known fit.

@@ -3,7 +3,7 @@ use Rattle.std.specs.BTreeSet.{keys_between}
 use Rattle.std.specs.declared.ops.Bound.TheVariants.{Included}
 use Rattle.state_deliveries.specs.Placing.{key, key_cmp, numbers_of}
 use Rattle.state_deliveries.proofs.Placed.{found_between}
-use Rattle.state_deliveries.proofs.place_index.PlaceIndex.append.Goals as goal
+use Rattle.state_deliveries.proofs.spots.Spots.append.Goals as goal
 
 pub returns-clause-found : goal.returns-clause-found
 returns-clause-found c =

@@ -1,5 +1,5 @@
 use Rattle.state_deliveries.proofs.Placed.{fits_moved}
-use Rattle.state_deliveries.proofs.place_index.PlaceIndex.shift.Goals as goal
+use Rattle.state_deliveries.proofs.spots.Spots.shift.Goals as goal
 
 pub returns : goal.returns
 returns c = λ known is fit.

@@ -3,8 +3,8 @@ ghost use Rattle.std.specs.Prelude.{◌≡◌, ◌==◌, ◌≤◌, ◌++◌, �
 ghost use Rattle.std.specs.BTreeMap.{is_at};
 ghost use Rattle.std.specs.BTreeSet.{contains};
 ghost use Rattle.amqp_session.specs.Ranges.{has};
-ghost use Rattle.state_deliveries.specs.declared.place_index.SessionPlace.{SessionPlace as ThePlace};
-ghost use Rattle.state_deliveries.specs.Placing.{Key as TheKey, key_cmp, numbers_of, stands, is_place, IsSmall, IsSmallKey, PlaceIndexFit, IsWithin, is_id_there};
+ghost use Rattle.state_deliveries.specs.declared.spots.Spot.{Spot as TheSpot};
+ghost use Rattle.state_deliveries.specs.Placing.{Key as TheKey, key_cmp, numbers_of, stands, is_spot, IsSmall, IsSmallKey, SpotsFit, IsWithin, is_id_there};
 
 use amqp_session::Serial;
 use std::alloc::{AllocError, Global};
@@ -13,7 +13,7 @@ use std::collections::btree_set::Range;
 
 /// A place on a session: a handle, or a delivery-id.
 #[derive(Clone, Copy, PartialEq, Eq)]
-pub(crate) struct SessionPlace {
+pub(crate) struct Spot {
     /// The connection.
     pub(crate) conn: u64,
     /// The router's channel of the session.
@@ -28,16 +28,16 @@ type Key = (u64, u16, u32, u64);
 /// Delivery numbers by place, each number at one place at most. The numbers of a range of handles or ids of a session are adjacent, and are
 /// found without a look at anything else.
 #[derive(Drop)]
-pub(crate) struct PlaceIndex {
+pub(crate) struct Spots {
     keys: BTreeSet<Key>,
 }
 
-impl PlaceIndex {
+impl Spots {
     /// An empty table.
-    pub(crate) fn new(alloc: Global) -> PlaceIndex
-        ensures { PlaceIndexFit result (λ n. None) }
+    pub(crate) fn new(alloc: Global) -> Spots
+        ensures { SpotsFit result (λ n. None) }
     {
-        PlaceIndex {
+        Spots {
             keys: BTreeSet::new(alloc),
         }
     }
@@ -46,11 +46,11 @@ impl PlaceIndex {
     pub(crate) fn shift(
         &mut self,
         number: u64,
-        before: Option<SessionPlace>,
-        after: Option<SessionPlace>,
+        before: Option<Spot>,
+        after: Option<Spot>,
     ) -> Result<(), AllocError>
-        ensures { OnOk result ((known : ℕ → Option ThePlace) → known number ≡ before → PlaceIndexFit self.old known
-            → PlaceIndexFit self.new (λ n. if number == n then after else known n)) }
+        ensures { OnOk result ((known : ℕ → Option TheSpot) → known number ≡ before → SpotsFit self.old known
+            → SpotsFit self.new (λ n. if number == n then after else known n)) }
     {
         if before == after {
             return Ok(());
@@ -61,21 +61,21 @@ impl PlaceIndex {
     }
 
     /// Removes a number from a place, if there is one.
-    pub(crate) fn drop_from(&mut self, number: u64, place: Option<SessionPlace>)
-        ensures { (p : ThePlace) (n : ℕ) → stands self.new p n ≡ (if is_place place p then (if number == n then false else stands self.old p n) else stands self.old p n) }
+    pub(crate) fn drop_from(&mut self, number: u64, spot: Option<Spot>)
+        ensures { (p : TheSpot) (n : ℕ) → stands self.new p n ≡ (if is_spot spot p then (if number == n then false else stands self.old p n) else stands self.old p n) }
     {
-        if let Some(place) = place {
-            take_out(&mut self.keys, (place.conn, place.own, place.at, number));
+        if let Some(spot) = spot {
+            take_out(&mut self.keys, (spot.conn, spot.own, spot.at, number));
         }
     }
 
     /// Adds a number to a place, if there is one.
-    pub(crate) fn add_to(&mut self, number: u64, place: Option<SessionPlace>) -> Result<(), AllocError>
-        ensures stands { OnOk result ((p : ThePlace) (n : ℕ) → stands self.new p n ≡ (if is_place place p then (if number == n then true else stands self.old p n) else stands self.old p n)) }
-        ensures small { OnOk result ((p : ThePlace) (n : ℕ) → (stands self.old p n ≡ true → IsSmall p n) → stands self.new p n ≡ true → IsSmall p n) }
+    pub(crate) fn add_to(&mut self, number: u64, spot: Option<Spot>) -> Result<(), AllocError>
+        ensures stands { OnOk result ((p : TheSpot) (n : ℕ) → stands self.new p n ≡ (if is_spot spot p then (if number == n then true else stands self.old p n) else stands self.old p n)) }
+        ensures small { OnOk result ((p : TheSpot) (n : ℕ) → (stands self.old p n ≡ true → IsSmall p n) → stands self.new p n ≡ true → IsSmall p n) }
     {
-        if let Some(place) = place {
-            put_in(&mut self.keys, (place.conn, place.own, place.at, number))?;
+        if let Some(spot) = spot {
+            put_in(&mut self.keys, (spot.conn, spot.own, spot.at, number))?;
         }
         Ok(())
     }
@@ -90,7 +90,7 @@ impl PlaceIndex {
         numbers: &mut Vec<u64>,
     ) -> Result<(), AllocError>
         ensures more { OnOk result ((n : ℕ) → has n numbers.old.items ≡ true → has n numbers.new.items ≡ true) }
-        ensures found { OnOk result ((known : ℕ → Option ThePlace) → PlaceIndexFit self.now known → (n : ℕ) → is_id_there conn own first last (known n) ≡ true → has n numbers.new.items ≡ true) }
+        ensures found { OnOk result ((known : ℕ → Option TheSpot) → SpotsFit self.now known → (n : ℕ) → is_id_there conn own first last (known n) ≡ true → has n numbers.new.items ≡ true) }
     {
         if self.keys.is_empty() {
             return Ok(());
@@ -118,15 +118,15 @@ impl PlaceIndex {
     ) -> Result<(), AllocError>
         requires { first ≤ last }
         ensures more { OnOk result ((n : ℕ) → has n numbers.old.items ≡ true → has n numbers.new.items ≡ true) }
-        ensures found { OnOk result ((known : ℕ → Option ThePlace) → PlaceIndexFit self.now known → (p : ThePlace) (n : ℕ) → known n ≡ Some p
+        ensures found { OnOk result ((known : ℕ → Option TheSpot) → SpotsFit self.now known → (p : TheSpot) (n : ℕ) → known n ≡ Some p
             → p.conn ≡ conn → p.own ≡ own → first ≤ p.at → p.at ≤ last → has n numbers.new.items ≡ true) }
     {
-        let low = SessionPlace {
+        let low = Spot {
             conn,
             own,
             at: first,
         };
-        let high = SessionPlace {
+        let high = Spot {
             conn,
             own,
             at: last,
@@ -136,12 +136,12 @@ impl PlaceIndex {
     }
 
     /// Appends the numbers at the places from one to another.
-    fn append(&self, low: SessionPlace, high: SessionPlace, numbers: &mut Vec<u64>) -> Result<(), AllocError>
+    fn append(&self, low: Spot, high: Spot, numbers: &mut Vec<u64>) -> Result<(), AllocError>
         requires conn { low.conn ≤ high.conn }
         requires own { low.own ≤ high.own }
         requires at { low.at ≤ high.at }
         ensures more { OnOk result ((n : ℕ) → has n numbers.old.items ≡ true → has n numbers.new.items ≡ true) }
-        ensures found { OnOk result ((known : ℕ → Option ThePlace) → PlaceIndexFit self.now known → (p : ThePlace) (n : ℕ) → known n ≡ Some p
+        ensures found { OnOk result ((known : ℕ → Option TheSpot) → SpotsFit self.now known → (p : TheSpot) (n : ℕ) → known n ≡ Some p
             → IsWithin low high p → has n numbers.new.items ≡ true) }
     {
         let from = (low.conn, low.own, low.at, 0);

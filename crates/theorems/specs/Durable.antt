@@ -1,0 +1,4 @@
+-- What laws say of durable links, and of messages with a row in the book.
+pub use Rattle.theorems.specs.Keeping.{IsKeptFirst}
+pub use Rattle.theorems.specs.Admitted.{RowIsAdmitted, EachRowIsBoundOnce, EachNewRowIsBound}
+pub use Rattle.theorems.specs.Kept.{OutcomeIsKept, EachOutcomeIsKept, EachRowIsDecidedOnce, RowsAreDecidedOnce}
