@@ -15,7 +15,7 @@ use Rattle.core_machine.specs.Counting.{uncounted, with_event, with_batch}
 use Rattle.core_machine.specs.Meaning.{Meaning, BookAt, IsBatchOf}
 use Rattle.core_machine.specs.Moves.{Move, handles, takes, GoesInTurnBy, taking, items_of, waiting_of, took_one}
 use Rattle.core_machine.specs.Turns.{declines}
-use Rattle.serve_lock.specs.History.{tally, IsCutOff, HasHistoryOn, HasHistory}
+use Rattle.core_machine.specs.History.{tally, IsCutOff, HasHistoryOn, HasHistory}
 use Rattle.core_machine.specs.Opened.{IsOpened}
 
 -- the counts of moves, then of more moves
