@@ -8,9 +8,9 @@ use Rattle.core_machine.specs.declared.fault.CoreFault.{CoreFault}
 use Rattle.core_machine.specs.declared.fault.CoreFault.TheVariants as router
 use Rattle.router_play.specs.Script.{PlaysAll, no_book}
 use Rattle.router_play.specs.Ending.{TellsOf}
-use Rattle.router_play.specs.declared.line.Line.{Line}
+use Rattle.core_player.specs.declared.line.Line.{Line}
 use Rattle.router_play.specs.declared.script.Report.{Report}
-use Rattle.router_play.specs.declared.script.Step.{Step}
+use Rattle.core_player.specs.declared.script.Step.{Step}
 use Rattle.amqr_commands.specs.Running.{PlaysSteps, Writes, sets_fuse, end_by, end_of}
 
 -- by whether memory was refused, and the fault of the router

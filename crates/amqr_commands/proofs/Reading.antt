@@ -6,7 +6,7 @@ use Rattle.std.proofs.lemmas.List.Sums.{count_by-le-length}
 use Rattle.amqr_commands.specs.Words.{Text, cut_at}
 use Rattle.amqr_commands.specs.Lines.{Saying, nothing, step, wrong, saying_of}
 use Rattle.amqr_commands.specs.Script.{AllSay, steps_of, steps_in, IsFirstWrong}
-use Rattle.router_play.specs.declared.script.Step.{Step}
+use Rattle.core_player.specs.declared.script.Step.{Step}
 
 -- this many of these lines were read; they say these steps, and these lines are left
 abbrev pub ReadSoFar : List Text → List Text → ℕ → List Step → Type 0

@@ -3,8 +3,8 @@ use Rattle.std.specs.Prelude.{◌≡◌, ℕ, ◌==◌, ◌||◌, if◌then◌el
 use Rattle.std.specs.List.{list_all}
 use Rattle.std.specs.Str.{bytes_eq}
 use Rattle.amqr_commands.specs.Words.{Text, cut_at, number_of, bytes_of}
-use Rattle.router_play.specs.declared.script.Step.{Step}
-use Rattle.router_play.specs.declared.script.Step.TheVariants.{Up, In, Down, Tick, Fuse}
+use Rattle.core_player.specs.declared.script.Step.{Step}
+use Rattle.core_player.specs.declared.script.Step.TheVariants.{Up, In, Down, Tick, Fuse}
 use Rattle.router_trace.specs.declared.event.PeerRole.TheVariants.{Normal, RouteContainer}
 use Rattle.amqr_commands.specs.declared.script.line.LineFault.{LineFault}
 use Rattle.amqr_commands.specs.declared.script.line.LineFault.TheVariants.{Wrong, Memory}

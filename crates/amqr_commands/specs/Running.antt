@@ -9,13 +9,13 @@ use Rattle.amqr_files.specs.declared.status.Refusal.TheVariants as refusal
 use Rattle.route_table.specs.Settings.{Settings}
 use Rattle.core_machine.specs.declared.fault.CoreFault.{CoreFault}
 use Rattle.core_machine.specs.declared.fault.CoreFault.TheVariants as router
-use Rattle.router_play.specs.Printing.{line_text}
+use Rattle.core_player.specs.Printing.{line_text}
 use Rattle.router_play.specs.Script.{PlaysAll, no_book}
-use Rattle.router_play.specs.declared.line.Line.{Line}
-use Rattle.router_play.specs.declared.line.Line.TheVariants as line
+use Rattle.core_player.specs.declared.line.Line.{Line}
+use Rattle.core_player.specs.declared.line.Line.TheVariants as line
 use Rattle.router_play.specs.declared.script.Report.{Report}
-use Rattle.router_play.specs.declared.script.Step.{Step}
-use Rattle.router_play.specs.declared.script.Step.TheVariants as step
+use Rattle.core_player.specs.declared.script.Step.{Step}
+use Rattle.core_player.specs.declared.script.Step.TheVariants as step
 use Rattle.amqr_commands.specs.Script.{HasSteps, IsFaulty}
 use Rattle.amqr_commands.specs.declared.script.ScriptFault.TheVariants as fault
 

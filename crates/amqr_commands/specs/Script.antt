@@ -4,7 +4,7 @@ use Rattle.std.specs.List.{count_by}
 use Rattle.std.specs.Str.{IsUtf8, IsValidUpTo}
 use Rattle.amqr_commands.specs.Words.{Text, cut_at}
 use Rattle.amqr_commands.specs.Lines.{Saying, nothing, step, wrong, saying_of}
-use Rattle.router_play.specs.declared.script.Step.{Step}
+use Rattle.core_player.specs.declared.script.Step.{Step}
 use Rattle.amqr_commands.specs.declared.script.ScriptFault.{ScriptFault}
 use Rattle.amqr_commands.specs.declared.script.ScriptFault.TheVariants.{Line, Memory}
 

@@ -1,5 +1,6 @@
 pub mod Counting
 pub mod Faults
+pub mod History
 pub mod Meaning
 pub mod Moves
 pub mod Opened

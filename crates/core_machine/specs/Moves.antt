@@ -3,7 +3,8 @@ use Rattle.std.specs.Prelude.{◌≡◌, ℕ, false, List, [], ◌∷◌, take, 
 use Rattle.amqp_model.specs.declared.item.Item.{Item}
 use Rattle.router_trace.specs.declared.event.ConnectionId.{ConnectionId}
 use Rattle.router_trace.specs.Trace.{Trace, Took, Step}
-use Rattle.router_trace.specs.Connection.{Connection, conn}
+use Rattle.router_trace.specs.Connection.{Connection, conn, is_ready}
+use Rattle.state_collections.specs.Among.{IsLeast}
 use Rattle.core_machine.specs.Turns.{declines}
 
 -- the items waiting in an outbox
@@ -26,6 +27,11 @@ items_of x t = take x.most (waiting_of (conn t x.conn.0))
 
 abbrev pub took_one : Taking → Trace → Trace
 took_one x t = Took x.conn.0 (length (items_of x t)) ∷ t
+
+-- the next take: 64 items of the lowest ready connection
+pub record IsNext (t : Trace) (x : Taking) : Type 0 where
+  pub most : x.most ≡ 64
+  pub lowest : IsLeast (λ c. is_ready (conn t c)) (Some x.conn.0)
 
 -- the router handles an event, or items are taken from an outbox
 pub data Move : Type 0 where

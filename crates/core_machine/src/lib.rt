@@ -9,5 +9,5 @@ mod machine;
 pub use answers::{Batch, Done};
 pub use counts::Counts;
 pub use fault::CoreFault;
-pub use machine::{Machine, take};
+pub use machine::{Fused, Machine, take};
 pub use state_connections::Taken;

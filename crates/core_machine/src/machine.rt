@@ -5,7 +5,7 @@ ghost use Rattle.router_trace.specs.Trace.{Trace, Took, step_of};
 ghost use Rattle.router_trace.specs.Connection.{conn as known, is_ready, is_live};
 ghost use Rattle.core_machine.specs.Counting.{with_event, with_batch};
 ghost use Rattle.core_machine.specs.Meaning.{Meaning, BookAt, IsBatchOf, IsTakenOf, IsLeast};
-ghost use Rattle.core_machine.specs.Turns.{declines};
+ghost use Rattle.core_machine.specs.Turns.{declines, StartsFirst};
 ghost use Rattle.core_machine.specs.declared.fault.CoreFault.TheVariants.{Disk as DiskFailed, Memory, Failed, NoConnection};
 
 use crate::answers::{Batch, Done};
@@ -112,6 +112,22 @@ pub trait Machine: Drop {
     /// The number of the last batch in its journal; 0 where there is none.
     fn batch(&self) -> u64
         ensures { result ≡ meaning.batches self.now };
+
+    /// Once an event is handled, the machine is started: Start comes first.
+    ghost started: { StartsFirst meaning.next };
+}
+
+/// A machine whose disk has a fuse, with which a play makes it fail.
+pub trait Fused: Machine {
+    /// After so many calls of its disk more every call fails; a fuse that was set before is replaced. Nothing else changes.
+    fn fuse(&mut self, calls: u64)
+        ensures fits { (t : Trace) → Self.meaning.fits self.old t → Self.meaning.fits self.new t }
+        ensures works { Self.meaning.is_failed self.new ≡ Self.meaning.is_failed self.old }
+        ensures named { Self.meaning.id self.new ≡ Self.meaning.id self.old }
+        ensures batches { Self.meaning.batches self.new ≡ Self.meaning.batches self.old }
+        ensures counts { Self.meaning.counts self.new ≡ Self.meaning.counts self.old }
+        ensures failures { Self.meaning.failures self.new ≡ Self.meaning.failures self.old }
+        ensures keeps { (b : BookView) → Self.meaning.keeps self.old b → Self.meaning.keeps self.new b };
 }
 
 /// Takes up to `most` items from the outbox of a connection of a machine, in order. It answers `NoConnection` exactly if the connection is unknown,

@@ -8,8 +8,8 @@ use Rattle.router_trace.specs.Trace.{Entry}
 use Rattle.router_trace.specs.Connection.{Connection, conn as known, is_ready}
 use Rattle.state_connections.specs.Fits.{IsLeast}
 use Rattle.router_core.specs.Handling.{Fits, is_failed}
-use Rattle.router_core.specs.Runs.{IsNext, InTurn, took_all, sent, as_sent, Steps, Run, Waits}
-use Rattle.core_machine.specs.Moves.{Taking, took_one, items_of}
+use Rattle.router_core.specs.Runs.{InTurn, took_all, sent, as_sent, Steps, Run, Waits}
+use Rattle.core_machine.specs.Moves.{IsNext, Taking, took_one, items_of}
 
 took_more : (xs : List Taking) (x : Taking) (t : List Entry) → took_all (xs ++ x ∷ []) t ≡ took_one x (took_all xs t)
 took_more [] x t = refl

@@ -6,8 +6,7 @@ use Rattle.router_trace.specs.declared.event.ConnectionId.{ConnectionId}
 use Rattle.router_core.specs.declared.driving.Sent.{Sent}
 use Rattle.router_trace.specs.Trace.{Trace, step_of}
 use Rattle.router_trace.specs.Connection.{conn, is_ready}
-use Rattle.state_connections.specs.Fits.{IsLeast}
-use Rattle.core_machine.specs.Moves.{Taking, items_of, took_one}
+use Rattle.core_machine.specs.Moves.{IsNext, Taking, items_of, took_one}
 use Rattle.core_machine.specs.Turns.{declines}
 use Rattle.router_core.specs.Replies.{Replies}
 
@@ -22,11 +21,6 @@ as_sent place c i = record { event = place; conn = c; item = i }
 abbrev pub sent : ℕ → List Taking → Trace → List Sent
 sent place [] t = []
 sent place (x ∷ xs) t = map (as_sent place x.conn) (items_of x t) ++ sent place xs (took_one x t)
-
--- the next take: 64 items of the lowest ready connection
-pub record IsNext (t : Trace) (x : Taking) : Type 0 where
-  pub most : x.most ≡ 64
-  pub lowest : IsLeast (λ c. is_ready (conn t c)) (Some x.conn.0)
 
 -- takes, each of them the next in this sense
 abbrev pub InTurn : List Taking → Trace → Type 0

@@ -1,10 +1,11 @@
 //! The core as a machine: what those who drive it through the trait may use.
 ghost use Rattle.std.specs.Prelude.{◌≡◌, ◌⊎◌, ◌+◌, ◌<◌, ◌≤◌, ◌∷◌, ◌&&◌, ◌||◌, not, nat_lt, length, true, false, Err, None, option_map, is_some};
 ghost use Rattle.router_core.specs.Machine.{core_meaning};
+ghost use Rattle.router_core.proofs.Books.{started_handled};
 
 use crate::router::Core;
-use core_machine::{CoreFault, Counts, Done, Machine, Taken};
-use disk_core::Disk;
+use core_machine::{CoreFault, Counts, Done, Fused, Machine, Taken};
+use disk_core::{Crash, Disk};
 use router_trace::{ConnectionId, Event};
 
 impl<D: Disk> Machine for Core<D> {
@@ -44,5 +45,13 @@ impl<D: Disk> Machine for Core<D> {
 
     fn batch(&self) -> u64 {
         Core::batch(self)
+    }
+
+    ghost started = { started_handled };
+}
+
+impl<D: Crash> Fused for Core<D> {
+    fn fuse(&mut self, calls: u64) {
+        Core::fuse(self, calls);
     }
 }

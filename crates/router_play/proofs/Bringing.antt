@@ -7,29 +7,18 @@ use Rattle.amqp_frames.proofs.Fronts.{wrong_stays}
 use Rattle.amqp_frames.proofs.Streams.{HasCut, has_cut, cuts_append, leads_stays}
 use Rattle.router_trace.specs.declared.event.ConnectionId.{ConnectionId}
 use Rattle.core_door.specs.declared.door.Door.{Door as DoorState}
-use Rattle.router_play.specs.declared.socket.Socket.{Socket}
+use Rattle.core_player.specs.declared.socket.Socket.{Socket}
 use Rattle.router_trace.specs.Refusing.{reaches}
 use Rattle.router_play.specs.Script.{Scene, say, refused, with_socket, enter_all, Reads, BytesCome, stream_of}
+use Rattle.router_core.specs.Replies.{handled}
 use Rattle.router_core.specs.Moves.{ins}
 use Rattle.router_play.specs.Carrying.{door_says, passed, Begins}
+use Rattle.core_player.proofs.Keeping.{Keeps, enter_all_keeps}
+use Rattle.core_player.proofs.Streams.{wrong_more, further}
 use Rattle.router_play.proofs.Levels.{same}
 use Rattle.router_play.proofs.Entering.{Quiet, Stands, Entered, quiet_entered, entered_as}
-use Rattle.router_play.proofs.Passing.{Keeps, enter_all_own, enter_all_keeps, enter_all_last, enter_all_kept}
+use Rattle.router_play.proofs.Passing.{enter_all_own, enter_all_last, enter_all_kept}
 use Rattle.router_play.proofs.Stages.{Opened, refused_quiet}
-
--- Bytes are received on the connection.
-
-pub wrong_more : (stream : List ℕ) (items : List Item) (rest bytes : List ℕ) → Cuts true stream items rest → Cuts true (stream ++ bytes) items (rest ++ bytes)
-wrong_more stream items rest bytes cut = (cut.0, cut.1, cut.2, leads_stays stream cut.0 rest bytes cut.3, wrong_stays rest bytes cut.1 cut.4)
-
--- a stream with more bytes has more items, or its last item ended it
-pub further : (ended : Bool) (stream : List ℕ) (items : List Item) (rest bytes : List ℕ) → Cuts ended stream items rest
-    → (e : Bool) × (more : List Item) × (r : List ℕ) × Cuts e (stream ++ bytes) (items ++ more) r
-further false stream items rest bytes cut =
-    let k : HasCut (rest ++ bytes) = has_cut (rest ++ bytes)
-    in (k.0, k.1, k.2, cuts_append k.0 stream items rest bytes k.1 k.2 cut.0 k.3)
-further true stream items rest bytes cut =
-    (true, [], rest ++ bytes, subst (λ (xs : List Item). Cuts true (stream ++ bytes) xs (rest ++ bytes)) (sym (append-nil items)) (wrong_more stream items rest bytes cut))
 
 -- further items make no difference to a closed connection
 pub closed_entered : (s : Scene) (c : ℕ) (D P E Q : List Item → List Item) (more : List Item → List Item) → ((m : List Item) → E m ≡ D (more m)) → ((m : List Item) → Q m ≡ P (more m))
@@ -103,7 +92,7 @@ opened_read start d s stream bytes k e js r h is works cut =
       items = h.items ++ js;
       rest = r;
       cut = cuts_append e stream h.items h.rest bytes js r before.0 (subst (λ (bs : List ℕ). Cuts e (bs ++ bytes) js r) (kept.1 goes) cut);
-      reader = enter_all_keeps r e d js read (rw here (refl, λ _. refl));
+      reader = enter_all_keeps handled r e d js read (rw here (refl, λ _. refl));
       entered = entered_as (enter_all d js read) d.0 (λ m. D (js ++ m)) (λ m. P (js ++ m)) (λ m. door_says start ((h.items ++ js) ++ m)) (λ m. passed start ((h.items ++ js) ++ m))
           (λ m. ap (λ xs. door_says start xs) (append_assoc h.items js m)) (λ m. ap (λ xs. passed start xs) (append_assoc h.items js m))
           (enter_all_own d js read D P (record { real = h.entered.real; said = h.entered.said; balance = h.entered.balance; stands = rw here stand }));

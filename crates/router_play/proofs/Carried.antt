@@ -6,11 +6,11 @@ use Rattle.amqp_frames.proofs.Steps.{front_nothing}
 use Rattle.router_trace.specs.declared.event.Event.TheVariants as event
 use Rattle.route_table.specs.Settings.{Settings}
 use Rattle.core_door.specs.declared.door.Door.{Door as DoorState}
-use Rattle.router_play.specs.declared.line.Line.{Line}
-use Rattle.router_play.specs.declared.script.Step.{Step}
-use Rattle.router_play.specs.declared.script.Step.TheVariants as step
+use Rattle.core_player.specs.declared.line.Line.{Line}
+use Rattle.core_player.specs.declared.script.Step.{Step}
+use Rattle.core_player.specs.declared.script.Step.TheVariants as step
 use Rattle.router_trace.specs.Refusing.{rises}
-use Rattle.router_play.specs.Listening.{door_for}
+use Rattle.core_player.specs.Listening.{door_for}
 use Rattle.router_reply.specs.Acts.{journaled}
 use Rattle.router_play.specs.Script.{Scene, opening, book_line, say, refused, hand, made, lose, Takes, Flushes, Plays, PlaysAll}
 use Rattle.router_play.specs.Carrying.{after_up, role_in, door_in, bytes_of, bytes_in, door_says, passed, Carries, RunsCarry}

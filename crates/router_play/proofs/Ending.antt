@@ -4,7 +4,7 @@ use Rattle.std.specs.Prelude.{Option, Some, None}
 use Rattle.amqp_model.specs.declared.item.Item.{Item}
 use Rattle.amqp_frames.specs.Cuts.{Cuts}
 use Rattle.core_door.specs.declared.door.Door.{Door as DoorState}
-use Rattle.router_play.specs.declared.socket.Socket.{Socket}
+use Rattle.core_player.specs.declared.socket.Socket.{Socket}
 use Rattle.router_trace.specs.Trace.{Entry}
 use Rattle.router_trace.specs.Connection.{conn, is_live, is_ready}
 use Rattle.router_play.specs.Script.{Scene}

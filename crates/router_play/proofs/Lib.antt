@@ -1,7 +1,3 @@
-mod Looks
-mod Asks
-mod Bytes
-mod Feeding
 pub mod Scenes
 mod NewJournal
 pub mod Beginning
@@ -15,5 +11,4 @@ mod Making
 pub mod Bringing
 mod Losing
 pub mod Carried
-mod Handing
 mod Telling

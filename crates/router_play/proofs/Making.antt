@@ -7,9 +7,9 @@ use Rattle.amqp_frames.proofs.Steps.{front_nothing}
 use Rattle.router_trace.specs.declared.event.ConnectionId.{ConnectionId}
 use Rattle.router_trace.specs.declared.event.PeerRole.{PeerRole}
 use Rattle.core_door.specs.declared.door.Door.{Door as DoorState}
-use Rattle.router_play.specs.declared.socket.Socket.{Socket}
+use Rattle.core_player.specs.declared.socket.Socket.{Socket}
 use Rattle.router_trace.specs.Refusing.{rises, reaches}
-use Rattle.router_play.specs.Listening.{door_for}
+use Rattle.core_player.specs.Listening.{door_for}
 use Rattle.router_play.specs.Script.{Scene, made}
 use Rattle.router_core.specs.Moves.{ins}
 use Rattle.router_play.specs.Carrying.{door_says, passed, Begins}
@@ -17,7 +17,7 @@ use Rattle.state_connections.proofs.Lists.{by_test}
 use Rattle.state_connections.proofs.Turns.{reach_up}
 use Rattle.router_play.proofs.Levels.{same}
 use Rattle.router_play.proofs.Entering.{Stands, Entered}
-use Rattle.router_play.proofs.Passing.{Keeps}
+use Rattle.core_player.proofs.Keeping.{Keeps}
 use Rattle.router_play.proofs.Stages.{Lost, Opened, Unmade}
 
 -- Another connection is made.

@@ -8,8 +8,8 @@ use Rattle.router_trace.specs.declared.event.ConnectionId.{ConnectionId}
 use Rattle.router_trace.specs.declared.event.Peer.{Peer}
 use Rattle.router_trace.specs.declared.event.Event.TheVariants as event
 use Rattle.core_door.specs.declared.door.Door.{Door as DoorState}
-use Rattle.router_play.specs.declared.line.Line.TheVariants as line
-use Rattle.router_play.specs.declared.socket.Socket.{Socket}
+use Rattle.core_player.specs.declared.line.Line.TheVariants as line
+use Rattle.core_player.specs.declared.socket.Socket.{Socket}
 use Rattle.router_trace.specs.Trace.{Entry, Took, step_of}
 use Rattle.router_trace.specs.Connection.{Connection, conn, took, is_live}
 use Rattle.router_core.specs.Replies.{handled}
@@ -194,37 +194,6 @@ pub enter_all_own : (d : ConnectionId) (is : List Item) (s : Scene) (D P : List 
 enter_all_own d [] s D P h = h
 enter_all_own d (i ∷ is) s D P h =
     enter_all_own d is (enter d i s) (λ m. D (i ∷ m)) (λ m. P (i ∷ m)) (enter_by_own d i s h.real h.said D P h.balance (s.sockets d.0) refl h.stands)
-
--- what a socket keeps of its stream, until it ends
-
-abbrev pub Keeps : List ℕ → Bool → Option Socket → Type 0
-Keeps rest ended None = Unit {0}
-Keeps rest ended (Some k) = (k.reader.failed ≡ ended) × (ended ≡ false → k.reader.rest ≡ rest)
-
-judged_keeps : (rest : List ℕ) (ended : Bool) (d : ConnectionId) (i : Item) (k : Socket) (dd : DoorState) (s : Scene) → Keeps rest ended (Some k) → (v : Verdict)
-    → Keeps rest ended ((judged_by d i k dd s v).sockets d.0)
-judged_keeps rest ended d i k dd s h (says items) = let here : (d.0 == d.0) ≡ true = same d.0 in rw here h
-judged_keeps rest ended d i k dd s h (passes user) =
-    let p : Peer = record { user = user; role = dd.role }
-    in let inside : Scene = with_socket d (Some (record { door = None; reader = k.reader })) s
-    in let here : (d.0 == d.0) ≡ true = same d.0
-    in subst (λ (o : Option Socket). Keeps rest ended o)
-    (sym (hand_sockets (event.Item d i) (hand (event.Up d p) inside) d.0 ∙ hand_sockets (event.Up d p) inside d.0))
-    (rw here h)
-judged_keeps rest ended d i k dd s h (ends items) = let here : (d.0 == d.0) ≡ true = same d.0 in rw here tt
-
-enter_keeps : (rest : List ℕ) (ended : Bool) (d : ConnectionId) (i : Item) (s : Scene) (o : Option Socket) → s.sockets d.0 ≡ o → Keeps rest ended o
-    → Keeps rest ended ((enter_by d i s o).sockets d.0)
-enter_keeps rest ended d i s None is h = subst (λ (o : Option Socket). Keeps rest ended o) (sym is) h
-enter_keeps rest ended d i s (Some k) is h = by_door k.door
-  where
-    by_door : (o : Option DoorState) → Keeps rest ended ((enter_at d i k s o).sockets d.0)
-    by_door None = subst (λ (o : Option Socket). Keeps rest ended o) (sym (hand_sockets (event.Item d i) s d.0 ∙ is)) h
-    by_door (Some dd) = judged_keeps rest ended d i k dd s h (door dd i)
-
-pub enter_all_keeps : (rest : List ℕ) (ended : Bool) (d : ConnectionId) (is : List Item) (s : Scene) → Keeps rest ended (s.sockets d.0) → Keeps rest ended ((enter_all d is s).sockets d.0)
-enter_all_keeps rest ended d [] s h = h
-enter_all_keeps rest ended d (i ∷ is) s h = enter_all_keeps rest ended d is (enter d i s) (enter_keeps rest ended d i s (s.sockets d.0) refl h)
 
 -- items make no connection
 

@@ -10,9 +10,9 @@ use Rattle.router_trace.specs.declared.event.Event.{Event}
 use Rattle.router_trace.specs.declared.event.Event.TheVariants as event
 use Rattle.route_table.specs.Settings.{Settings}
 use Rattle.core_door.specs.declared.door.Door.{Door as DoorState}
-use Rattle.router_play.specs.declared.socket.Socket.{Socket}
-use Rattle.router_play.specs.declared.script.Step.{Step}
-use Rattle.router_play.specs.declared.script.Step.TheVariants as step
+use Rattle.core_player.specs.declared.socket.Socket.{Socket}
+use Rattle.core_player.specs.declared.script.Step.{Step}
+use Rattle.core_player.specs.declared.script.Step.TheVariants as step
 use Rattle.router_trace.specs.Connection.{conn}
 use Rattle.router_trace.specs.Refusing.{refuses, rises}
 use Rattle.router_core.specs.Replies.{handled}

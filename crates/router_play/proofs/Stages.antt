@@ -7,7 +7,7 @@ use Rattle.amqp_frames.specs.Cuts.{Cuts}
 use Rattle.router_trace.specs.declared.event.ConnectionId.{ConnectionId}
 use Rattle.router_trace.specs.declared.event.Event.TheVariants as event
 use Rattle.core_door.specs.declared.door.Door.{Door as DoorState}
-use Rattle.router_play.specs.declared.socket.Socket.{Socket}
+use Rattle.core_player.specs.declared.socket.Socket.{Socket}
 use Rattle.router_trace.specs.Connection.{conn}
 use Rattle.router_trace.specs.Refusing.{reaches}
 use Rattle.router_play.specs.Script.{Scene, say, refused, with_socket, hand, enter_all, Reads, BytesCome, stream_of, told, lose_by, lose, Flushes}
@@ -15,7 +15,8 @@ use Rattle.router_core.specs.Moves.{ins, outs}
 use Rattle.router_play.specs.Carrying.{was_lost, door_says, passed}
 use Rattle.state_connections.proofs.Lists.{by_test}
 use Rattle.router_play.proofs.Entering.{Quiet, quiet_refl, say_quiet, hand_quiet, socket_quiet, quiet_trans, enter_all_quiet, Entered, quiet_entered, even_unknown, even_silent}
-use Rattle.router_play.proofs.Passing.{Keeps, take_all_entered, take_all_socket, take_all_last, take_all_unknown, take_all_same}
+use Rattle.core_player.proofs.Keeping.{Keeps}
+use Rattle.router_play.proofs.Passing.{take_all_entered, take_all_socket, take_all_last, take_all_unknown, take_all_same}
 
 -- The stages of a connection: it isn't made yet, bytes are received on it, it is lost.
 

@@ -10,17 +10,17 @@ use Rattle.router_trace.specs.declared.event.PeerRole.TheVariants.{Normal}
 use Rattle.router_trace.specs.declared.event.Event.{Event}
 use Rattle.router_trace.specs.declared.event.Event.TheVariants as event
 use Rattle.core_door.specs.declared.door.Door.{Door as DoorState}
-use Rattle.router_play.specs.declared.line.Line.{Line}
-use Rattle.router_play.specs.declared.line.Line.TheVariants as line
-use Rattle.router_play.specs.declared.script.Step.{Step}
-use Rattle.router_play.specs.declared.script.Step.TheVariants as step
+use Rattle.core_player.specs.declared.line.Line.{Line}
+use Rattle.core_player.specs.declared.line.Line.TheVariants as line
+use Rattle.core_player.specs.declared.script.Step.{Step}
+use Rattle.core_player.specs.declared.script.Step.TheVariants as step
 use Rattle.router_trace.specs.Trace.{Trace, Did, Out, Took, Bound, Booked, Began}
 use Rattle.router_trace.specs.Connection.{conn, is_live}
 use Rattle.router_trace.specs.Refusing.{rises}
 use Rattle.router_reply.specs.Acts.{journaled}
 use Rattle.core_door.specs.Door.{Verdict, says, passes, ends, door, door_after}
 use Rattle.router_core.specs.Moves.{IsTrace, ins, outs}
-use Rattle.router_play.specs.Listening.{door_for}
+use Rattle.core_player.specs.Listening.{door_for}
 
 -- the events report the loss of a connection
 abbrev pub is_loss_of : Event → ℕ → Bool

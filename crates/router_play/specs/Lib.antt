@@ -1,9 +1,5 @@
-pub mod Listening
 pub mod Script
-pub mod Playing
-pub mod Asking
 pub mod Carrying
-pub mod Printing
 pub mod Ending
 pub use Rattle.router_trace.specs.Trace
 pub use Rattle.router_trace.specs.Connection
@@ -17,4 +13,6 @@ pub use Rattle.core_machine.specs.Faults
 pub use Rattle.router_core.specs.Handling
 pub use Rattle.router_core.specs.Runs
 pub use Rattle.core_door.specs.Door
+pub use Rattle.core_player.specs.Listening
+pub use Rattle.core_player.specs.Printing
 pub use Rattle.router_core.specs.Moves

@@ -2,14 +2,10 @@
 #![tactic(auto)]
 
 mod finish;
-mod line;
-mod listening;
-mod player;
+mod runs;
 mod script;
-mod socket;
-mod sockets;
 
-pub use line::Line;
-pub use player::play_runs;
+pub use core_player::{Line, Step};
 pub use router_core::{Config, ConnectionId, CoreFault, PeerRole};
-pub use script::{Report, Run, Step};
+pub use runs::play_runs;
+pub use script::{Report, Run};

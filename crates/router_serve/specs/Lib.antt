@@ -4,7 +4,7 @@ pub use Rattle.serve_streams.specs.Ends
 pub use Rattle.serve_streams.specs.Greeting
 pub use Rattle.serve_streams.specs.Spelled
 pub use Rattle.serve_lock.specs.Adding
-pub use Rattle.serve_lock.specs.History
+pub use Rattle.core_machine.specs.History
 pub use Rattle.core_machine.specs.Meaning
 pub use Rattle.core_machine.specs.Moves
 pub use Rattle.core_machine.specs.Counting

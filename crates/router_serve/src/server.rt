@@ -2,7 +2,7 @@
 ghost use Rattle.std.specs.Prelude.{◌≡◌, ◌^◌, true, OnErr, IfOk};
 ghost use Rattle.router_trace.specs.declared.event.Event.TheVariants as event;
 ghost use Rattle.core_machine.specs.Counting.{uncounted, with_event};
-ghost use Rattle.serve_lock.specs.History.{HasHistory};
+ghost use Rattle.core_machine.specs.History.{HasHistory};
 ghost use Rattle.core_machine.specs.Opened.{IsOpened};
 ghost use Rattle.serve_lock.specs.Blank.{AreOf};
 

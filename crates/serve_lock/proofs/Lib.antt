@@ -1,4 +1,3 @@
-mod Histories
 mod Queues
 mod Ringings
 mod Wakings

@@ -8,7 +8,7 @@ ghost use Rattle.core_machine.specs.Turns.{declines};
 ghost use Rattle.core_machine.specs.declared.fault.CoreFault.TheVariants.{Disk as DiskFailed, Memory, Failed, NoConnection};
 ghost use Rattle.serve_lock.specs.Adding.{sums, Handled};
 ghost use Rattle.serve_lock.specs.Handing.{Enough, Stopped, gone, handed};
-ghost use Rattle.serve_lock.specs.History.{HasHistory};
+ghost use Rattle.core_machine.specs.History.{HasHistory};
 ghost use Rattle.core_machine.specs.Opened.{IsOpened};
 ghost use Rattle.serve_lock.specs.Ringing.{is_set};
 

@@ -3,7 +3,7 @@ ghost use Rattle.std.specs.Prelude.{◌≡◌, ◌<◌, ◌≤◌, true, length,
 ghost use Rattle.core_machine.specs.Counting.{uncounted, with_event, with_batch};
 ghost use Rattle.serve_lock.specs.Adding.{sums, Handled};
 ghost use Rattle.serve_lock.specs.Handing.{Enough};
-ghost use Rattle.serve_lock.specs.History.{HasHistory};
+ghost use Rattle.core_machine.specs.History.{HasHistory};
 ghost use Rattle.core_machine.specs.Opened.{IsOpened};
 
 use crate::bells::{BELLS, Bells, bell_of};

@@ -11,10 +11,10 @@ use Rattle.router_trace.specs.declared.event.Event.TheVariants as event
 use Rattle.route_table.specs.Settings.{Settings}
 use Rattle.router_play.specs.Script.{new_router}
 use Rattle.core_door.specs.declared.door.Door.{Door as DoorState}
-use Rattle.router_play.specs.declared.line.Line.TheVariants as line
-use Rattle.router_play.specs.declared.socket.Socket.{Socket}
-use Rattle.router_play.specs.declared.script.Step.{Step}
-use Rattle.router_play.specs.declared.script.Step.TheVariants as step
+use Rattle.core_player.specs.declared.line.Line.TheVariants as line
+use Rattle.core_player.specs.declared.socket.Socket.{Socket}
+use Rattle.core_player.specs.declared.script.Step.{Step}
+use Rattle.core_player.specs.declared.script.Step.TheVariants as step
 use Rattle.router_trace.specs.Trace.{Entry, Took, step_of}
 use Rattle.router_trace.specs.Connection.{conn, is_live}
 use Rattle.router_trace.specs.Refusing.{refuses, rises}

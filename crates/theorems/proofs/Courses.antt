@@ -14,9 +14,9 @@ use Rattle.core_door.specs.declared.door.Door.{Door as DoorState}
 use Rattle.core_door.specs.Door.{Verdict, says, passes, ends, door, door_after}
 use Rattle.theorems.proofs.Plain.{plain}
 use Rattle.theorems.proofs.Takes.{plain_handled}
-use Rattle.router_play.specs.declared.script.Step.{Step}
-use Rattle.router_play.specs.declared.script.Step.TheVariants as step
-use Rattle.router_play.specs.Listening.{door_for}
+use Rattle.core_player.specs.declared.script.Step.{Step}
+use Rattle.core_player.specs.declared.script.Step.TheVariants as step
+use Rattle.core_player.specs.Listening.{door_for}
 
 -- a connection: its door, and the bytes that wait for the rest of an item, until its stream ends
 pub record Spot : Type 0 where

@@ -14,8 +14,8 @@ use Rattle.router_trace.specs.declared.event.Event.TheVariants as event
 use Rattle.router_trace.specs.Refusing.{rises}
 use Rattle.core_door.specs.declared.door.Door.{Door as DoorState}
 use Rattle.core_door.specs.Door.{Verdict, says, passes, ends, door, door_after}
-use Rattle.router_play.specs.declared.script.Step.{Step}
-use Rattle.router_play.specs.declared.script.Step.TheVariants as step
+use Rattle.core_player.specs.declared.script.Step.{Step}
+use Rattle.core_player.specs.declared.script.Step.TheVariants as step
 use Rattle.theorems.specs.Pieces.{in_front, with_bytes, joined}
 use Rattle.state_connections.proofs.Lists.{by_test}
 use Rattle.theorems.proofs.Courses.{Spot, Course, with_spot, flowing, with_stream, tell, judge, come_at, come_by, come, come_all, kept, stream_at, bytes_by, bytes_come, made_by, told_at, lost_by, moved_by, course, tell_spots}

@@ -11,10 +11,10 @@ use Rattle.core_door.specs.declared.door.Door.{Door as DoorState}
 use Rattle.router_core.specs.Moves.{outs}
 use Rattle.theorems.specs.Takes.{untaken}
 use Rattle.theorems.proofs.Untaken.{same_outs}
-use Rattle.router_play.specs.declared.line.Line.{Line}
-use Rattle.router_play.specs.declared.script.Step.{Step}
-use Rattle.router_play.specs.declared.script.Step.TheVariants as step
-use Rattle.router_play.specs.Listening.{door_for}
+use Rattle.core_player.specs.declared.line.Line.{Line}
+use Rattle.core_player.specs.declared.script.Step.{Step}
+use Rattle.core_player.specs.declared.script.Step.TheVariants as step
+use Rattle.core_player.specs.Listening.{door_for}
 use Rattle.router_play.specs.Carrying.{after_up, role_in, door_in, bytes_of, bytes_in, bytes_out, spelled, door_says, Carries}
 use Rattle.theorems.specs.Pieces.{in_front, with_bytes, joined, SameHoweverCut}
 use Rattle.state_connections.proofs.Lists.{by_test}

@@ -19,10 +19,10 @@ use Rattle.core_machine.specs.Moves.{Taking, items_of, took_one}
 use Rattle.theorems.specs.Takes.{untaken}
 use Rattle.theorems.proofs.Plain.{Calm}
 use Rattle.router_play.proofs.Beginning.{began}
-use Rattle.router_play.specs.declared.socket.Socket.{Socket}
-use Rattle.router_play.specs.declared.script.Step.{Step}
-use Rattle.router_play.specs.declared.script.Step.TheVariants as step
-use Rattle.router_play.specs.Listening.{door_for}
+use Rattle.core_player.specs.declared.socket.Socket.{Socket}
+use Rattle.core_player.specs.declared.script.Step.{Step}
+use Rattle.core_player.specs.declared.script.Step.TheVariants as step
+use Rattle.core_player.specs.Listening.{door_for}
 use Rattle.router_play.specs.Script.{Scene, opening, refused, say, say_all, out_line, with_socket, with_trace, stream_of, hand, Reads, BytesCome, made, make, told, lose_by, Takes, is_last, close_if, take_one, take_all, Plays}
 use Rattle.state_connections.proofs.Lists.{by_test}
 use Rattle.router_play.proofs.Scenes.{back}

@@ -17,7 +17,7 @@ use Rattle.router_core.specs.Replies.{handled}
 use Rattle.theorems.specs.Takes.{untaken}
 use Rattle.theorems.proofs.Plain.{Calm}
 use Rattle.theorems.proofs.Takes.{plain_handled, same_handled}
-use Rattle.router_play.specs.declared.socket.Socket.{Socket}
+use Rattle.core_player.specs.declared.socket.Socket.{Socket}
 use Rattle.router_play.specs.Script.{Scene, refused, say, with_socket, with_trace, hand, judged_by, enter_at, enter_by, enter, enter_all}
 use Rattle.state_connections.proofs.Lists.{by_test}
 use Rattle.router_play.proofs.Scenes.{back}

@@ -14,7 +14,7 @@ use Rattle.core_door.specs.declared.door.Door.{Door as DoorState}
 use Rattle.core_door.specs.Door.{Verdict, says, passes, ends, door, door_after}
 use Rattle.theorems.proofs.Takes.{plain_handled}
 use Rattle.state_connections.proofs.Lists.{by_test}
-use Rattle.router_play.proofs.Bringing.{wrong_more, further}
+use Rattle.core_player.proofs.Streams.{wrong_more, further}
 use Rattle.router_play.proofs.Levels.{same}
 use Rattle.theorems.proofs.Courses.{Spot, Course, with_spot, on_trace, flowing, with_stream, plain_refuses, tell, judge, come_at, come_by, come, come_all, kept, stream_at, take_in, bytes_by, bytes_come, spots_same}
 

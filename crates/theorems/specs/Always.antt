@@ -9,7 +9,7 @@ use Rattle.router_core.specs.declared.driving.Sent.{Sent}
 use Rattle.router_core.specs.Runs.{Run}
 use Rattle.router_core.specs.Moves.{IsTrace}
 use Rattle.core_machine.specs.Moves.{Move}
-use Rattle.router_play.specs.declared.script.Step.{Step}
+use Rattle.core_player.specs.declared.script.Step.{Step}
 use Rattle.router_play.specs.Script.{Scene, opening, Plays}
 use Rattle.theorems.specs.Lives.{GoesInTurn, InLives}
 

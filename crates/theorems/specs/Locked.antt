@@ -6,7 +6,7 @@ use Rattle.router_core.specs.declared.router.Core.{Core}
 use Rattle.router_reply.specs.Acts.{book_in}
 use Rattle.router_core.specs.Handling.{id_of}
 use Rattle.router_core.specs.Machine.{core_meaning}
-use Rattle.serve_lock.specs.History.{HasHistory}
+use Rattle.core_machine.specs.History.{HasHistory}
 use Rattle.theorems.specs.Carried.{HasSmallNumbers}
 use Rattle.theorems.specs.Lives.{Life, Lives, AtEachEnd}
 

@@ -1,6 +1,6 @@
 use Rattle.std.proofs.Common.{◌∙◌, sym}
 use Rattle.std.proofs.Math.Logic.{∥∥₁_map}
-use Rattle.serve_lock.proofs.Histories.{handled}
+use Rattle.core_machine.proofs.Histories.{handled}
 use Rattle.serve_lock.proofs.locked.Locked.handle.Goals as goal
 
 -- a fault is handed on

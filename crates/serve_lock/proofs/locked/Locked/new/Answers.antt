@@ -1,5 +1,5 @@
 use Rattle.std.proofs.Common.{◌∙◌, sym}
-use Rattle.serve_lock.proofs.Histories.{none_yet}
+use Rattle.core_machine.proofs.Histories.{none_yet}
 use Rattle.serve_lock.proofs.locked.Locked.new.Goals as goal
 
 pub invariant_of-result : goal.invariant_of-result

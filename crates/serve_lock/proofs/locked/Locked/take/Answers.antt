@@ -1,6 +1,6 @@
 use Rattle.std.proofs.Common.{◌∙◌, sym}
 use Rattle.std.proofs.Math.Logic.{∥∥₁_map}
-use Rattle.serve_lock.proofs.Histories.{taken}
+use Rattle.core_machine.proofs.Histories.{taken}
 use Rattle.serve_lock.proofs.locked.Locked.take.Goals as goal
 
 -- a fault is handed on

@@ -1,0 +1,9 @@
+mod Looks
+mod Asks
+mod Bytes
+pub mod Streams
+pub mod Keeping
+mod Feeding
+pub mod Scenes
+mod Handing
+pub mod Telling

@@ -1,0 +1,22 @@
+use Rattle.std.proofs.Common.{refl}
+use Rattle.std.proofs.lemmas.Result.{on_ok_weaker}
+use Rattle.core_player.proofs.Handing.{start_follows, start_fails}
+use Rattle.core_player.proofs.Telling.{works_tells, fault_tells}
+use Rattle.core_player.proofs.player.Player.start.Goals as goal
+
+pub returns-in-Ok-clause-follows : goal.returns-in-Ok-clause-follows
+returns-in-Ok-clause-follows g c = λ works config from b. start_follows g.M.Machine.meaning c.args.self.now _ config from c.in-Ok.ensures.fits c.in-Ok.ensures.taken g.met.M.Machine.started c.in-Ok.ensures.named refl refl refl refl b
+
+pub returns-in-Ok-clause-tells : goal.returns-in-Ok-clause-tells
+returns-in-Ok-clause-tells g c = λ h. works_tells g.M.Machine.meaning c.args.self.now _ c.in-Ok.ensures.works refl refl h
+
+pub returns-in-Err-clause-follows : goal.returns-in-Err-clause-follows
+returns-in-Err-clause-follows g c = on_ok_weaker c.fail.result
+    (λ said works config from b. start_fails g.M.Machine.meaning c.args.self.now _ c.fail.new.self c.in-Err.fault config from c.in-Err.ensures.refused c.in-Err.ensures.unchanged c.in-Err.ensures.memory
+    c.in-Err.ensures.disk said works b)
+    c.fail.ensures.said
+
+pub returns-in-Err-clause-tells : goal.returns-in-Err-clause-tells
+returns-in-Err-clause-tells g c = on_ok_weaker c.fail.result
+    (λ said h. fault_tells g.M.Machine.meaning c.args.self.now _ c.fail.new.self c.in-Err.fault (λ e. (c.in-Err.ensures.refused e).0) (λ e. (c.in-Err.ensures.unchanged e).0) refl refl c.fail.ensures.kept said h)
+    c.fail.ensures.said

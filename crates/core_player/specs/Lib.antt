@@ -1,0 +1,6 @@
+pub mod Listening
+pub mod Script
+pub mod Playing
+pub mod Asking
+pub mod Printing
+pub mod Telling

@@ -1,7 +1,0 @@
-use Rattle.std.proofs.Common.{◌≡◌, drop}
-use Rattle.std.specs.List.{find}
-use Rattle.router_play.specs.Listening.{is_for}
-use Rattle.router_play.proofs.listening.first_for.Given as goal
-
-abbrev pub invariant-loop-listener : goal.invariant-loop-listener
-invariant-loop-listener l = find (λ x. is_for l.peers x.role) (drop l.listener-index l.listeners) ≡ find (λ x. is_for l.peers x.role) l.listeners

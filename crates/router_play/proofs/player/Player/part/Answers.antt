@@ -1,6 +1,0 @@
-use Rattle.std.proofs.Common.{refl}
-use Rattle.router_play.proofs.Scenes.{parted_scene}
-use Rattle.router_play.proofs.player.Player.part.Goals as goal
-
-pub returns-clause-parted : goal.returns-clause-parted
-returns-clause-parted c = λ s follows. parted_scene c.args.self.now _ c.args.conn c.part_in.result s c.part_in.ensures.parted c.part_in.ensures.rows refl refl refl refl follows

@@ -1,9 +1,0 @@
-use Rattle.std.specs.Prelude.{[]}
-use Rattle.router_core.specs.Handling.{store_of}
-use Rattle.router_play.proofs.NewJournal.{is_empty, is_new, fits_new}
-use Rattle.router_play.proofs.player.opened.Goals as goal
-
-pub returns-in-Ok-open-clause-fits : goal.returns-in-Ok-open-clause-fits
-returns-in-Ok-open-clause-fits c =
-    let new = is_new _ (store_of c.in-Ok-open.core) c.in-Ok.ensures.empty c.in-Ok-open.ensures.seen c.in-Ok-open.ensures.stands
-    in fits_new c.in-Ok-open.core c.args.config.now (is_empty _ _ c.in-Ok.ensures.empty c.in-Ok-open.ensures.book) new.0 new.1 (c.in-Ok-open.ensures.fits [])
