@@ -51,13 +51,13 @@ module _ {M : Type 0} (m : Meaning M) where
   -- the player after an event that the router handled
   pub handled_follows : (p q : Player M) (e : Event) (s : Scene) → ((t : Trace) → m.fits p.core t → m.fits q.core (m.next (m.id p.core) t (step_of e)))
       → ((t : Trace) → m.fits p.core t → declines t e ≡ false)
-      → ((id : List ℕ) (t : Trace) (e : Event) → declines t e ≡ false → is_started (m.next id t (step_of e)) ≡ true)
+      → ((t : Trace) → m.fits p.core t → is_started (m.next (m.id p.core) t (step_of e)) ≡ true)
       → m.id q.core ≡ m.id p.core → q.config ≡ p.config → q.newest ≡ p.newest → q.sockets ≡ p.sockets → q.lines ≡ p.lines → Follows m p s → Follows m q (hand m.next e s)
   handled_follows p q e s fits taken starts named config newest sockets lines f =
       let was : declines s.trace e ≡ false = taken s.trace f.core in
       rw (not_refused s.trace e was) (record {
         core = subst (λ (i : List ℕ). m.fits q.core (m.next i s.trace (step_of e))) f.named (fits s.trace f.core);
-        started = starts s.id s.trace e was;
+        started = subst (λ (i : List ℕ). is_started (m.next i s.trace (step_of e)) ≡ true) f.named (starts s.trace f.core);
         named = named ∙ f.named;
         config = subst (λ k. k.now ≡ s.config) (sym config) f.config;
         last = newest ∙ f.last;
@@ -99,11 +99,11 @@ module _ {M : Type 0} (m : Meaning M) where
   -- a player whose router was started
   pub start_follows : (p q : Player M) (config : Settings) (g : Beginning) → ((t : Trace) → m.fits p.core t → m.fits q.core (m.next (m.id p.core) t (step_of event.Start)))
       → ((t : Trace) → m.fits p.core t → declines t event.Start ≡ false)
-      → ((id : List ℕ) (t : Trace) (e : Event) → declines t e ≡ false → is_started (m.next id t (step_of e)) ≡ true)
+      → ((t : Trace) → m.fits p.core t → is_started (m.next (m.id p.core) t (step_of event.Start)) ≡ true)
       → m.id q.core ≡ m.id p.core → q.config ≡ p.config → q.newest ≡ p.newest → q.sockets ≡ p.sockets → q.lines ≡ p.lines → Begun m p config g → Follows m q (opening m.next config g)
   start_follows p q config g fits taken starts named config_same newest sockets lines b = record {
     core = subst (λ (i : List ℕ). m.fits q.core (m.next i (beginning g) (step_of event.Start))) b.named (fits (beginning g) b.core);
-    started = starts config.router_id (beginning g) event.Start (taken (beginning g) b.core);
+    started = subst (λ (i : List ℕ). is_started (m.next i (beginning g) (step_of event.Start)) ≡ true) b.named (starts (beginning g) b.core);
     named = named ∙ b.named;
     config = subst (λ k. k.now ≡ config) (sym config_same) b.config_is;
     last = newest ∙ b.last;

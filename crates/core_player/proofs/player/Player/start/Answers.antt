@@ -5,7 +5,7 @@ use Rattle.core_player.proofs.Telling.{works_tells, fault_tells}
 use Rattle.core_player.proofs.player.Player.start.Goals as goal
 
 pub returns-in-Ok-clause-follows : goal.returns-in-Ok-clause-follows
-returns-in-Ok-clause-follows g c = λ works config from b. start_follows g.M.Machine.meaning c.args.self.now _ config from c.in-Ok.ensures.fits c.in-Ok.ensures.taken g.met.M.Machine.started c.in-Ok.ensures.named refl refl refl refl b
+returns-in-Ok-clause-follows g c = λ works config from b. start_follows g.M.Machine.meaning c.args.self.now _ config from c.in-Ok.ensures.fits c.in-Ok.ensures.taken c.in-Ok.ensures.started c.in-Ok.ensures.named refl refl refl refl b
 
 pub returns-in-Ok-clause-tells : goal.returns-in-Ok-clause-tells
 returns-in-Ok-clause-tells g c = λ h. works_tells g.M.Machine.meaning c.args.self.now _ c.in-Ok.ensures.works refl refl h
