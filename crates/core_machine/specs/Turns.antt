@@ -1,8 +1,8 @@
 -- Which events come out of turn.
-use Rattle.std.specs.Prelude.{◌≡◌, ℕ, Bool, true, false, not, ◌||◌, List, [], ◌∷◌}
+use Rattle.std.specs.Prelude.{Bool, true, false, not, ◌||◌, [], ◌∷◌}
 use Rattle.router_trace.specs.declared.event.Event.{Event}
 use Rattle.router_trace.specs.declared.event.Event.TheVariants as event
-use Rattle.router_trace.specs.Trace.{Trace, Step, Did, Out, Took, Bound, Booked, Began, step_of}
+use Rattle.router_trace.specs.Trace.{Trace, Did, Out, Took, Bound, Booked, Began}
 use Rattle.router_trace.specs.Refusing.{refuses}
 
 -- Start comes first, and once.
@@ -26,7 +26,3 @@ is_out_of_turn t _ = not (is_started t)
 -- an event isn't handled: it comes out of turn, or the trace refuses it
 abbrev pub declines : Trace → Event → Bool
 declines t e = is_out_of_turn t e || refuses t e
-
--- once an event is handled that isn't declined, there is a Start: what is said of the trace after an event
-abbrev pub StartsFirst : (List ℕ → Trace → Step → Trace) → Type 0
-StartsFirst next = (id : List ℕ) (t : Trace) (e : Event) → declines t e ≡ false → is_started (next id t (step_of e)) ≡ true

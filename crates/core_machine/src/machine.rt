@@ -5,7 +5,7 @@ ghost use Rattle.router_trace.specs.Trace.{Trace, Took, step_of};
 ghost use Rattle.router_trace.specs.Connection.{conn as known, is_ready, is_live};
 ghost use Rattle.core_machine.specs.Counting.{with_event, with_batch};
 ghost use Rattle.core_machine.specs.Meaning.{Meaning, BookAt, IsBatchOf, IsTakenOf, IsLeast};
-ghost use Rattle.core_machine.specs.Turns.{declines, StartsFirst};
+ghost use Rattle.core_machine.specs.Turns.{declines, is_started};
 ghost use Rattle.core_machine.specs.declared.fault.CoreFault.TheVariants.{Disk as DiskFailed, Memory, Failed, NoConnection};
 
 use crate::answers::{Batch, Done};
@@ -29,6 +29,7 @@ pub trait Machine: Drop {
         // The trace continues with the event and its replies.
         ensures fits { OnOk result ((t : Trace) → meaning.fits self.old t → meaning.fits self.new (meaning.next (meaning.id self.old) t (step_of event))) }
         ensures taken { OnOk result ((t : Trace) → meaning.fits self.old t → declines t event ≡ false) }
+        ensures started { OnOk result ((t : Trace) → meaning.fits self.old t → is_started (meaning.next (meaning.id self.old) t (step_of event)) ≡ true) }
         ensures works { OnOk result (meaning.is_failed self.new ≡ false) }
         ensures named { meaning.id self.new ≡ meaning.id self.old }
 
@@ -112,9 +113,6 @@ pub trait Machine: Drop {
     /// The number of the last batch in its journal; 0 where there is none.
     fn batch(&self) -> u64
         ensures { result ≡ meaning.batches self.now };
-
-    /// Once an event is handled, the machine is started: Start comes first.
-    ghost started: { StartsFirst meaning.next };
 }
 
 /// A machine whose disk has a fuse, with which a play makes it fail.

@@ -1,7 +1,6 @@
 //! The core as a machine: what those who drive it through the trait may use.
 ghost use Rattle.std.specs.Prelude.{◌≡◌, ◌⊎◌, ◌+◌, ◌<◌, ◌≤◌, ◌∷◌, ◌&&◌, ◌||◌, not, nat_lt, length, true, false, Err, None, option_map, is_some};
 ghost use Rattle.router_core.specs.Machine.{core_meaning};
-ghost use Rattle.router_core.proofs.Books.{started_handled};
 
 use crate::router::Core;
 use core_machine::{CoreFault, Counts, Done, Fused, Machine, Taken};
@@ -46,8 +45,6 @@ impl<D: Disk> Machine for Core<D> {
     fn batch(&self) -> u64 {
         Core::batch(self)
     }
-
-    ghost started = { started_handled };
 }
 
 impl<D: Crash> Fused for Core<D> {

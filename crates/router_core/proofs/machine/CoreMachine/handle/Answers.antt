@@ -1,4 +1,5 @@
 use Rattle.router_core.specs.Handling.{id_of}
+use Rattle.router_core.proofs.Books.{started_handled}
 use Rattle.router_core.proofs.Machines.{batches_next, fits_next, keeps_next, leaves_next, on_ok, on_ok_both}
 use Rattle.router_core.proofs.machine.CoreMachine.handle.Goals as goal
 
@@ -20,3 +21,7 @@ pub returns-clause-leaves : goal.returns-clause-leaves
 returns-clause-leaves g c =
     λ t f keeps. leaves_next g.D.Disk.seen g.D.Disk.may_leave g.D.Disk.moment g.D.Disk.left_since (λ disk. g.met.D.Disk.counts_now disk) g.D.Disk.failures c.args.self.now c.handle.new.self t c.args.event
     (c.handle.ensures.any_moment t f keeps.0)
+
+pub returns-clause-started : goal.returns-clause-started
+returns-clause-started g c =
+    on_ok c.handle.result (λ taken t f. started_handled (id_of c.args.self.now) t c.args.event (taken t f)) c.handle.ensures.taken
