@@ -2,7 +2,7 @@ mod Either
 mod Filled
 mod Fullness
 mod Longer
-mod Short
 mod Small
-mod Tags
 pub mod Plain
+pub mod Short
+pub mod Tags

@@ -9,4 +9,4 @@ mod transfer;
 pub use laws::{frames_are_filled, frames_have_room, outcomes_are_short};
 pub use next::{delivery_frame, next_frame};
 pub use outcome::{kept_outcome, outcome_item};
-pub use transfer::{first_transfer, later_transfer};
+pub use transfer::{first_transfer, later_transfer, tag_of};

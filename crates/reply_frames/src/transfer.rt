@@ -54,7 +54,7 @@ pub fn later_transfer(handle: u32, settled: bool) -> Transfer
 }
 
 /// The tag of the delivery with this name.
-fn tag_of(name: DeliveryName) -> DeliveryTag
+pub fn tag_of(name: DeliveryName) -> DeliveryTag
     ensures { result.items ≡ tag_of name }
 {
     match name {

@@ -95,7 +95,7 @@ bound_counts b t = record {
       count_alike (bindings t + 1) (λ n. p (delivery t n)) (λ n. p (delivery (Bound b ∷ t) n)) same
       ∙ more (bindings t + 1) (λ n. p (delivery (Bound b ∷ t) n)) (sym (same (bindings t + 1)) ∙ ap p (none_beyond t (bindings t + 1) (omega arith)) ∙ none);
   rises = entry_rises (Bound b) t;
-  attached = entry_counts (Bound b) t;
+  attached = entry_counts (Bound b) t refl;
 }
 
 -- A link that neither table has touched has the same figure in both.
@@ -156,14 +156,14 @@ pub put_counts : (d : ℕ) (i : Item) (t : Trace) → IsStep t (Out d i ∷ t)
 put_counts d i t = record {
   counts = λ p none same. count_alike (bindings t + 1) (λ n. p (delivery t n)) (λ n. p (delivery (Out d i ∷ t) n)) same;
   rises = entry_rises (Out d i) t;
-  attached = entry_counts (Out d i) t;
+  attached = entry_counts (Out d i) t refl;
 }
 
 pub did_counts : (x : Event) (t : Trace) → IsStep t (did x ∷ t)
 did_counts x t = record {
   counts = λ p none same. count_alike (bindings t + 1) (λ n. p (delivery t n)) (λ n. p (delivery (did x ∷ t) n)) same;
   rises = entry_rises (did x) t;
-  attached = entry_counts (did x) t;
+  attached = entry_counts (did x) t refl;
 }
 
 -- All tables after such a change.

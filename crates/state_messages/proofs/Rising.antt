@@ -19,7 +19,7 @@ use Rattle.router_trace.specs.declared.handle.PeerHandle.{PeerHandle}
 use Rattle.router_trace.specs.Following.{link_of}
 use Rattle.router_trace.specs.Links.{Link, Happened, sends, receives, address_by, asked, attached, attachments, after_our_flow, after_our_transfer, after_their_flow, after_their_transfer, begins, came_to, ends_handle_in, flowed_from, flowed_to, has_number, heard_link, initial_of, is_handle, is_taken, key_at, link, link_at, link_after, link_by, link_in, names, names_by, numbered, started, their_handle}
 use Rattle.router_trace.specs.Sessions.{maps, theirs}
-use Rattle.router_trace.specs.Trace.{Trace, Entry, Did, Out}
+use Rattle.router_trace.specs.Trace.{Trace, Entry, Did, Out, Began, is_opening}
 use Rattle.state_links.specs.Fits.{attachment}
 use Rattle.state_links.proofs.Numbered.{not_next, old_number}
 use Rattle.state_links.proofs.Standing.{stands_where}
@@ -135,6 +135,7 @@ entry_stays : (x : Entry) (t : Trace) (n : ℕ) (a : List ℕ) (c o h : ℕ) →
 entry_stays (Did s) t n a c o h low e = event_stays n a s.event c o h (theirs t c) (their_handle t c o) (link t c o h) e
 entry_stays (Out d i) t n a c o h low e =
     if_stays n a (d == c) _ _ (after_stays n a i o h (attachments t + 1) (key_at t c) (asked t c) (link t c o h) (not_next (attachments t) n low) e) e
+entry_stays (Began g) t n a c o h low e = refl
 entry_stays _ t n a c o h low e = e
 
 first : (b c : Bool) → (b && c) ≡ true → b ≡ true
@@ -175,14 +176,15 @@ same_rises t w numbers links n a e = inl (offered_is t n a ∙ sym (by_number (n
     by_number None = refl
     by_number (Some at) = ap (consumes n a) (links at.conn.0 at.channel at.handle)
 
--- no entry lowers the count of attachments
+-- no entry of a run lowers the count of attachments
 at_least : (b : Bool) (n : ℕ) → n ≤ (if b then n + 1 else n)
 at_least true n = omega arith
 at_least false n = omega arith
 
-pub entry_counts : (x : Entry) (t : Trace) → attachments t ≤ attachments (x ∷ t)
-entry_counts (Out d i) t = at_least (is_taken i) (attachments t)
-entry_counts _ t = omega arith
+pub entry_counts : (x : Entry) (t : Trace) → is_opening x ≡ false → attachments t ≤ attachments (x ∷ t)
+entry_counts (Out d i) t run = at_least (is_taken i) (attachments t)
+entry_counts (Began g) t run = absurd cc
+entry_counts _ t run = omega arith
 
 -- a number that is chosen is that of an attachment
 number_below : (t : Trace) (at : Attachment) → has_number at.number (link_of t at) ≡ true → at.number ≤ attachments t

@@ -1,0 +1,5 @@
+use Rattle.resume_core.proofs.Plans as plans
+use Rattle.resume_core.proofs.laws.rows_are_of_the_terminus.Goals as goal
+
+pub returns : goal.returns
+returns c = record { decided = plans.decisions_rows; sent = plans.sendings_rows }

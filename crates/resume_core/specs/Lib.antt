@@ -1,0 +1,2 @@
+pub mod PeerMap
+pub mod Resuming
