@@ -647,6 +647,7 @@ impl<D: Crash> Core<D> {
         ensures rest { self.new ≡ record self.old { store = store_of self.new } }
         ensures stands { Stands D.Disk.seen D.Disk.may_leave (store_of self.old) → Stands D.Disk.seen D.Disk.may_leave (store_of self.new) }
         ensures book { kept_book self.new ≡ kept_book self.old }
+        ensures batches { batch_count (journal_of (store_of self.new)) ≡ batch_count (journal_of (store_of self.old)) }
         ensures fits { (t : List Entry) → Fits self.old t → Fits self.new t }
         ensures set { D.lets_through (disk_of (store_of self.new)) ≡ D.fused calls }
         ensures failures { D.Disk.failures (disk_of (store_of self.new)) ≡ D.Disk.failures (disk_of (store_of self.old)) }
