@@ -138,6 +138,22 @@ module _ {M : Type 0} (m : Meaning M) (g : Beginning) (below : List Entry) where
     },
   )
 
+  -- nothing happened that a trace or the counts show
+  still_on : (old new : M) → HasHistoryOn m g below old → m.is_failed old ≡ false → m.is_failed new ≡ m.is_failed old
+      → ((t : List Entry) → m.fits old t → m.fits new t) → ((b : BookView) → m.keeps old b → m.keeps new b)
+      → m.counts new ≡ m.counts old → m.id new ≡ m.id old → HasHistoryOn m g below new
+  still_on old new lived worked same fits keeps counted named = (
+    lived.0,
+    lived.1,
+    record {
+      goes = subst (λ (i : List ℕ). GoesInTurnBy (m.next i) lived.0 (opened g below) lived.1) (sym named) lived.2.goes;
+      counted = counted ∙ lived.2.counted;
+      made = lived.2.made;
+      works = λ _. let now = lived.2.works worked in (fits lived.1 now.0, keeps (m.book lived.1) now.1);
+      failed = λ fails. absurd (let bad : true ≡ false = sym fails ∙ same ∙ worked in cc);
+    },
+  )
+
   -- an event is handled, or declined, or the disk fails, or memory is refused
   handled_on : (old new : M) (e : Event) (r : Result Done CoreFault) → HasHistoryOn m g below old
       → OnOk r ((t : List Entry) → m.fits old t → m.fits new (m.next (m.id old) t (step_of e)))
@@ -215,3 +231,8 @@ module _ {M : Type 0} (m : Meaning M) (g : Beginning) where
       → IfErr r (λ f. f ≡ Memory → m.is_failed new ≡ true) → IfErr r (λ f. f ≡ Disk → ⊥) → HasHistory m g new
   taken old new c r lived fits batch works keeps still counted same named failed refused unchanged memory disk below =
       taken_on m g below old new c r (lived below) fits batch works keeps still counted same named failed refused unchanged memory disk
+
+  pub still : (old new : M) → HasHistory m g old → m.is_failed old ≡ false → m.is_failed new ≡ m.is_failed old
+      → ((t : List Entry) → m.fits old t → m.fits new t) → ((b : BookView) → m.keeps old b → m.keeps new b)
+      → m.counts new ≡ m.counts old → m.id new ≡ m.id old → HasHistory m g new
+  still old new lived worked same fits keeps counted named below = still_on m g below old new (lived below) worked same fits keeps counted named

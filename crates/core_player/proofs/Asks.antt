@@ -18,7 +18,7 @@ use Rattle.core_player.specs.Script.{Scene, with_socket, say_all, say, out_line,
 use Rattle.core_player.specs.Asking.{IsAskedAt, IsVerdict, AsksAt, behind, follow}
 use Rattle.router_trace.specs.Trace.{Trace}
 use Rattle.core_machine.specs.Turns.{is_started}
-use Rattle.core_player.specs.Playing.{Follows, Look, look_at, seen}
+use Rattle.core_player.specs.Playing.{Agrees, Follows, Look, look_at, seen}
 use Rattle.core_player.proofs.Looks.{look, alike, not_none, changed, unchanged}
 use Rattle.core_machine.specs.Meaning.{Meaning}
 
@@ -137,7 +137,7 @@ module _ {M : Type 0} (m : Meaning M) where
       in (
         w.after,
         record {
-          core = subst (λ (k : M). m.fits k w.after.trace) (sym core) (subst (λ (t : Trace). m.fits p.core t) (sym w.trace) follows.core);
+          core = subst (λ (k : M). Agrees m k w.after.trace) (sym core) (subst (λ (t : Trace). Agrees m p.core t) (sym w.trace) follows.core);
           started = ap is_started w.trace ∙ follows.started;
           named = ap m.id core ∙ follows.named ∙ sym w.id;
           config = ap (λ r. r.now) config ∙ follows.config ∙ sym w.config;

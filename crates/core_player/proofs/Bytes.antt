@@ -12,7 +12,7 @@ use Rattle.core_player.specs.declared.player.Player.{Player}
 use Rattle.core_player.specs.Asking.{ReadsAt, ReadsOne}
 use Rattle.core_player.proofs.Looks.{Elsewhere, elsewhere, look, alike, not_none, changed, unchanged, table_follows}
 use Rattle.core_player.specs.Script.{Scene, refused, say, say_all, Reads, BytesCome, with_socket, stream_of}
-use Rattle.core_player.specs.Playing.{Follows, Look, look_at, seen, waiting, Said, IsRead, IsReadOne}
+use Rattle.core_player.specs.Playing.{Agrees, Follows, Look, look_at, seen, waiting, Said, IsRead, IsReadOne}
 use Rattle.core_machine.specs.Meaning.{Meaning}
 
 -- what waits in sockets that look alike
@@ -30,7 +30,7 @@ module _ {M : Type 0} (m : Meaning M) where
   -- appended lines, then more of them
   pub said_follows : (p q : Player M) (ls : List Line) (s : Scene) → Said p q ls → Follows m p s → Follows m q (say_all ls s)
   said_follows p q ls s said follows = record {
-    core = subst (λ (k : M). m.fits k s.trace) (sym said.core) follows.core;
+    core = subst (λ (k : M). Agrees m k s.trace) (sym said.core) follows.core;
     started = follows.started;
     named = ap m.id said.core ∙ follows.named;
     config = ap (λ r. r.now) said.config ∙ follows.config;

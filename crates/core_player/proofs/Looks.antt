@@ -9,7 +9,7 @@ use Rattle.state_connections.proofs.Lists.{by_test}
 use Rattle.core_player.specs.declared.socket.Socket.{Socket}
 use Rattle.core_player.specs.declared.player.Player.{Player}
 use Rattle.core_player.specs.Script.{Scene}
-use Rattle.core_player.specs.Playing.{Follows, Look, look_at, seen}
+use Rattle.core_player.specs.Playing.{Agrees, Follows, Look, look_at, seen}
 use Rattle.core_machine.specs.Meaning.{Meaning}
 
 -- what a socket with this door and these waiting bytes shows
@@ -54,7 +54,7 @@ module _ {M : Type 0} (m : Meaning M) where
   pub table_follows : (p q : Player M) (s : Scene) (f : ℕ → Option Socket) → Elsewhere p q → ((n : ℕ) → seen (get nat_cmp q.sockets n) ≡ seen (f n)) → Follows m p s
       → Follows m q (record { id = s.id; config = s.config; trace = s.trace; last = s.last; sockets = f; lines = s.lines })
   table_follows p q s f r sockets follows = record {
-    core = subst (λ (k : M). m.fits k s.trace) (sym r.core) follows.core;
+    core = subst (λ (k : M). Agrees m k s.trace) (sym r.core) follows.core;
     started = follows.started;
     named = ap m.id r.core ∙ follows.named;
     config = ap (λ r. r.now) r.config ∙ follows.config;

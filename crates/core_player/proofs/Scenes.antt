@@ -20,7 +20,7 @@ use Rattle.core_machine.specs.Turns.{is_started}
 use Rattle.core_machine.specs.Meaning.{IsBatchOf}
 use Rattle.core_machine.specs.Moves.{IsNext, Taking, taking, took_one, waiting_of}
 use Rattle.core_player.specs.Script.{Scene, Next, with_socket, with_trace, say_all, out_line, lose, lose_by, told, is_last, close_if, take_one, take_all, AllInTurn, Takes, Flushes, Plays}
-use Rattle.core_player.specs.Playing.{Follows, Look, look_at, seen, PartsAt, part_by}
+use Rattle.core_player.specs.Playing.{Agrees, Follows, Look, look_at, seen, PartsAt, part_by}
 use Rattle.core_player.proofs.Looks.{alike, not_none}
 use Rattle.state_connections.proofs.Lists.{by_test}
 use Rattle.core_machine.specs.Meaning.{Meaning}
@@ -125,7 +125,7 @@ module _ {M : Type 0} (m : Meaning M) where
       in (
         w.after,
         record {
-          core = subst (λ (k : M). m.fits k w.after.trace) (sym core) (subst (λ (t : List Entry). m.fits p.core t) (sym w.trace) follows.core);
+          core = subst (λ (k : M). Agrees m k w.after.trace) (sym core) (subst (λ (t : List Entry). Agrees m p.core t) (sym w.trace) follows.core);
           started = ap is_started w.trace ∙ follows.started;
           named = ap m.id core ∙ follows.named ∙ sym w.id;
           config = ap (λ r. r.now) config ∙ follows.config ∙ sym w.config;
@@ -137,11 +137,11 @@ module _ {M : Type 0} (m : Meaning M) where
       )
 
   pub taken_follows : (p q : Player M) (c : ConnectionId) (b : Batch) (s : Scene) → Follows m p s
-      → m.fits q.core (Took c.0 (length b.items.items) ∷ s.trace) → IsBatchOf (conn s.trace c.0) 64 b
+      → Agrees m q.core (Took c.0 (length b.items.items) ∷ s.trace) → IsBatchOf (conn s.trace c.0) 64 b
       → m.id q.core ≡ m.id p.core → q.config ≡ p.config → q.sockets ≡ p.sockets → q.newest ≡ p.newest → q.lines.items ≡ p.lines.items
       → Follows m q (with_trace (took_one (taking c) s.trace) s)
   taken_follows p q c b s follows fits is named config sockets newest lines = record {
-    core = subst (λ (ys : List Item). m.fits q.core (Took c.0 (length ys) ∷ s.trace)) (batch_items (conn s.trace c.0) b is) fits;
+    core = subst (λ (ys : List Item). Agrees m q.core (Took c.0 (length ys) ∷ s.trace)) (batch_items (conn s.trace c.0) b is) fits;
     started = follows.started;
     named = named ∙ follows.named;
     config = ap (λ r. r.now) config ∙ follows.config;

@@ -14,9 +14,11 @@ use Rattle.router_trace.specs.declared.event.Event.TheVariants as event
 use Rattle.core_player.specs.declared.line.Line.{Line}
 use Rattle.route_table.specs.Settings.{Settings}
 use Rattle.router_trace.specs.Configuration.{beginning}
-use Rattle.router_trace.specs.Trace.{Beginning}
+use Rattle.router_trace.specs.Trace.{Beginning, Trace}
 use Rattle.core_machine.specs.Turns.{is_started}
+use Rattle.core_machine.specs.History.{HasHistory}
 use Rattle.core_machine.specs.Meaning.{Meaning}
+use Rattle.core_machine.specs.Opened.{IsOpened}
 use Rattle.core_player.specs.Script.{Scene, Next, refused, say, hand, with_socket, stream_of, Reads}
 use Rattle.core_player.specs.Telling.{TellsOf}
 
@@ -36,9 +38,13 @@ look_at k = record { door = k.door; stream = waiting k.reader.failed k.reader.re
 abbrev pub seen : Option Socket → Option Look
 seen o = option_map look_at o
 
+-- a router's tables and its book are those of a trace, and its journal keeps that book
+abbrev pub Agrees : {M : Type 0} → Meaning M → M → Trace → Type 0
+Agrees m router t = m.fits router t × m.keeps router (m.book t)
+
 -- its router is started
 pub record Follows {M : Type 0} (m : Meaning M) (p : Player M) (s : Scene) : Type 0 where
-  pub core : m.fits p.core s.trace
+  pub core : Agrees m p.core s.trace
   pub started : is_started s.trace ≡ true
   pub named : m.id p.core ≡ s.id
   pub config : p.config.now ≡ s.config
@@ -48,7 +54,7 @@ pub record Follows {M : Type 0} (m : Meaning M) (p : Player M) (s : Scene) : Typ
 
 -- a player whose router is opened with a configuration, and not started yet
 pub record Begun {M : Type 0} (m : Meaning M) (p : Player M) (config : Settings) (g : Beginning) : Type 0 where
-  pub core : m.fits p.core (beginning g)
+  pub core : Agrees m p.core (beginning g)
   pub works : m.is_failed p.core ≡ false
   pub named : m.id p.core ≡ config.router_id
   pub config_is : p.config.now ≡ config
@@ -56,10 +62,16 @@ pub record Begun {M : Type 0} (m : Meaning M) (p : Player M) (config : Settings)
   pub sockets : (c : ℕ) → get nat_cmp p.sockets c ≡ None
   pub lines : p.lines.items ≡ []
 
--- a player that knows with which fault its router failed, if it did, and whose lines tell of it
-pub record Tells {M : Type 0} (m : Meaning M) (p : Player M) : Type 0 where
+-- A router was this one before. Since it was opened it has a history: events that it handled, and takes; and its journal stands by them.
+pub record Lived {M : Type 0} (m : Meaning M) (first now : M) : Type 0 where
+  pub named : m.id now ≡ m.id first
+  pub history : (g : Beginning) → IsOpened m g first → HasHistory m g now
+
+-- a player that knows with which fault its router failed, if it did, and whose lines tell of it; and the router's history
+pub record Tells {M : Type 0} (m : Meaning M) (first : M) (p : Player M) : Type 0 where
   pub known : p.fault ≡ None → m.is_failed p.core ≡ false
   pub told : TellsOf p.fault p.lines.items
+  pub lived : Lived m first p.core
 
 -- more lines, and nothing else that a scene shows
 pub record Said {M : Type 0} (old new : Player M) (ls : List Line) : Type 0 where

@@ -15,7 +15,6 @@ use Rattle.router_trace.specs.Refusing.{refuses, rises}
 use Rattle.core_door.specs.declared.door.Door.{Door as DoorState}
 use Rattle.core_door.specs.Door.{Verdict, says, passes, ends, door, door_after}
 use Rattle.core_machine.specs.declared.fault.CoreFault.TheVariants.{NoConnection}
-use Rattle.core_machine.specs.Meaning.{Meaning}
 use Rattle.core_machine.specs.Moves.{IsNext, Taking, items_of, took_one}
 use Rattle.core_player.specs.declared.line.Line.{Line}
 use Rattle.core_player.specs.declared.line.Line.TheVariants as line
@@ -37,11 +36,6 @@ pub record Scene : Type 0 where
   pub last : Option ℕ
   pub sockets : ℕ → Option Socket
   pub lines : List Line
-
--- a router that was just opened with this configuration: it isn't started
-pub record IsFresh {M : Type 0} (m : Meaning M) (config : Settings) (g : Beginning) (router : M) : Type 0 where
-  pub fits : m.fits router (beginning g)
-  pub named : m.id router ≡ config.router_id
 
 -- before the first step: the router is started
 abbrev pub opening : Next → Settings → Beginning → Scene

@@ -5,10 +5,11 @@ ghost use Rattle.router_trace.specs.Trace.{Beginning};
 ghost use Rattle.router_trace.specs.Connection.{conn as known, is_ready};
 ghost use Rattle.router_trace.specs.declared.event.Event.TheVariants as event;
 ghost use Rattle.core_machine.specs.Moves.{taking};
+ghost use Rattle.core_machine.specs.Opened.{IsOpened};
 ghost use Rattle.core_machine.specs.Turns.{is_start};
-ghost use Rattle.core_player.specs.Script.{Scene, IsFresh, opening, refused, out_line, say_all, hand, enter, enter_all, BytesCome, make, lose, Takes, take_one, close_if, Flushes, Plays};
+ghost use Rattle.core_player.specs.Script.{Scene, opening, refused, out_line, say_all, hand, enter, enter_all, BytesCome, make, lose, Takes, take_one, close_if, Flushes, Plays};
 ghost use Rattle.core_player.specs.Asking.{follow};
-ghost use Rattle.core_player.specs.Playing.{Begun, Follows, Said, Tells, IsRead, Continues, part_by};
+ghost use Rattle.core_player.specs.Playing.{Agrees, Begun, Follows, Lived, Said, Tells, IsRead, Continues, part_by};
 ghost use Rattle.core_player.specs.Telling.{TellsOf, fault_after};
 ghost use Rattle.core_player.specs.declared.line.Line.TheVariants as line;
 ghost use Rattle.core_player.specs.declared.line.Line.{Line as ALine};
@@ -64,8 +65,11 @@ pub fn play<M: Fused>(
     lines: &mut Vec<Line>,
 ) -> Result<Played<M>, AllocError>
     requires works { M.meaning.is_failed core ≡ false }
-    ensures plays { IfOk result (λ played. played.fault ≡ None → (g : Beginning) → IsFresh M.meaning config.now g core
-        → (u : Scene) × Plays M.meaning.next steps.now (opening M.meaning.next config.now g) u × (lines.new.items ≡ lines.old.items ++ u.lines) × M.meaning.fits played.core u.trace) }
+    ensures plays { IfOk result (λ played. played.fault ≡ None → M.meaning.id core ≡ config.now.router_id → (g : Beginning) → IsOpened M.meaning g core
+        → (u : Scene) × Plays M.meaning.next steps.now (opening M.meaning.next config.now g) u × (lines.new.items ≡ lines.old.items ++ u.lines) × Agrees M.meaning played.core u.trace) }
+
+    // Where its journal stands by what it did, also where it failed.
+    ensures lived { IfOk result (λ played. Lived M.meaning core played.core) }
 
     // Where the router failed, a line says so.
     ensures told { IfOk result (λ played. TellsOf played.fault lines.new.items) }
@@ -100,8 +104,8 @@ fn append(lines: &mut Vec<Line>, told: Vec<Line>) -> Result<(), AllocError>
 impl<'a, M: Fused> Player<'a, M> {
     /// A player whose machine was just opened, and isn't started yet.
     fn new(alloc: Global, config: &'a Config, core: M) -> Player<'a, M>
-        ensures begun { M.meaning.is_failed core ≡ false → (g : Beginning) → IsFresh M.meaning config.now g core → Begun M.meaning result config.now g }
-        ensures tells { M.meaning.is_failed core ≡ false → Tells M.meaning result }
+        ensures begun { M.meaning.id core ≡ config.now.router_id → (g : Beginning) → IsOpened M.meaning g core → Begun M.meaning result config.now g }
+        ensures tells { M.meaning.is_failed core ≡ false → Tells M.meaning core result }
         ensures core { result.core ≡ core }
     {
         Player {
@@ -120,7 +124,7 @@ impl<'a, M: Fused> Player<'a, M> {
         ensures said { OnOk result (Said self.old self.new (line ∷ [])) }
         ensures core { self.new.core ≡ self.old.core }
         ensures fault { self.new.fault ≡ self.old.fault }
-        ensures tells { OnOk result (Tells M.meaning self.old → Tells M.meaning self.new) }
+        ensures tells { OnOk result ((first : M) → Tells M.meaning first self.old → Tells M.meaning first self.new) }
     {
         match self.lines.push(line) {
             Ok(()) => Ok(()),
@@ -145,7 +149,7 @@ impl<'a, M: Fused> Player<'a, M> {
     fn say_out(&mut self, conn: ConnectionId, item: &Item) -> Result<(), AllocError>
         ensures said { OnOk result (Said self.old self.new (out_line conn item.now ∷ [])) }
         ensures core { self.new.core ≡ self.old.core }
-        ensures tells { OnOk result (Tells M.meaning self.old → Tells M.meaning self.new) }
+        ensures tells { OnOk result ((first : M) → Tells M.meaning first self.old → Tells M.meaning first self.new) }
     {
         let mut bytes = Vec::new(self.alloc);
         write_item(self.alloc, item, &mut bytes)?;
@@ -159,7 +163,7 @@ impl<'a, M: Fused> Player<'a, M> {
     fn say_all(&mut self, conn: ConnectionId, items: &[Item]) -> Result<(), AllocError>
         ensures said { OnOk result (Said self.old self.new (map (out_line conn) items.now)) }
         ensures core { self.new.core ≡ self.old.core }
-        ensures tells { OnOk result (Tells M.meaning self.old → Tells M.meaning self.new) }
+        ensures tells { OnOk result ((first : M) → Tells M.meaning first self.old → Tells M.meaning first self.new) }
     {
         for item in items {
             self.say_out(conn, item)?;
@@ -170,7 +174,7 @@ impl<'a, M: Fused> Player<'a, M> {
     /// Starts the router.
     fn start(&mut self) -> Result<(), AllocError>
         ensures follows { OnOk result (M.meaning.is_failed self.new.core ≡ false → (config : Settings) (g : Beginning) → Begun M.meaning self.old config g → Follows M.meaning self.new (opening M.meaning.next config g)) }
-        ensures tells { OnOk result (Tells M.meaning self.old → Tells M.meaning self.new) }
+        ensures tells { OnOk result ((first : M) → Tells M.meaning first self.old → Tells M.meaning first self.new) }
     {
         match self.core.handle(Event::Start) {
             Ok(done) => {
@@ -186,7 +190,7 @@ impl<'a, M: Fused> Player<'a, M> {
         requires not_start { is_start event ≡ false }
         ensures follows { OnOk result (M.meaning.is_failed self.new.core ≡ false → (s : Scene) → Follows M.meaning self.old s → Follows M.meaning self.new (hand M.meaning.next event s)) }
         ensures stays { M.meaning.is_failed self.old.core ≡ true → M.meaning.is_failed self.new.core ≡ true }
-        ensures tells { OnOk result (Tells M.meaning self.old → Tells M.meaning self.new) }
+        ensures tells { OnOk result ((first : M) → Tells M.meaning first self.old → Tells M.meaning first self.new) }
     {
         match self.core.handle(event) {
             Ok(done) => {
@@ -201,7 +205,7 @@ impl<'a, M: Fused> Player<'a, M> {
     fn enter(&mut self, conn: ConnectionId, item: Item) -> Result<(), AllocError>
         ensures follows { OnOk result (M.meaning.is_failed self.new.core ≡ false → (s : Scene) → Follows M.meaning self.old s → Follows M.meaning self.new (enter M.meaning.next conn item s)) }
         ensures stays { M.meaning.is_failed self.old.core ≡ true → M.meaning.is_failed self.new.core ≡ true }
-        ensures tells { OnOk result (Tells M.meaning self.old → Tells M.meaning self.new) }
+        ensures tells { OnOk result ((first : M) → Tells M.meaning first self.old → Tells M.meaning first self.new) }
     {
         let asked = self.ask(conn, &item)?;
         self.follow(conn, item, asked)
@@ -211,7 +215,7 @@ impl<'a, M: Fused> Player<'a, M> {
     fn enter_all(&mut self, conn: ConnectionId, items: Vec<Item>) -> Result<(), AllocError>
         ensures follows { OnOk result (M.meaning.is_failed self.new.core ≡ false → (s : Scene) → Follows M.meaning self.old s → Follows M.meaning self.new (enter_all M.meaning.next conn items.items s)) }
         ensures stays { M.meaning.is_failed self.old.core ≡ true → M.meaning.is_failed self.new.core ≡ true }
-        ensures tells { OnOk result (Tells M.meaning self.old → Tells M.meaning self.new) }
+        ensures tells { OnOk result ((first : M) → Tells M.meaning first self.old → Tells M.meaning first self.new) }
     {
         for item in items {
             self.enter(conn, item)?;
@@ -223,7 +227,7 @@ impl<'a, M: Fused> Player<'a, M> {
     fn bytes(&mut self, conn: ConnectionId, bytes: &[u8]) -> Result<(), AllocError>
         ensures follows { OnOk result (M.meaning.is_failed self.new.core ≡ false → (s : Scene) → Follows M.meaning self.old s → (u : Scene) × BytesCome M.meaning.next conn bytes.now s (s.sockets conn.0) u × Follows M.meaning self.new u) }
         ensures stays { M.meaning.is_failed self.old.core ≡ true → M.meaning.is_failed self.new.core ≡ true }
-        ensures tells { OnOk result (Tells M.meaning self.old → Tells M.meaning self.new) }
+        ensures tells { OnOk result ((first : M) → Tells M.meaning first self.old → Tells M.meaning first self.new) }
     {
         let (piece, others) = bytes.split_at(bytes.len().min(PIECE));
         match self.read(conn, piece)? {
@@ -240,7 +244,7 @@ impl<'a, M: Fused> Player<'a, M> {
     fn more_bytes(&mut self, conn: ConnectionId, bytes: &[u8]) -> Result<(), AllocError>
         ensures continues { OnOk result (M.meaning.is_failed self.new.core ≡ false → Continues M.meaning conn bytes.now self.old self.new) }
         ensures stays { M.meaning.is_failed self.old.core ≡ true → M.meaning.is_failed self.new.core ≡ true }
-        ensures tells { OnOk result (Tells M.meaning self.old → Tells M.meaning self.new) }
+        ensures tells { OnOk result ((first : M) → Tells M.meaning first self.old → Tells M.meaning first self.new) }
     {
         let mut behind = bytes;
         while !behind.is_empty() {
@@ -258,7 +262,7 @@ impl<'a, M: Fused> Player<'a, M> {
     fn read(&mut self, conn: ConnectionId, bytes: &[u8]) -> Result<Option<Vec<Item>>, AllocError>
         ensures reads { IfOk result (λ read. (s : Scene) → Follows M.meaning self.old s → IsRead M.meaning conn bytes.now s (s.sockets conn.0) self.new (option_map (λ v. v.items) read)) }
         ensures core { self.new.core ≡ self.old.core }
-        ensures tells { OnOk result (Tells M.meaning self.old → Tells M.meaning self.new) }
+        ensures tells { OnOk result ((first : M) → Tells M.meaning first self.old → Tells M.meaning first self.new) }
     {
         read_in(&mut self.sockets, conn.0, bytes)
     }
@@ -267,7 +271,7 @@ impl<'a, M: Fused> Player<'a, M> {
     fn refuse(&mut self) -> Result<(), AllocError>
         ensures said { OnOk result (Said self.old self.new (refused ∷ [])) }
         ensures core { self.new.core ≡ self.old.core }
-        ensures tells { OnOk result (Tells M.meaning self.old → Tells M.meaning self.new) }
+        ensures tells { OnOk result ((first : M) → Tells M.meaning first self.old → Tells M.meaning first self.new) }
     {
         self.say(Line::Failed(CoreFault::NoConnection))
     }
@@ -276,7 +280,7 @@ impl<'a, M: Fused> Player<'a, M> {
     fn up(&mut self, conn: ConnectionId, role: PeerRole) -> Result<(), AllocError>
         ensures follows { OnOk result ((s : Scene) → Follows M.meaning self.old s → Follows M.meaning self.new (make conn role s)) }
         ensures core { self.new.core ≡ self.old.core }
-        ensures tells { OnOk result (Tells M.meaning self.old → Tells M.meaning self.new) }
+        ensures tells { OnOk result ((first : M) → Tells M.meaning first self.old → Tells M.meaning first self.new) }
     {
         let rises = match self.newest {
             None => true,
@@ -296,7 +300,7 @@ impl<'a, M: Fused> Player<'a, M> {
     fn down(&mut self, conn: ConnectionId) -> Result<(), AllocError>
         ensures follows { OnOk result (M.meaning.is_failed self.new.core ≡ false → (s : Scene) → Follows M.meaning self.old s → Follows M.meaning self.new (lose M.meaning.next conn s)) }
         ensures stays { M.meaning.is_failed self.old.core ≡ true → M.meaning.is_failed self.new.core ≡ true }
-        ensures tells { OnOk result (Tells M.meaning self.old → Tells M.meaning self.new) }
+        ensures tells { OnOk result ((first : M) → Tells M.meaning first self.old → Tells M.meaning first self.new) }
     {
         match self.part(conn) {
             Parted::Closed => self.refuse(),
@@ -309,17 +313,20 @@ impl<'a, M: Fused> Player<'a, M> {
     fn part(&mut self, conn: ConnectionId) -> Parted
         ensures parted { (s : Scene) → Follows M.meaning self.old s → (after : Scene) × Follows M.meaning self.new after × (part_by M.meaning.next conn result after ≡ lose M.meaning.next conn s) }
         ensures core { self.new.core ≡ self.old.core }
-        ensures tells { Tells M.meaning self.old → Tells M.meaning self.new }
+        ensures tells { (first : M) → Tells M.meaning first self.old → Tells M.meaning first self.new }
     {
         part_in(&mut self.sockets, conn.0)
     }
 
-    /// The router's disk gets a fuse.
+    /// The router's disk gets a fuse, unless the router failed: then it makes no more calls.
     fn fuse(&mut self, calls: u64)
         ensures follows { (s : Scene) → Follows M.meaning self.old s → Follows M.meaning self.new s }
         ensures stays { M.meaning.is_failed self.old.core ≡ true → M.meaning.is_failed self.new.core ≡ true }
-        ensures tells { Tells M.meaning self.old → Tells M.meaning self.new }
+        ensures tells { (first : M) → Tells M.meaning first self.old → Tells M.meaning first self.new }
     {
+        if self.core.is_failed() {
+            return;
+        }
         self.core.fuse(calls);
     }
 
@@ -327,7 +334,7 @@ impl<'a, M: Fused> Player<'a, M> {
     fn step(&mut self, step: &Step) -> Result<(), AllocError>
         ensures follows { OnOk result (M.meaning.is_failed self.new.core ≡ false → (s : Scene) → Follows M.meaning self.old s → (u : Scene) × Takes M.meaning.next step.now s u × Follows M.meaning self.new u) }
         ensures stays { M.meaning.is_failed self.old.core ≡ true → M.meaning.is_failed self.new.core ≡ true }
-        ensures tells { OnOk result (Tells M.meaning self.old → Tells M.meaning self.new) }
+        ensures tells { OnOk result ((first : M) → Tells M.meaning first self.old → Tells M.meaning first self.new) }
     {
         match step {
             Step::Up { conn, role } => self.up(*conn, *role)?,
@@ -343,7 +350,7 @@ impl<'a, M: Fused> Player<'a, M> {
     fn flush(&mut self) -> Result<(), AllocError>
         ensures follows { OnOk result (M.meaning.is_failed self.new.core ≡ false → (s : Scene) → Follows M.meaning self.old s → (u : Scene) × Flushes s u × Follows M.meaning self.new u) }
         ensures stays { M.meaning.is_failed self.old.core ≡ true → M.meaning.is_failed self.new.core ≡ true }
-        ensures tells { OnOk result (Tells M.meaning self.old → Tells M.meaning self.new) }
+        ensures tells { OnOk result ((first : M) → Tells M.meaning first self.old → Tells M.meaning first self.new) }
     {
         for _turn in 0..u64::MAX {
             if self.core.is_failed() {
@@ -361,7 +368,7 @@ impl<'a, M: Fused> Player<'a, M> {
     fn take(&mut self, conn: ConnectionId) -> Result<(), AllocError>
         ensures follows { OnOk result (M.meaning.is_failed self.new.core ≡ false → (s : Scene) → Follows M.meaning self.old s → is_ready (known s.trace conn.0) ≡ true → Follows M.meaning self.new (take_one (taking conn) s)) }
         ensures stays { M.meaning.is_failed self.old.core ≡ true → M.meaning.is_failed self.new.core ≡ true }
-        ensures tells { OnOk result (Tells M.meaning self.old → Tells M.meaning self.new) }
+        ensures tells { OnOk result ((first : M) → Tells M.meaning first self.old → Tells M.meaning first self.new) }
     {
         match take(&mut self.core, conn, MOST) {
             Ok(batch) => self.send(conn, batch),
@@ -373,7 +380,7 @@ impl<'a, M: Fused> Player<'a, M> {
     fn send(&mut self, conn: ConnectionId, batch: Batch) -> Result<(), AllocError>
         ensures follows { OnOk result ((s : Scene) → Follows M.meaning self.old s → Follows M.meaning self.new (close_if batch.ended conn (say_all (map (out_line conn) batch.items.items) s))) }
         ensures core { self.new.core ≡ self.old.core }
-        ensures tells { OnOk result (Tells M.meaning self.old → Tells M.meaning self.new) }
+        ensures tells { OnOk result ((first : M) → Tells M.meaning first self.old → Tells M.meaning first self.new) }
     {
         self.say_all(conn, batch.items())?;
         self.close_if(conn, batch.is_last())?;
@@ -384,7 +391,7 @@ impl<'a, M: Fused> Player<'a, M> {
     fn close_if(&mut self, conn: ConnectionId, ended: bool) -> Result<(), AllocError>
         ensures follows { OnOk result ((s : Scene) → Follows M.meaning self.old s → Follows M.meaning self.new (close_if ended conn s)) }
         ensures core { self.new.core ≡ self.old.core }
-        ensures tells { OnOk result (Tells M.meaning self.old → Tells M.meaning self.new) }
+        ensures tells { OnOk result ((first : M) → Tells M.meaning first self.old → Tells M.meaning first self.new) }
     {
         if ended {
             close(&mut self.sockets, conn.0);
@@ -397,7 +404,7 @@ impl<'a, M: Fused> Player<'a, M> {
     fn run(&mut self, steps: &[Step]) -> Result<(), AllocError>
         ensures follows { OnOk result (M.meaning.is_failed self.new.core ≡ false → (config : Settings) (g : Beginning) → Begun M.meaning self.old config g
             → (u : Scene) × Plays M.meaning.next steps.now (opening M.meaning.next config g) u × Follows M.meaning self.new u) }
-        ensures tells { OnOk result (Tells M.meaning self.old → Tells M.meaning self.new) }
+        ensures tells { OnOk result ((first : M) → Tells M.meaning first self.old → Tells M.meaning first self.new) }
     {
         self.start()?;
         self.play(steps)
@@ -407,7 +414,7 @@ impl<'a, M: Fused> Player<'a, M> {
     fn play(&mut self, steps: &[Step]) -> Result<(), AllocError>
         ensures follows { OnOk result (M.meaning.is_failed self.new.core ≡ false → (s : Scene) → Follows M.meaning self.old s → (u : Scene) × Plays M.meaning.next steps.now s u × Follows M.meaning self.new u) }
         ensures stays { M.meaning.is_failed self.old.core ≡ true → M.meaning.is_failed self.new.core ≡ true }
-        ensures tells { OnOk result (Tells M.meaning self.old → Tells M.meaning self.new) }
+        ensures tells { OnOk result ((first : M) → Tells M.meaning first self.old → Tells M.meaning first self.new) }
     {
         for step in steps {
             self.step(step)?;
@@ -420,7 +427,7 @@ impl<'a, M: Fused> Player<'a, M> {
     fn ask(&mut self, conn: ConnectionId, item: &Item) -> Result<Asked, AllocError>
         ensures asks { IfOk result (λ asked. (s : Scene) → Follows M.meaning self.old s → (after : Scene) × Follows M.meaning self.new after × (follow M.meaning.next conn item.now asked after ≡ enter M.meaning.next conn item.now s)) }
         ensures core { self.new.core ≡ self.old.core }
-        ensures tells { OnOk result (Tells M.meaning self.old → Tells M.meaning self.new) }
+        ensures tells { OnOk result ((first : M) → Tells M.meaning first self.old → Tells M.meaning first self.new) }
     {
         ask_in(&mut self.sockets, self.alloc, conn.0, item)
     }
@@ -429,7 +436,7 @@ impl<'a, M: Fused> Player<'a, M> {
     fn follow(&mut self, conn: ConnectionId, item: Item, asked: Asked) -> Result<(), AllocError>
         ensures follows { OnOk result (M.meaning.is_failed self.new.core ≡ false → (s : Scene) → Follows M.meaning self.old s → Follows M.meaning self.new (follow M.meaning.next conn item asked s)) }
         ensures stays { M.meaning.is_failed self.old.core ≡ true → M.meaning.is_failed self.new.core ≡ true }
-        ensures tells { OnOk result (Tells M.meaning self.old → Tells M.meaning self.new) }
+        ensures tells { OnOk result ((first : M) → Tells M.meaning first self.old → Tells M.meaning first self.new) }
     {
         match asked {
             Asked::Nobody => {
@@ -453,7 +460,7 @@ impl<'a, M: Fused> Player<'a, M> {
     fn pass(&mut self, conn: ConnectionId, peer: Peer, item: Item) -> Result<(), AllocError>
         ensures follows { OnOk result (M.meaning.is_failed self.new.core ≡ false → (s : Scene) → Follows M.meaning self.old s → Follows M.meaning self.new (hand M.meaning.next (event.Item conn item) (hand M.meaning.next (event.Up conn peer) s))) }
         ensures stays { M.meaning.is_failed self.old.core ≡ true → M.meaning.is_failed self.new.core ≡ true }
-        ensures tells { OnOk result (Tells M.meaning self.old → Tells M.meaning self.new) }
+        ensures tells { OnOk result ((first : M) → Tells M.meaning first self.old → Tells M.meaning first self.new) }
     {
         self.hand(Event::Up(conn, peer))?;
         self.hand(Event::Item(conn, item))
@@ -463,7 +470,7 @@ impl<'a, M: Fused> Player<'a, M> {
     fn say_end(&mut self, conn: ConnectionId, items: &[Item]) -> Result<(), AllocError>
         ensures said { OnOk result (Said self.old self.new (map (out_line conn) items.now ++ line.End conn ∷ [])) }
         ensures core { self.new.core ≡ self.old.core }
-        ensures tells { OnOk result (Tells M.meaning self.old → Tells M.meaning self.new) }
+        ensures tells { OnOk result ((first : M) → Tells M.meaning first self.old → Tells M.meaning first self.new) }
     {
         self.say_all(conn, items)?;
         self.say(Line::End { conn })

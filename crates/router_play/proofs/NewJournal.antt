@@ -10,9 +10,10 @@ use Rattle.route_table.specs.Settings.{Settings}
 use Rattle.journal_store.specs.declared.store.Store.{Store}
 use Rattle.journal_store.specs.Store.{OpensTo, Stands, disk_of, used_of, count_of}
 use Rattle.journal_store.proofs.Opened.{opens_to_one}
-use Rattle.router_trace.specs.Configuration.{beginning}
+use Rattle.router_trace.specs.Trace.{Beginning}
 use Rattle.router_core.specs.declared.router.Core.{Core}
-use Rattle.router_core.specs.Handling.{Fits, store_of, kept_book}
+use Rattle.router_core.specs.Handling.{store_of, kept_book}
+use Rattle.router_core.specs.Machine.{opening_of}
 use Rattle.router_play.specs.Script.{new_router}
 
 pub is_empty : (file : List ℕ) (b : BookView) → Holds file [] → OpensTo file b → b ≡ empty_book
@@ -30,10 +31,12 @@ is_new file s holds same stands =
       stands.keeps.count ∙ ap length none,
     )
 
-pub fits_new : {D : Type 0} (core : Core D) (config : Settings) → kept_book core ≡ empty_book → used_of (store_of core) ≡ 9 → count_of (store_of core) ≡ 0
-    → Fits core (beginning (record { routing = routing_of config; book = kept_book core; used = used_of (store_of core); batches = count_of (store_of core) }))
-    → Fits core (beginning (new_router config))
-fits_new core config book used batches fits =
-    subst (λ (n : ℕ). Fits core (beginning (record { routing = routing_of config; book = empty_book; used = 9; batches = n }))) batches
-    (subst (λ (n : ℕ). Fits core (beginning (record { routing = routing_of config; book = empty_book; used = n; batches = count_of (store_of core) }))) used
-    (subst (λ (b : BookView). Fits core (beginning (record { routing = routing_of config; book = b; used = used_of (store_of core); batches = count_of (store_of core) }))) book fits))
+abbrev pub begun_with : Settings → BookView → ℕ → ℕ → Beginning
+begun_with config book used batches = record { routing = routing_of config; book = book; used = used; batches = batches }
+
+pub opening_new : {D : Type 0} (core : Core D) (config : Settings) → kept_book core ≡ empty_book → used_of (store_of core) ≡ 9 → count_of (store_of core) ≡ 0
+    → opening_of config core ≡ new_router config
+opening_new core config book used batches =
+    ap (λ (b : BookView). begun_with config b (used_of (store_of core)) (count_of (store_of core))) book
+    ∙ ap (λ (n : ℕ). begun_with config empty_book n (count_of (store_of core))) used
+    ∙ ap (λ (n : ℕ). begun_with config empty_book 9 n) batches

@@ -1,9 +1,9 @@
 //! Plays the runs of a script.
 ghost use Rattle.std.specs.Prelude.{◌≡◌, ◌∷◌, ◌++◌, List, [], length, None, map, false, OnOk, IfOk};
-ghost use Rattle.router_trace.specs.Configuration.{beginning};
+ghost use Rattle.core_machine.specs.Opened.{IsOpened};
 ghost use Rattle.journal_store.specs.Store.{count_of};
 ghost use Rattle.router_reply.specs.Acts.{journaled};
-ghost use Rattle.router_core.specs.Handling.{Fits, id_of, is_failed, store_of, kept_book};
+ghost use Rattle.router_core.specs.Handling.{id_of, is_failed, store_of, kept_book};
 ghost use Rattle.core_player.specs.declared.line.Line.{Line as ALine};
 ghost use Rattle.router_play.specs.Script.{Scene, new_router, opening, Plays, PlaysAll, no_book, book_line};
 ghost use Rattle.router_play.specs.Carrying.{RunsCarry};
@@ -11,6 +11,7 @@ ghost use Rattle.router_play.specs.Ending.{TellsOf, size_line};
 
 use crate::finish::{Ended, Size, graver};
 use crate::script::{Report, Run};
+use core_machine::Machine;
 use core_player::{Line, play};
 use disk_core::{FuseDisk, MemDisk};
 use gate_journal::format;
@@ -99,7 +100,7 @@ fn size_of(core: &Core<FuseDisk<MemDisk>>) -> Size
 
 /// A router in memory, with a new journal.
 fn opened(alloc: Global, config: &Config) -> Result<Core<FuseDisk<MemDisk>>, AllocError>
-    ensures fits { IfOk result (λ core. Fits core (beginning (new_router config.now))) }
+    ensures opened { IfOk result (λ core. IsOpened ⟦<Core<FuseDisk<MemDisk>> as Machine>⟧.meaning (new_router config.now) core) }
     ensures works { IfOk result (λ core. is_failed core ≡ false) }
     ensures named { IfOk result (λ core. id_of core ≡ config.now.router_id) }
 {

@@ -7,10 +7,10 @@ use Rattle.router_play.proofs.runs.play_run.Goals as goal
 
 pub returns-clause-plays : goal.returns-clause-plays
 returns-clause-plays c = λ none.
-    let r = c.in_ok-played.ensures.plays none (new_router c.args.config.now) (record { fits = c.in_ok-core.ensures.fits; named = c.in_ok-core.ensures.named })
+    let r = c.in_ok-played.ensures.plays none c.in_ok-core.ensures.named (new_router c.args.config.now) c.in_ok-core.ensures.opened
     in (
       r.0,
       subst (λ (ys : List Step). Plays ys (opening c.args.config.now) r.0) c.deref.ensures.value (subst (λ (s : Scene). Plays c.deref.result.now s r.0) (opening_is c.args.config.now) r.1),
       r.2,
-      size_told c.in_ok-played.played.core r.0.trace c.size_of.result c.size_of.ensures.rows c.size_of.ensures.termini c.size_of.ensures.batches r.3,
+      size_told c.in_ok-played.played.core r.0.trace c.size_of.result c.size_of.ensures.rows c.size_of.ensures.termini c.size_of.ensures.batches r.3.0,
     )

@@ -9,5 +9,5 @@ invariant-loop-item g l = record {
   follows : g.M.Machine.meaning.is_failed l.self.core ≡ false → (s : Scene) → Follows g.M.Machine.meaning l.fn.self s → (u : Scene) × Follows g.M.Machine.meaning l.self u
       × (enter_all g.M.Machine.meaning.next l.conn (into_iter_items l.item-iterator) u ≡ enter_all g.M.Machine.meaning.next l.conn l.fn.items.items s);
   stays : g.M.Machine.meaning.is_failed l.fn.self.core ≡ true → g.M.Machine.meaning.is_failed l.self.core ≡ true;
-  tells : Tells g.M.Machine.meaning l.fn.self → Tells g.M.Machine.meaning l.self;
+  tells : (first : _) → Tells g.M.Machine.meaning first l.fn.self → Tells g.M.Machine.meaning first l.self;
 }

@@ -8,5 +8,5 @@ abbrev pub invariant-loop-turn : goal.invariant-loop-turn
 invariant-loop-turn g l = record {
   follows : g.M.Machine.meaning.is_failed l.self.core ≡ false → (s : Scene) → Follows g.M.Machine.meaning l.fn.self s → (takes : List Taking) × AllInTurn takes s × Follows g.M.Machine.meaning l.self (take_all takes s);
   stays : g.M.Machine.meaning.is_failed l.fn.self.core ≡ true → g.M.Machine.meaning.is_failed l.self.core ≡ true;
-  tells : Tells g.M.Machine.meaning l.fn.self → Tells g.M.Machine.meaning l.self;
+  tells : (first : _) → Tells g.M.Machine.meaning first l.fn.self → Tells g.M.Machine.meaning first l.self;
 }

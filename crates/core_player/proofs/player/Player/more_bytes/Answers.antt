@@ -28,5 +28,5 @@ loop-behind-preserved g c =
           (let read = c.in_ok-read.ensures.reads a.0 a.4 in rw c.in-Some.is at read) (c.in_ok-enter_all-in-Some.ensures.follows works)
           in (x.0, a.1 ++ c.split_at.result.0.now, append_assoc a.1 c.split_at.result.0.now c.split_at.result.1.now ∙ ap (λ bs. a.1 ++ bs) (sym cut) ∙ a.2, x.1, x.2);
       stays = λ h. c.enter_all.ensures.stays (ap g.M.Machine.meaning.is_failed c.read.ensures.core ∙ c.loop-behind.invariant.stays h);
-      tells = λ h. c.in_ok-enter_all-in-Some.ensures.tells (c.in_ok-read.ensures.tells (c.loop-behind.invariant.tells h));
+      tells = λ first h. c.in_ok-enter_all-in-Some.ensures.tells first (c.in_ok-read.ensures.tells first (c.loop-behind.invariant.tells first h));
     }

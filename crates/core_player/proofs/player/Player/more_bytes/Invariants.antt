@@ -11,7 +11,7 @@ invariant-loop-behind g l = record {
   continues : g.M.Machine.meaning.is_failed l.self.core ≡ false → (s v : Scene) (k : Socket) (before : List ℕ) → s.sockets l.conn.0 ≡ Some k → Reads g.M.Machine.meaning.next l.conn before s k false v → Follows g.M.Machine.meaning l.fn.self v
       → (u : Scene) × (done : List ℕ) × (done ++ l.behind ≡ before ++ l.bytes) × Reads g.M.Machine.meaning.next l.conn done s k false u × Follows g.M.Machine.meaning l.self u;
   stays : g.M.Machine.meaning.is_failed l.fn.self.core ≡ true → g.M.Machine.meaning.is_failed l.self.core ≡ true;
-  tells : Tells g.M.Machine.meaning l.fn.self → Tells g.M.Machine.meaning l.self;
+  tells : (first : _) → Tells g.M.Machine.meaning first l.fn.self → Tells g.M.Machine.meaning first l.self;
 }
 
 abbrev pub decreases-loop-behind : goal.decreases-loop-behind

@@ -10,5 +10,5 @@ loop-step-preserved g c = record {
       in let d = c.in_ok-flush.ensures.follows works b.0 b.2
       in (d.0, d.2, λ u rest. a.2 u (plays_more g.M.Machine.meaning.next c.args.steps.now c.loop-step.step-index c.step-item.result a.0 b.0 d.0 u c.step-item.is c.loop-step-test.true b.1 d.1 rest));
   stays = λ h. c.flush.ensures.stays (c.step.ensures.stays (c.loop-step.invariant.stays h));
-  tells = λ h. c.in_ok-flush.ensures.tells (c.in_ok-step.ensures.tells (c.loop-step.invariant.tells h));
+  tells = λ first h. c.in_ok-flush.ensures.tells first (c.in_ok-step.ensures.tells first (c.loop-step.invariant.tells first h));
 }

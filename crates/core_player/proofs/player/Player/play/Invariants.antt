@@ -9,5 +9,5 @@ invariant-loop-step g l = record {
   follows : g.M.Machine.meaning.is_failed l.self.core ≡ false → (s : Scene) → Follows g.M.Machine.meaning l.fn.self s → (m : Scene) × Follows g.M.Machine.meaning l.self m
       × ((u : Scene) → Plays g.M.Machine.meaning.next (drop l.step-index l.steps) m u → Plays g.M.Machine.meaning.next l.steps s u);
   stays : g.M.Machine.meaning.is_failed l.fn.self.core ≡ true → g.M.Machine.meaning.is_failed l.self.core ≡ true;
-  tells : Tells g.M.Machine.meaning l.fn.self → Tells g.M.Machine.meaning l.self;
+  tells : (first : _) → Tells g.M.Machine.meaning first l.fn.self → Tells g.M.Machine.meaning first l.self;
 }

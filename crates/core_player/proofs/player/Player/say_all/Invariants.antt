@@ -11,5 +11,5 @@ invariant-loop-item g l = record {
   config : l.self.config ≡ l.fn.self.config;
   sockets : l.self.sockets ≡ l.fn.self.sockets;
   last : l.self.newest ≡ l.fn.self.newest;
-  tells : Tells g.M.Machine.meaning l.fn.self → Tells g.M.Machine.meaning l.self;
+  tells : (first : _) → Tells g.M.Machine.meaning first l.fn.self → Tells g.M.Machine.meaning first l.self;
 }

@@ -23,4 +23,5 @@ returns-clause-leaves g c =
     (c.handle.ensures.any_moment t f keeps.0)
 
 pub returns-clause-started : goal.returns-clause-started
-returns-clause-started g c = on_ok c.handle.result (λ taken t f. started_handled (id_of c.args.self.now) t c.args.event (taken t f)) c.handle.ensures.taken
+returns-clause-started g c =
+    on_ok c.handle.result (λ taken t f. started_handled (id_of c.args.self.now) t c.args.event (taken t f)) c.handle.ensures.taken
