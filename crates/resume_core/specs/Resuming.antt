@@ -117,6 +117,9 @@ listed_entry tag told outcome = Some (map_entry tag outcome)
 abbrev pub consumer_entry : List UnsettledDelivery → Row → Option UnsettledDelivery
 consumer_entry theirs r = listed_entry (row_tag r) (is_told_of theirs r) (outcome_after theirs r)
 
+abbrev pub is_listed : List UnsettledDelivery → Row → Bool
+is_listed theirs r = is_some (consumer_entry theirs r)
+
 -- How a row is sent: by whether the map is complete, whether it has the row, and the row's outcome after the attach. Of a row that an
 -- incomplete map lacks nothing is known, so it isn't sent.
 abbrev pub resumed_as : Bool → Bool → Option DeliveryState → Option Resumed
