@@ -1,8 +1,8 @@
 -- Lists that keep some elements of others.
 use Rattle.std.proofs.Common.{◌≡◌, Bool, true, false, cond, List, [], ◌∷◌, Option, Some, None, refl, ap, ◌∙◌}
-use Rattle.std.specs.Prelude.{is_some, map, filter, filter_map, All}
+use Rattle.std.specs.Prelude.{is_some, map, filter, filter_map, find, All}
 use Rattle.std.specs.List.{cons_option, IsDistinct, AllByRecursion}
-use Rattle.std.proofs.lemmas.List.Elements.{All-nil, All-cons}
+use Rattle.std.proofs.lemmas.List.Elements.{All-nil, All-cons, All-head, All-tail}
 
 -- what is given of some elements, by a figure of what is given and of the element
 given_first : {X Y Z : Type 0} (f : Y → Z) (g : X → Z) (x : X) (o : Option Y) (ys : List Y) (xs : List X)
@@ -75,3 +75,32 @@ all_first P (Some y) ys holds rest = All-cons P y ys (holds y refl) rest
 pub all_given : {X Y : Type 0} (P : Y → Type 0) (give : X → Option Y) → ((x : X) (y : Y) → give x ≡ Some y → P y) → (xs : List X) → All P (filter_map give xs)
 all_given P give holds [] = All-nil P
 all_given P give holds (x ∷ xs) = all_first P (give x) (filter_map give xs) (holds x) (all_given P give holds xs)
+
+-- a search in the elements that pass a test finds what it finds in all, if what it looks for passes
+find_first : {X : Type 0} (x : X) (own looked : Bool) (test : X → Bool) (kept all : List X) → test x ≡ looked → (looked ≡ true → own ≡ true)
+    → find test kept ≡ find test all → find test (cond own (x ∷ kept) kept) ≡ cond looked (Some x) (find test all)
+find_first x true looked test kept all is implies rest = ap (λ b. cond b (Some x) (find test kept)) is ∙ ap (λ o. cond looked (Some x) o) rest
+find_first x false true test kept all is implies rest = let no : false ≡ true = implies refl in cc
+find_first x false false test kept all is implies rest = rest
+
+pub find_among : {X : Type 0} (test own : X → Bool) → ((x : X) → test x ≡ true → own x ≡ true) → (xs : List X) → find test (filter own xs) ≡ find test xs
+find_among test own implies [] = refl
+find_among test own implies (x ∷ xs) = find_first x (own x) (test x) test (filter own xs) xs refl (implies x) (find_among test own implies xs)
+
+-- lists by two tests, or by two ways to give, that agree on the elements
+pub same_kept : {X : Type 0} (p q : X → Bool) (xs : List X) → All (λ x. p x ≡ q x) xs → filter p xs ≡ filter q xs
+same_kept p q [] same = refl
+same_kept p q (x ∷ xs) same =
+    ap (λ b. cond b (x ∷ filter p xs) (filter p xs)) (All-head (λ y. p y ≡ q y) x xs same)
+    ∙ ap (λ ys. cond (q x) (x ∷ ys) ys) (same_kept p q xs (All-tail (λ y. p y ≡ q y) x xs same))
+
+pub same_given : {X Y : Type 0} (f g : X → Option Y) (xs : List X) → All (λ x. f x ≡ g x) xs → filter_map f xs ≡ filter_map g xs
+same_given f g [] same = refl
+same_given f g (x ∷ xs) same =
+    ap (λ o. cons_option o (filter_map f xs)) (All-head (λ y. f y ≡ g y) x xs same)
+    ∙ ap (λ ys. cons_option (g x) ys) (same_given f g xs (All-tail (λ y. f y ≡ g y) x xs same))
+
+-- what holds of each follows from what holds of each
+pub each : {X : Type 0} (P Q : X → Type 0) → ((x : X) → P x → Q x) → (xs : List X) → All P xs → All Q xs
+each P Q implies [] all = All-nil Q
+each P Q implies (x ∷ xs) all = All-cons Q x xs (implies x (All-head P x xs all)) (each P Q implies xs (All-tail P x xs all))

@@ -20,8 +20,8 @@ use Rattle.router_trace.specs.Deliveries.{eight_bytes, terminal}
 use Rattle.router_trace.specs.DeliveryFrames.{kept_outcome}
 use Rattle.resume_core.specs.declared.consumer.Resumed.{Resumed}
 use Rattle.resume_core.specs.declared.consumer.Sending.{Sending}
-use Rattle.resume_core.specs.Resuming.{is_unforgotten, is_forgotten_by, is_unsettled_after, is_due, is_decided_by, is_sent, forgotten_rows, producer_map, due_tags, producer_entry, row_tag, is_told_of, told_of, told_in, outcome_told, outcome_given, decided_by, decision_of, outcome_after, listed_entry, resumed_as, consumer_entry, sent_as, sending_of, decisions, consumer_map, sendings, map_entry}
-use Rattle.resume_core.proofs.Kept.{given_of, all_given, same_tests, no_tests, fewer_apart, all_pass, twice}
+use Rattle.resume_core.specs.Resuming.{is_unforgotten, is_forgotten_by, is_unsettled_after, is_due, is_decided_by, is_sent, forgotten_rows, producer_map, due_tags, producer_entry, row_tag, is_told_of, told_of, told_in, outcome_told, outcome_given, decided_by, decision_of, outcome_after, listed_entry, resumed_as, consumer_entry, is_listed, either_outcome, sent_as, sending_of, decisions, consumer_map, sendings, map_entry}
+use Rattle.resume_core.proofs.Kept.{given_of, all_given, find_among, same_kept, same_given, each, same_tests, no_tests, fewer_apart, all_pass, twice}
 
 -- Producers' rows.
 
@@ -56,6 +56,10 @@ complete_agrees theirs rows =
     ap (map (λ r. r.tag)) (same_tests (is_due true theirs) (is_unsettled_after true theirs) (λ r. told_too r.forgotten (is_some (told_in theirs r.tag.items))) rows)
     ∙ sym (twice producer_entry (λ d. d.tag) (filter (is_unsettled_after true theirs) rows))
 
+pub kept_rows : (complete : Bool) (theirs : List UnsettledDelivery) (rows : List Row)
+    → map (λ d. d.tag.items) (producer_map complete theirs rows) ≡ map (λ r. r.tag.items) (filter (is_unsettled_after complete theirs) rows)
+kept_rows complete theirs rows = twice producer_entry (λ d. d.tag.items) (filter (is_unsettled_after complete theirs) rows)
+
 first_true : (a b : Bool) → (a && b) ≡ true → a ≡ true
 first_true true b h = refl
 first_true false b h = h
@@ -64,7 +68,7 @@ pub producer_apart : (complete : Bool) (theirs : List UnsettledDelivery) (rows :
     → IsDistinct same_bytes (map (λ r. r.tag.items) (filter is_unforgotten rows))
     → IsDistinct same_bytes (map (λ d. d.tag.items) (producer_map complete theirs rows))
 producer_apart complete theirs rows apart =
-    subst (IsDistinct same_bytes) (sym (twice producer_entry (λ d. d.tag.items) (filter (is_unsettled_after complete theirs) rows)))
+    subst (IsDistinct same_bytes) (sym (kept_rows complete theirs rows))
     (fewer_apart same_bytes (λ r. r.tag.items) is_unforgotten (is_unsettled_after complete theirs) (λ r. first_true (is_unforgotten r) (not (is_forgotten_by complete theirs r))) rows apart)
 
 -- Consumers' rows.
@@ -112,6 +116,12 @@ tags_listed : (theirs : List UnsettledDelivery) (rows : List Row)
 tags_listed theirs rows =
     given_of (consumer_entry theirs) (λ d. d.tag.items) row_tag (is_sent true theirs)
     (λ r. listed_if_sent (row_tag r) (is_told_of theirs r) (outcome_after theirs r))
+    (λ r. tag_listed (row_tag r) (is_told_of theirs r) (outcome_after theirs r)) rows
+
+pub listed_rows : (theirs : List UnsettledDelivery) (rows : List Row)
+    → map (λ d. d.tag.items) (consumer_map theirs rows) ≡ map row_tag (filter (is_listed theirs) rows)
+listed_rows theirs rows =
+    given_of (consumer_entry theirs) (λ d. d.tag.items) row_tag (is_listed theirs) (λ r. refl)
     (λ r. tag_listed (row_tag r) (is_told_of theirs r) (outcome_after theirs r)) rows
 
 pub complete_sends : (theirs : List UnsettledDelivery) (rows : List Row)
@@ -179,3 +189,54 @@ given_short r told None d e = kept_short r (outcome_told told) (told_terminal to
 
 pub decisions_short : (theirs : List UnsettledDelivery) (rows : List Row) → All (λ d. length (state_spelling d.outcome) ≤ 400) (decisions theirs rows)
 decisions_short theirs rows = all_given (λ d. length (state_spelling d.outcome) ≤ 400) (decision_of theirs) (λ r. given_short r (told_of theirs r) r.outcome) rows
+
+-- Entries of other tags.
+
+abbrev pub HasOwn : (UnsettledDelivery → Bool) → List ℕ → Type 0
+HasOwn own tag = (d : UnsettledDelivery) → d.tag.items ≡ tag → own d ≡ true
+
+told_among : (own : UnsettledDelivery → Bool) (theirs : List UnsettledDelivery) (tag : List ℕ) → HasOwn own tag → told_in (filter own theirs) tag ≡ told_in theirs tag
+told_among own theirs tag has = find_among (λ d. same_bytes d.tag.items tag) own (λ d same. has d ((bytes_eq-Decides d.tag.items tag).0 same)) theirs
+
+pub forgotten_among : (own : UnsettledDelivery → Bool) (complete : Bool) (theirs : List UnsettledDelivery) (rows : List Row)
+    → All (λ r. HasOwn own r.tag.items) rows → forgotten_rows complete (filter own theirs) rows ≡ forgotten_rows complete theirs rows
+forgotten_among own complete theirs rows has =
+    ap (map (λ r. r.number)) (same_kept (is_forgotten_by complete (filter own theirs)) (is_forgotten_by complete theirs) rows
+    (each (λ r. HasOwn own r.tag.items) (λ r. is_forgotten_by complete (filter own theirs) r ≡ is_forgotten_by complete theirs r)
+    (λ r h. ap (λ told. complete && (is_unforgotten r && not (is_some told))) (told_among own theirs r.tag.items h)) rows has))
+
+pub kept_among : (own : UnsettledDelivery → Bool) (complete : Bool) (theirs : List UnsettledDelivery) (rows : List Row)
+    → All (λ r. HasOwn own r.tag.items) rows → producer_map complete (filter own theirs) rows ≡ producer_map complete theirs rows
+kept_among own complete theirs rows has =
+    ap (map producer_entry) (same_kept (is_unsettled_after complete (filter own theirs)) (is_unsettled_after complete theirs) rows
+    (each (λ r. HasOwn own r.tag.items) (λ r. is_unsettled_after complete (filter own theirs) r ≡ is_unsettled_after complete theirs r)
+    (λ r h. ap (λ told. is_unforgotten r && not (complete && (is_unforgotten r && not (is_some told)))) (told_among own theirs r.tag.items h)) rows has))
+
+pub due_among : (own : UnsettledDelivery → Bool) (complete : Bool) (theirs : List UnsettledDelivery) (rows : List Row)
+    → All (λ r. HasOwn own r.tag.items) rows → due_tags complete (filter own theirs) rows ≡ due_tags complete theirs rows
+due_among own complete theirs rows has =
+    ap (map (λ r. r.tag)) (same_kept (is_due complete (filter own theirs)) (is_due complete theirs) rows
+    (each (λ r. HasOwn own r.tag.items) (λ r. is_due complete (filter own theirs) r ≡ is_due complete theirs r)
+    (λ r h. ap (λ told. (is_unforgotten r && not (complete && (is_unforgotten r && not (is_some told)))) && is_some told) (told_among own theirs r.tag.items h)) rows has))
+
+pub decided_among : (own : UnsettledDelivery → Bool) (theirs : List UnsettledDelivery) (rows : List Row)
+    → All (λ r. HasOwn own (row_tag r)) rows → decisions (filter own theirs) rows ≡ decisions theirs rows
+decided_among own theirs rows has =
+    same_given (decision_of (filter own theirs)) (decision_of theirs) rows
+    (each (λ r. HasOwn own (row_tag r)) (λ r. decision_of (filter own theirs) r ≡ decision_of theirs r)
+    (λ r h. ap (λ told. option_map (λ (outcome : DeliveryState). record { row = r.number; outcome = outcome }) (outcome_given told r.outcome)) (told_among own theirs (row_tag r) h)) rows has)
+
+pub listed_among : (own : UnsettledDelivery → Bool) (theirs : List UnsettledDelivery) (rows : List Row)
+    → All (λ r. HasOwn own (row_tag r)) rows → consumer_map (filter own theirs) rows ≡ consumer_map theirs rows
+listed_among own theirs rows has =
+    same_given (consumer_entry (filter own theirs)) (consumer_entry theirs) rows
+    (each (λ r. HasOwn own (row_tag r)) (λ r. consumer_entry (filter own theirs) r ≡ consumer_entry theirs r)
+    (λ r h. ap (λ told. listed_entry (row_tag r) (is_some told) (either_outcome r.outcome (outcome_given told r.outcome))) (told_among own theirs (row_tag r) h)) rows has)
+
+pub sent_among : (own : UnsettledDelivery → Bool) (complete : Bool) (theirs : List UnsettledDelivery) (rows : List Row)
+    → All (λ r. HasOwn own (row_tag r)) rows → sendings complete (filter own theirs) rows ≡ sendings complete theirs rows
+sent_among own complete theirs rows has =
+    same_given (sending_of complete (filter own theirs)) (sending_of complete theirs) rows
+    (each (λ r. HasOwn own (row_tag r)) (λ r. sending_of complete (filter own theirs) r ≡ sending_of complete theirs r)
+    (λ r h. ap (λ told. option_map (λ (how : Resumed). record { row = r.number; how = how }) (resumed_as complete (is_some told) (either_outcome r.outcome (outcome_given told r.outcome))))
+    (told_among own theirs (row_tag r) h)) rows has)
