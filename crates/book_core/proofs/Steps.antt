@@ -32,7 +32,7 @@ use Rattle.book_model.specs.Book.{BookView, row_at, terminus_at, with_row, unles
 use Rattle.book_core.specs.Rising.{Rises, IsAt}
 use Rattle.book_core.specs.Slots.{rows_in, termini_in}
 use Rattle.book_core.specs.Table.{before}
-use Rattle.book_core.specs.Tables.{Shows, row_number, terminus_number, shown_by, IsSettled, IsWhole, IsSwept, SameBefore}
+use Rattle.book_core.specs.Tables.{Shows, IsNew, row_number, terminus_number, shown_by, IsSettled, IsWhole, IsSwept, SameBefore}
 use Rattle.book_core.proofs.Looked.{row_found, terminus_found}
 use Rattle.book_core.proofs.Shown as shown
 use Rattle.std.proofs.lemmas.Bool.Decides.{nat_tests}
@@ -83,7 +83,7 @@ equal a b h = grind (arith, nat_tests)
 pub makes_next : (b : BookView) (t : Terminus) → make_refusal b t ≡ None → t.number.0 ≡ b.next_terminus
 makes_next b t h = equal _ _ (first_holds (t.number.0 == b.next_terminus) _ _ h)
 
-pub admits_new : (b : BookView) (a : Admission) → admit_refusal b a ≡ None → list_any (has_tag a.producer.0 a.tag.items) b.rows ≡ false
+admits_new : (b : BookView) (a : Admission) → admit_refusal b a ≡ None → list_any (has_tag a.producer.0 a.tag.items) b.rows ≡ false
 admits_new b a h =
     let full = unless (nat_lt (length b.rows) 4096) Limit (unless (nat_lt (count_by (is_from a.producer.0) b.rows) 64) Limit (unless (nat_lt (undecided_for a.consumer b.rows) 64) Limit (unless (nat_le (length a.payload) 65536) Limit None))) in
     let taken = unless (not (list_any (has_tag a.producer.0 a.tag.items) b.rows)) TagInUse full in
@@ -109,8 +109,11 @@ makes_new b t h =
     let new = unless (not (list_any (λ (u : Terminus). same_key u.key t.key) b.termini)) NoTerminus short in
     not_true _ (first_holds _ NoTerminus short (then_holds (t.number.0 == b.next_terminus) NoTerminus new h))
 
-pub admits_next : (b : BookView) (a : Admission) → admit_refusal b a ≡ None → a.row.0 ≡ b.next_row
+admits_next : (b : BookView) (a : Admission) → admit_refusal b a ≡ None → a.row.0 ≡ b.next_row
 admits_next b a h = equal _ _ (first_holds (a.row.0 == b.next_row) _ _ (then_holds _ _ _ (then_holds _ _ _ h)))
+
+pub admits : (b : BookView) (a : Admission) → admit_refusal b a ≡ None → IsNew b a
+admits b a h = record { next = admits_next b a h; free = admits_new b a h }
 
 -- a place that is read with one default reads the same with any
 read_at : {S : Type 0} (xs : List S) (at : ℕ) (x d : S) → at < length xs → x ≡ get_or xs at x → get_or xs at d ≡ x
@@ -240,12 +243,12 @@ terminus_comes t keys termini next count b slot made s is number applies more co
 -- a row that is admitted
 pub row_admitted : (t : Tables) (index : RowIndex) (rows : Table RowSlot) (next count : ℕ) (b : BookView) (slot : RowSlot) (a : Admission)
     → Shows t b → slot.row ≡ Some (admitted a) → slot.number ≡ a.row.0 → next ≡ t.counters.next_row + 1 → count ≡ t.counters.rows + 1 → rows.slots.items ≡ t.rows.slots.items ++ slot ∷ []
-    → admit_refusal b a ≡ None
+    → IsNew b a
     → ((rs : List Row) → IsIndexed t.index rs → list_any (has_tag a.producer.0 a.tag.items) rs ≡ false → IsIndexed index (rs ++ admitted a ∷ []))
     → Shows (record t { index = index; rows = rows; counters = record t.counters { next_row = next; rows = count } }) (effect b (Admit a))
-row_admitted t index rows next count b slot a s is number more counted e applies indexed =
-    let same : row_number slot ≡ t.counters.next_row = number ∙ admits_next b a applies ∙ sym s.next_row in
-    let free : list_any (has_tag a.producer.0 a.tag.items) (rows_in t.rows.slots.items) ≡ false = ap (list_any (has_tag a.producer.0 a.tag.items)) s.rows ∙ admits_new b a applies in
+row_admitted t index rows next count b slot a s is number more counted e new indexed =
+    let same : row_number slot ≡ t.counters.next_row = number ∙ new.next ∙ sym s.next_row in
+    let free : list_any (has_tag a.producer.0 a.tag.items) (rows_in t.rows.slots.items) ≡ false = ap (list_any (has_tag a.producer.0 a.tag.items)) s.rows ∙ new.free in
     let seen : rows_in rows.slots.items ≡ rows_in t.rows.slots.items ++ admitted a ∷ [] = ap rows_in e ∙ shown.shown_more (λ (s : RowSlot). s.row) t.rows.slots.items slot (admitted a) is in
     record {
       termini = s.termini;

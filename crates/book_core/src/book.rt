@@ -18,7 +18,7 @@ use std::marker::Model;
 /// The book of a router: the termini of its durable links and the deliveries that it has admitted.
 #[derive(Drop)]
 pub struct Book {
-    tables: Tables,
+    pub(crate) tables: Tables,
 }
 
 impl Model for Book {
