@@ -29,6 +29,7 @@ use Rattle.book_model.specs.declared.act.Admission.{Admission}
 use Rattle.book_core.specs.declared.table.Table.{Table}
 use Rattle.book_core.specs.declared.tables.Tables.{Tables}
 use Rattle.book_model.specs.Book.{BookView, row_at, terminus_at, with_row, unless, make_refusal, admit_refusal, forget_refusal, decide_refusal, is_undecided, same_key, has_short_texts, admitted, decided, forgotten, has_tag, effect, is_from, undecided_for, may_bind, has_role}
+use Rattle.book_model.specs.Sound.{IsSound}
 use Rattle.book_core.specs.Rising.{Rises, IsAt}
 use Rattle.book_core.specs.Slots.{rows_in, termini_in}
 use Rattle.book_core.specs.Table.{before}
@@ -83,7 +84,7 @@ equal a b h = grind (arith, nat_tests)
 pub makes_next : (b : BookView) (t : Terminus) → make_refusal b t ≡ None → t.number.0 ≡ b.next_terminus
 makes_next b t h = equal _ _ (first_holds (t.number.0 == b.next_terminus) _ _ h)
 
-admits_new : (b : BookView) (a : Admission) → admit_refusal b a ≡ None → list_any (has_tag a.producer.0 a.tag.items) b.rows ≡ false
+pub admits_new : (b : BookView) (a : Admission) → admit_refusal b a ≡ None → list_any (has_tag a.producer.0 a.tag.items) b.rows ≡ false
 admits_new b a h =
     let full = unless (nat_lt (length b.rows) 4096) Limit (unless (nat_lt (count_by (is_from a.producer.0) b.rows) 64) Limit (unless (nat_lt (undecided_for a.consumer b.rows) 64) Limit (unless (nat_le (length a.payload) 65536) Limit None))) in
     let taken = unless (not (list_any (has_tag a.producer.0 a.tag.items) b.rows)) TagInUse full in
@@ -109,7 +110,7 @@ makes_new b t h =
     let new = unless (not (list_any (λ (u : Terminus). same_key u.key t.key) b.termini)) NoTerminus short in
     not_true _ (first_holds _ NoTerminus short (then_holds (t.number.0 == b.next_terminus) NoTerminus new h))
 
-admits_next : (b : BookView) (a : Admission) → admit_refusal b a ≡ None → a.row.0 ≡ b.next_row
+pub admits_next : (b : BookView) (a : Admission) → admit_refusal b a ≡ None → a.row.0 ≡ b.next_row
 admits_next b a h = equal _ _ (first_holds (a.row.0 == b.next_row) _ _ (then_holds _ _ _ (then_holds _ _ _ h)))
 
 pub admits : (b : BookView) (a : Admission) → admit_refusal b a ≡ None → IsNew b a
@@ -326,8 +327,8 @@ swept_rows xs ys e = rw e (record {
 pub shown_is : (t : Tables) (b : BookView) → Shows t b → shown_by t ≡ b
 shown_is t b s = λ i. record { termini = s.termini i; rows = s.rows i; next_terminus = s.next_terminus i; next_row = s.next_row i }
 
-pub whole : (t : Tables) (b : BookView) → Shows t b → IsSettled t → IsWhole t
-whole t b s settled = record {
+pub whole : (t : Tables) (b : BookView) → Shows t b → IsSettled t → IsSound b → IsWhole t
+whole t b s settled sound = record {
   shows = record {
     termini = refl;
     rows = refl;
@@ -343,6 +344,7 @@ whole t b s settled = record {
     row_count = s.row_count;
   };
   settled = settled;
+  sound = subst IsSound (sym (shown_is t b s)) sound;
 }
 
 -- an index whose changes since it was settled are undone
@@ -380,4 +382,4 @@ undone_whole t ran u w same termini rows keys index counters settled =
       indexed = rw f (index_back t.index ran.index u.index (rows_in t.rows.slots.items) w.settled.index same.index index s.indexed);
       terminus_count = rw (e, counters) s.terminus_count;
       row_count = rw (f, counters) s.row_count;
-    }) settled
+    }) settled w.sound

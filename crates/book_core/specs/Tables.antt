@@ -12,6 +12,7 @@ use Rattle.book_model.specs.declared.act.Act.{Act}
 use Rattle.std.specs.BTreeMap.{get}
 use Rattle.book_core.specs.Keys.{AllKeyed}
 use Rattle.book_model.specs.Keys.{key_cmp}
+use Rattle.book_model.specs.Sound.{IsSound}
 use Rattle.book_core.specs.Numbers.{earlier}
 use Rattle.book_core.specs.Indexed.{IsIndexed, IsIndexSettled, SameIndexBefore}
 use Rattle.book_core.specs.Rising.{Rises, AllBelow}
@@ -81,6 +82,7 @@ shown_by t = record { termini = termini_in t.termini.slots.items; rows = rows_in
 pub record IsWhole (t : Tables) : Type 0 where
   pub shows : Shows t (shown_by t)
   pub settled : IsSettled t
+  pub sound : IsSound (shown_by t)
 
 -- places that show the same, of which some empty ones may be gone
 pub record IsSwept {S V : Type 0} (number : S → ℕ) (value : S → Option V) (old new : List S) : Type 0 where

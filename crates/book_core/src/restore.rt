@@ -28,7 +28,8 @@ impl Book {
     ) -> Result<Book, BookFault>
         ensures reads { OnOk result (restore_fault next_terminus.0 next_row.0 acts.now ≡ None) }
         ensures book { IfOk result (λ b. b ≡ restored next_terminus.0 next_row.0 acts.now) }
-        ensures first { IfErr result (λ f. (f ≡ fault.Memory → ⊥) → restore_fault next_terminus.0 next_row.0 acts.now ≡ Some f) }
+        ensures first { IfErr result (λ f. (f ≡ fault.Memory → ⊥)
+            → restore_fault next_terminus.0 next_row.0 acts.now ≡ Some f) }
     {
         if next_terminus.0 == 0 {
             return Err(BookFault::NoTerminus);
@@ -58,7 +59,9 @@ fn is_between(after_last: u64, next: u64, number: u64) -> bool
 impl Tables {
     /// Reads a terminus back, whose number is to be below this one.
     fn read_make(&mut self, next: TerminusNumber, terminus: &Terminus) -> Result<(), BookFault>
-        ensures { (b : BookView) → Shows self.old b → WasRead result self.new (restore_make_refusal next.0 b terminus.now) (restore_effect b (act.Make terminus.now)) }
+        ensures { (b : BookView) → Shows self.old b
+            → WasRead result self.new (restore_make_refusal next.0 b terminus.now)
+            (restore_effect b (act.Make terminus.now)) }
     {
         let number = terminus.number.0;
         if !is_between(self.counters.next_terminus, next.0, number) {
@@ -96,7 +99,9 @@ impl Tables {
 
     /// Reads a row back, whose number is to be below this one.
     fn read_admit(&mut self, next: RowNumber, admission: &Admission) -> Result<(), BookFault>
-        ensures { (b : BookView) → Shows self.old b → WasRead result self.new (restore_admit_refusal next.0 b admission.now) (restore_effect b (act.Admit admission.now)) }
+        ensures { (b : BookView) → Shows self.old b
+            → WasRead result self.new (restore_admit_refusal next.0 b admission.now)
+            (restore_effect b (act.Admit admission.now)) }
     {
         match self.why_not_read(next, admission) {
             Some(fault) => Err(fault),
@@ -117,7 +122,9 @@ impl Tables {
         next_row: RowNumber,
         act: &Act,
     ) -> Result<(), BookFault>
-        ensures { (b : BookView) → Shows self.old b → WasRead result self.new (restore_refusal next_terminus.0 next_row.0 b act.now) (restore_effect b act.now) }
+        ensures { (b : BookView) → Shows self.old b
+            → WasRead result self.new (restore_refusal next_terminus.0 next_row.0 b act.now)
+            (restore_effect b act.now) }
     {
         match act {
             Act::Make(terminus) => self.read_make(next_terminus, terminus),
@@ -135,7 +142,8 @@ impl Tables {
         next_row: RowNumber,
         acts: &[Act],
     ) -> Result<(), BookFault>
-        ensures { (b : BookView) → Shows self.old b → WasRead result self.new (first_unread next_terminus.0 next_row.0 b acts.now) (book_read b acts.now) }
+        ensures { (b : BookView) → Shows self.old b
+            → WasRead result self.new (first_unread next_terminus.0 next_row.0 b acts.now) (book_read b acts.now) }
     {
         for act in acts {
             match self.read(next_terminus, next_row, act) {

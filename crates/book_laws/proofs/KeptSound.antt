@@ -123,7 +123,8 @@ Spares : ℕ → List Terminus → Row → Type 0
 Spares n ts r = (role : LinkRole) → has_role role (terminus_at n ts) ≡ true → keeps role n r ≡ false
 
 module _ (n : ℕ) (ts : List Terminus) where
-  spares : (rs : List Row) → ((role : LinkRole) → has_role role (terminus_at n ts) ≡ true → list_any (keeps role n) rs ≡ false)
+  spares : (rs : List Row) → ((role : LinkRole) → has_role role (terminus_at n ts) ≡ true
+      → list_any (keeps role n) rs ≡ false)
       → AllByRecursion (Spares n ts) rs
   unfolding Spares
   spares [] h = tt

@@ -174,7 +174,8 @@ module _ (nt nr : ℕ) where
       (subst (Reads (restore_effect b (Decide d)) [])
       (λ i. record b {
         rows = (ap (with_row r.number.0 (decided outcome)) is
-            ∙ last_changed pre r.number.0 low pre low (decided outcome) (row_as r None false) (row_as r (Some outcome) false)
+            ∙ last_changed pre r.number.0 low pre low (decided outcome) (row_as r None false)
+            (row_as r (Some outcome) false)
             refl refl) i;
       })
       (none_read (restore_effect b (Decide d))))

@@ -104,7 +104,8 @@ module _ (rs : List Row) (within : list_all (is_within rs) rs ≡ true) where
   few_of : (r : Row) → is_within rs r ≡ true
       → (count_by (is_from r.producer.0) rs ≤ 64) × (undecided_for r.consumer rs ≤ 64)
   few_of r h =
-      let both = and_parts (nat_le (count_by (is_from r.producer.0) rs) 64) (nat_le (undecided_for r.consumer rs) 64) h in
+      let both = and_parts (nat_le (count_by (is_from r.producer.0) rs) 64)
+      (nat_le (undecided_for r.consumer rs) 64) h in
       (at_most (count_by (is_from r.producer.0) rs) 64 both.0, at_most (undecided_for r.consumer rs) 64 both.1)
 
   none_few : (n : ℕ) → n ≡ 0 → n ≤ 64

@@ -61,7 +61,8 @@ orderly b s = record {
   next_terminus = s.next_terminus;
   next_row = s.next_row;
   termini = s.termini;
-  rows = All-weaker (IsSoundRow b.termini b.next_row) (IsFineRow b.next_row) (fine_row b.termini b.next_row) b.rows s.rows;
+  rows = All-weaker (IsSoundRow b.termini b.next_row) (IsFineRow b.next_row)
+      (fine_row b.termini b.next_row) b.rows s.rows;
   termini_rise = s.termini_rise;
   rows_rise = s.rows_rise;
   keys = s.keys;
@@ -72,7 +73,8 @@ orderly b s = record {
 
 pub standing : (b : BookView) → IsSound b → IsStanding b
 standing b s = record {
-  rows = All-weaker (IsSoundRow b.termini b.next_row) (Stands b.termini) (standing_row b.termini b.next_row) b.rows s.rows;
+  rows = All-weaker (IsSoundRow b.termini b.next_row) (Stands b.termini)
+      (standing_row b.termini b.next_row) b.rows s.rows;
   few_from = s.few_from;
   few_waiting = s.few_waiting;
 }
@@ -210,7 +212,8 @@ itself r s e =
     })
 
 -- a row that a Decide decides
-pub became_decided : (outcome : DeliveryState) (r s : Row) → length (state_spelling outcome) ≤ 400 → decided outcome r ≡ Some s
+pub became_decided : (outcome : DeliveryState) (r s : Row) → length (state_spelling outcome) ≤ 400
+    → decided outcome r ≡ Some s
     → Became r s
 became_decided outcome r s short = by r.forgotten refl
   where
@@ -232,7 +235,8 @@ became_decided outcome r s short = by r.forgotten refl
 pub became_forgotten : (r s : Row) → forgotten r ≡ Some s → Became r s
 became_forgotten r s = by r.outcome refl
   where
-    by : (o : Option DeliveryState) → r.outcome ≡ o → cond (is_some o) None (Some (record r { forgotten = true })) ≡ Some s
+    by : (o : Option DeliveryState) → r.outcome ≡ o
+        → cond (is_some o) None (Some (record r { forgotten = true })) ≡ Some s
         → Became r s
     by (Some outcome) is e = absurd cc
     by None is e = subst (Became r) (some_same e) (record {

@@ -13,8 +13,8 @@ use Rattle.book_model.specs.declared.terminus.LinkRole.TheVariants.{Producer}
 use Rattle.book_model.specs.declared.terminus.Terminus.{Terminus}
 use Rattle.book_model.specs.Book.{BookView, empty_book, refusal, effect, make_refusal, has_role, may_bind, terminus_at, has_tag, is_from, undecided_for, unless, or_else}
 
--- Acts are read one after another, the first to the empty book. Numbers may be left out, so the next one of a book that is
--- being read back is the one after the last that was read.
+-- Acts are read one after another, the first to the empty book. Numbers may be left out, so the next one of a book that
+-- is being read back is the one after the last that was read.
 
 -- a number above the last one that was read, and below the next one given
 abbrev pub is_between : ℕ → ℕ → ℕ → Bool
@@ -28,7 +28,7 @@ raised b (Decide d) = b
 raised b (Forget n) = b
 raised b (Drop n) = b
 
--- Why an act isn't read, where these numbers come next. What an Admit says of termini, and the limits of 64, are tested at
+-- Why an act isn't read, if these numbers come next. What an Admit says of termini, and the limits of 64, are tested at
 -- the end.
 abbrev pub restore_make_refusal : ℕ → BookView → Terminus → Option BookFault
 restore_make_refusal next b t =
@@ -56,7 +56,8 @@ restore_effect b act = effect (raised b act) act
 unfoldable pub first_unread : ℕ → ℕ → BookView → List Act → Option BookFault
 first_unread next_terminus next_row b [] = None
 first_unread next_terminus next_row b (act ∷ acts) =
-    or_else (restore_refusal next_terminus next_row b act) (first_unread next_terminus next_row (restore_effect b act) acts)
+    or_else (restore_refusal next_terminus next_row b act)
+    (first_unread next_terminus next_row (restore_effect b act) acts)
 
 -- the book after these acts
 unfoldable pub book_read : BookView → List Act → BookView
@@ -69,10 +70,11 @@ book_read b (act ∷ acts) = book_read (restore_effect b act) acts
 abbrev pub is_within : List Row → Row → Bool
 is_within rs r = nat_le (count_by (is_from r.producer.0) rs) 64 && nat_le (undecided_for r.consumer rs) 64
 
--- the termini that a row keeps stand, each in its role: its producer's until it is forgotten, its consumer's until it is
--- decided
+-- the termini that a row keeps stand, each in its role: its producer's until it is forgotten, its consumer's until it
+-- is decided
 abbrev pub has_termini : List Terminus → Row → Bool
-has_termini ts r = (r.forgotten || has_role Producer (terminus_at r.producer.0 ts)) && (is_some r.outcome || may_bind r.consumer ts)
+has_termini ts r = (r.forgotten || has_role Producer (terminus_at r.producer.0 ts)) &&
+    (is_some r.outcome || may_bind r.consumer ts)
 
 -- why a book isn't whole after its last act
 abbrev pub closing_fault : BookView → Option BookFault
@@ -96,7 +98,14 @@ restored next_terminus next_row acts =
 
 -- the Admit of a row
 abbrev pub admission_of : Row → Admission
-admission_of r = record { row = r.number; producer = r.producer; tag = r.tag; consumer = r.consumer; format = r.format; payload = r.payload }
+admission_of r = record {
+  row = r.number;
+  producer = r.producer;
+  tag = r.tag;
+  consumer = r.consumer;
+  format = r.format;
+  payload = r.payload;
+}
 
 -- its Decide, if it is decided
 abbrev pub decide_acts : RowNumber → Option DeliveryState → List Act

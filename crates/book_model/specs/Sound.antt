@@ -19,8 +19,8 @@ abbrev pub IsShortOutcome : Option DeliveryState → Type 0
 IsShortOutcome None = Unit {0}
 IsShortOutcome (Some outcome) = length (state_spelling outcome) ≤ 400
 
--- A row has a number from 1, below the next one. It isn't both decided and forgotten. It keeps its termini: its producer's
--- until it is forgotten, its consumer's until it is decided.
+-- A row has a number from 1, below the next one. It isn't both decided and forgotten. It keeps its termini: its
+-- producer's until it is forgotten, its consumer's until it is decided.
 pub record IsSoundRow (ts : List Terminus) (next : ℕ) (r : Row) : Type 0 where
   pub above : 0 < r.number.0
   pub below : r.number.0 < next
@@ -30,8 +30,8 @@ pub record IsSoundRow (ts : List Terminus) (next : ℕ) (r : Row) : Type 0 where
   pub producer : r.forgotten ≡ false → has_role Producer (terminus_at r.producer.0 ts) ≡ true
   pub consumer : r.outcome ≡ None → may_bind r.consumer ts ≡ true
 
--- A book is sound: numbers rise, keys are different, an older row with the tag of a newer one of its producer is forgotten,
--- and no limit is passed.
+-- A book is sound: numbers rise, keys are different, an older row is forgotten if a newer one of its producer's terminus
+-- has its tag, and no limit is passed.
 pub record IsSound (b : BookView) : Type 0 where
   pub next_terminus : 0 < b.next_terminus
   pub next_row : 0 < b.next_row

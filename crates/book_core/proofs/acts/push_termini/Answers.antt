@@ -9,7 +9,8 @@ loop-slot-preserved c =
     let rest = termini_in (drop (c.loop-slot.slot-index + 1) c.args.slots.now) in
     ap (λ v. v ++ map Make rest) c.in_ok-push_terminus.ensures
     ∙ makes_on c.loop-slot.acts.items c.slot-item.result.terminus rest
-    ∙ ap (λ ts. c.loop-slot.acts.items ++ map Make ts) (sym (termini_from c.args.slots.now c.loop-slot.slot-index c.slot-item.result c.loop-slot-test.true c.slot-item.is))
+    ∙ ap (λ ts. c.loop-slot.acts.items ++ map Make ts)
+    (sym (termini_from c.args.slots.now c.loop-slot.slot-index c.slot-item.result c.loop-slot-test.true c.slot-item.is))
     ∙ c.loop-slot.invariant
 
 pub returns : goal.returns

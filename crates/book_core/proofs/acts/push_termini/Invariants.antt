@@ -4,4 +4,5 @@ use Rattle.book_core.specs.Slots.{termini_in}
 use Rattle.book_core.proofs.acts.push_termini.Given as goal
 
 abbrev pub invariant-loop-slot : goal.invariant-loop-slot
-invariant-loop-slot l = l.acts.items ++ map Make (termini_in (drop l.slot-index l.slots)) ≡ l.fn.acts.items ++ map Make (termini_in l.slots)
+invariant-loop-slot l = l.acts.items ++ map Make (termini_in (drop l.slot-index l.slots))
+    ≡ l.fn.acts.items ++ map Make (termini_in l.slots)

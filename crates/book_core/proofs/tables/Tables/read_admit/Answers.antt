@@ -9,6 +9,7 @@ returns-in-Ok c b s =
     let none = sym (c.in-None.ensures b s) in (
       none,
       c.in-Ok.ensures.shows (raised b (Admit c.args.admission.now))
-          (raise_row c.args.self.now b c.args.admission.now.row.0 s (row_from c.args.next.0 b c.args.admission.now none))
+          (raise_row c.args.self.now b c.args.admission.now.row.0 s
+          (row_from c.args.next.0 b c.args.admission.now none))
           (row_new c.args.next.0 b c.args.admission.now none),
     )

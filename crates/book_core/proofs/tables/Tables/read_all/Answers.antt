@@ -8,7 +8,8 @@ use Rattle.book_core.proofs.tables.Tables.read_all.Goals as goal
 pub returns-in-Err : goal.returns-in-Err
 returns-in-Err c b s other =
     let m = c.loop-act.invariant b s in
-    unread_here c.args.next_terminus.0 c.args.next_row.0 b m.0 _ _ _ _ c.loop-act-test.true c.act-item.is m.2 (c.in-Err.ensures m.0 m.1 other)
+    unread_here c.args.next_terminus.0 c.args.next_row.0 b m.0 _ _ _ _ c.loop-act-test.true c.act-item.is m.2
+    (c.in-Err.ensures m.0 m.1 other)
 
 pub loop-act-preserved : goal.loop-act-preserved
 loop-act-preserved c b s =
@@ -23,5 +24,8 @@ loop-act-preserved c b s =
 pub returns : goal.returns
 returns c b s =
     let m = c.loop-act.invariant b s in
-    let P : BookView → Type 0 = λ n. Shows c.loop-act.self n in
-    (unread_done c.args.next_terminus.0 c.args.next_row.0 b m.0 _ _ c.loop-act-test.false m.2, subst P (read_done b m.0 _ _ c.loop-act-test.false m.3) m.1)
+    let P : BookView → Type 0 = λ n. Shows c.loop-act.self n in (
+      unread_done c.args.next_terminus.0 c.args.next_row.0 b m.0 _ _ c.loop-act-test.false m.2,
+      subst P
+          (read_done b m.0 _ _ c.loop-act-test.false m.3) m.1,
+    )

@@ -8,7 +8,8 @@ pub returns-in-Some : goal.returns-in-Some
 returns-in-Some c b s other =
     let between = sym c.is_between.ensures ∙ c.if-not-is_between.false in
     let raised_shows = raise_terminus c.args.self.now b c.args.next.0 c.args.terminus.now.number.0 s between in
-    make_between c.args.self.now b c.args.next.0 c.args.terminus.now (Some c.in-Some.fault) s between (c.in-Some.ensures (raised b (Make c.args.terminus.now)) raised_shows)
+    make_between c.args.self.now b c.args.next.0 c.args.terminus.now (Some c.in-Some.fault) s between
+    (c.in-Some.ensures (raised b (Make c.args.terminus.now)) raised_shows)
 
 pub returns-in-Ok : goal.returns-in-Ok
 returns-in-Ok c b s =
