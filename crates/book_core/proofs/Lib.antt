@@ -9,3 +9,4 @@ pub mod Shown
 pub mod Looked
 pub mod Steps
 pub mod Runs
+pub mod Reading

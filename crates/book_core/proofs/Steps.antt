@@ -29,10 +29,11 @@ use Rattle.book_model.specs.declared.act.Admission.{Admission}
 use Rattle.book_core.specs.declared.table.Table.{Table}
 use Rattle.book_core.specs.declared.tables.Tables.{Tables}
 use Rattle.book_model.specs.Book.{BookView, row_at, terminus_at, with_row, unless, make_refusal, admit_refusal, forget_refusal, decide_refusal, is_undecided, same_key, has_short_texts, admitted, decided, forgotten, has_tag, effect, is_from, undecided_for, may_bind, has_role}
+use Rattle.book_model.specs.Sound.{IsSound}
 use Rattle.book_core.specs.Rising.{Rises, IsAt}
 use Rattle.book_core.specs.Slots.{rows_in, termini_in}
 use Rattle.book_core.specs.Table.{before}
-use Rattle.book_core.specs.Tables.{Shows, row_number, terminus_number, shown_by, IsSettled, IsWhole, IsSwept, SameBefore}
+use Rattle.book_core.specs.Tables.{Shows, IsNew, row_number, terminus_number, shown_by, IsSettled, IsWhole, IsSwept, SameBefore}
 use Rattle.book_core.proofs.Looked.{row_found, terminus_found}
 use Rattle.book_core.proofs.Shown as shown
 use Rattle.std.proofs.lemmas.Bool.Decides.{nat_tests}
@@ -111,6 +112,9 @@ makes_new b t h =
 
 pub admits_next : (b : BookView) (a : Admission) → admit_refusal b a ≡ None → a.row.0 ≡ b.next_row
 admits_next b a h = equal _ _ (first_holds (a.row.0 == b.next_row) _ _ (then_holds _ _ _ (then_holds _ _ _ h)))
+
+pub admits : (b : BookView) (a : Admission) → admit_refusal b a ≡ None → IsNew b a
+admits b a h = record { next = admits_next b a h; free = admits_new b a h }
 
 -- a place that is read with one default reads the same with any
 read_at : {S : Type 0} (xs : List S) (at : ℕ) (x d : S) → at < length xs → x ≡ get_or xs at x → get_or xs at d ≡ x
@@ -240,12 +244,12 @@ terminus_comes t keys termini next count b slot made s is number applies more co
 -- a row that is admitted
 pub row_admitted : (t : Tables) (index : RowIndex) (rows : Table RowSlot) (next count : ℕ) (b : BookView) (slot : RowSlot) (a : Admission)
     → Shows t b → slot.row ≡ Some (admitted a) → slot.number ≡ a.row.0 → next ≡ t.counters.next_row + 1 → count ≡ t.counters.rows + 1 → rows.slots.items ≡ t.rows.slots.items ++ slot ∷ []
-    → admit_refusal b a ≡ None
+    → IsNew b a
     → ((rs : List Row) → IsIndexed t.index rs → list_any (has_tag a.producer.0 a.tag.items) rs ≡ false → IsIndexed index (rs ++ admitted a ∷ []))
     → Shows (record t { index = index; rows = rows; counters = record t.counters { next_row = next; rows = count } }) (effect b (Admit a))
-row_admitted t index rows next count b slot a s is number more counted e applies indexed =
-    let same : row_number slot ≡ t.counters.next_row = number ∙ admits_next b a applies ∙ sym s.next_row in
-    let free : list_any (has_tag a.producer.0 a.tag.items) (rows_in t.rows.slots.items) ≡ false = ap (list_any (has_tag a.producer.0 a.tag.items)) s.rows ∙ admits_new b a applies in
+row_admitted t index rows next count b slot a s is number more counted e new indexed =
+    let same : row_number slot ≡ t.counters.next_row = number ∙ new.next ∙ sym s.next_row in
+    let free : list_any (has_tag a.producer.0 a.tag.items) (rows_in t.rows.slots.items) ≡ false = ap (list_any (has_tag a.producer.0 a.tag.items)) s.rows ∙ new.free in
     let seen : rows_in rows.slots.items ≡ rows_in t.rows.slots.items ++ admitted a ∷ [] = ap rows_in e ∙ shown.shown_more (λ (s : RowSlot). s.row) t.rows.slots.items slot (admitted a) is in
     record {
       termini = s.termini;
@@ -323,8 +327,8 @@ swept_rows xs ys e = rw e (record {
 pub shown_is : (t : Tables) (b : BookView) → Shows t b → shown_by t ≡ b
 shown_is t b s = λ i. record { termini = s.termini i; rows = s.rows i; next_terminus = s.next_terminus i; next_row = s.next_row i }
 
-pub whole : (t : Tables) (b : BookView) → Shows t b → IsSettled t → IsWhole t
-whole t b s settled = record {
+pub whole : (t : Tables) (b : BookView) → Shows t b → IsSettled t → IsSound b → IsWhole t
+whole t b s settled sound = record {
   shows = record {
     termini = refl;
     rows = refl;
@@ -340,6 +344,7 @@ whole t b s settled = record {
     row_count = s.row_count;
   };
   settled = settled;
+  sound = subst IsSound (sym (shown_is t b s)) sound;
 }
 
 -- an index whose changes since it was settled are undone
@@ -377,4 +382,4 @@ undone_whole t ran u w same termini rows keys index counters settled =
       indexed = rw f (index_back t.index ran.index u.index (rows_in t.rows.slots.items) w.settled.index same.index index s.indexed);
       terminus_count = rw (e, counters) s.terminus_count;
       row_count = rw (f, counters) s.row_count;
-    }) settled
+    }) settled w.sound

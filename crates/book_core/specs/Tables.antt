@@ -1,15 +1,18 @@
 -- How the tables of a book relate to what it shows.
-use Rattle.std.specs.Prelude.{◌≡◌, ℕ, List, Option, Some, None, Result, Ok, Err, filter_map, length}
+use Rattle.std.specs.Prelude.{◌≡◌, ℕ, false, List, Option, Some, None, Result, Ok, Err, filter_map, length}
 use Rattle.book_model.specs.declared.fault.BookFault.{BookFault}
 use Rattle.book_model.specs.declared.fault.BookFault.TheVariants.{Memory}
 use Rattle.book_core.specs.declared.slot.RowSlot.{RowSlot}
 use Rattle.book_core.specs.declared.slot.TerminusSlot.{TerminusSlot}
 use Rattle.book_core.specs.declared.tables.Tables.{Tables}
-use Rattle.book_model.specs.Book.{BookView, refusal, effect, first_fault, effects}
+use Rattle.std.specs.List.{list_any}
+use Rattle.book_model.specs.declared.act.Admission.{Admission}
+use Rattle.book_model.specs.Book.{BookView, refusal, effect, first_fault, effects, has_tag}
 use Rattle.book_model.specs.declared.act.Act.{Act}
 use Rattle.std.specs.BTreeMap.{get}
 use Rattle.book_core.specs.Keys.{AllKeyed}
 use Rattle.book_model.specs.Keys.{key_cmp}
+use Rattle.book_model.specs.Sound.{IsSound}
 use Rattle.book_core.specs.Numbers.{earlier}
 use Rattle.book_core.specs.Indexed.{IsIndexed, IsIndexSettled, SameIndexBefore}
 use Rattle.book_core.specs.Rising.{Rises, AllBelow}
@@ -51,6 +54,11 @@ pub record SameBefore (old new : Tables) : Type 0 where
   pub keys : earlier key_cmp new.keys.log.items (get key_cmp new.keys.numbers) ≡ earlier key_cmp old.keys.log.items (get key_cmp old.keys.numbers)
   pub index : SameIndexBefore old.index new.index
 
+-- a row with the next number, under a tag that no unforgotten row of its producer has
+pub record IsNew (b : BookView) (a : Admission) : Type 0 where
+  pub next : a.row.0 ≡ b.next_row
+  pub free : list_any (has_tag a.producer.0 a.tag.items) b.rows ≡ false
+
 -- what a step of one act answers, and what the tables then show
 abbrev pub Stepped : Result (Unit {0}) BookFault → Tables → BookView → Act → Type 0
 Stepped (Ok done) new b act = (refusal b act ≡ None) × Shows new (effect b act)
@@ -61,6 +69,11 @@ abbrev pub Ran : Result (Unit {0}) BookFault → Tables → BookView → List Ac
 Ran (Ok done) new b acts = (first_fault b acts ≡ None) × Shows new (effects b acts)
 Ran (Err fault) new b acts = (fault ≡ Memory → ⊥) → first_fault b acts ≡ Some fault
 
+-- what reading acts back answers, where this is why they aren't read, and what the tables then show
+abbrev pub WasRead : Result (Unit {0}) BookFault → Tables → Option BookFault → BookView → Type 0
+WasRead (Ok done) new refusal after = (refusal ≡ None) × Shows new after
+WasRead (Err fault) new refusal after = (fault ≡ Memory → ⊥) → refusal ≡ Some fault
+
 -- the book that tables show
 abbrev pub shown_by : Tables → BookView
 shown_by t = record { termini = termini_in t.termini.slots.items; rows = rows_in t.rows.slots.items; next_terminus = t.counters.next_terminus; next_row = t.counters.next_row }
@@ -69,6 +82,7 @@ shown_by t = record { termini = termini_in t.termini.slots.items; rows = rows_in
 pub record IsWhole (t : Tables) : Type 0 where
   pub shows : Shows t (shown_by t)
   pub settled : IsSettled t
+  pub sound : IsSound (shown_by t)
 
 -- places that show the same, of which some empty ones may be gone
 pub record IsSwept {S V : Type 0} (number : S → ℕ) (value : S → Option V) (old new : List S) : Type 0 where

@@ -2,6 +2,7 @@
 ghost use Rattle.std.specs.Prelude.{◌≡◌, None, Some, OnOk, OnErr, IfErr, filter, length};
 ghost use Rattle.std.specs.Option.{option_copied};
 ghost use Rattle.book_model.specs.Book.{empty_book, first_fault, effects, make_refusal, admit_refusal, is_of, row_at, row_named, terminus_at, terminus_of};
+ghost use Rattle.book_model.specs.Sound.{IsSound};
 ghost use Rattle.book_core.specs.Rising.{Rises};
 ghost use Rattle.book_core.specs.Rows.{rows_left};
 ghost use Rattle.book_model.specs.declared.fault.BookFault.TheVariants as fault;
@@ -18,7 +19,7 @@ use std::marker::Model;
 /// The book of a router: the termini of its durable links and the deliveries that it has admitted.
 #[derive(Drop)]
 pub struct Book {
-    tables: Tables,
+    pub(crate) tables: Tables,
 }
 
 impl Model for Book {
@@ -105,6 +106,13 @@ impl Book {
         ensures { Rises (λ (r : ARow). r.number.0) self.now.rows }
     {
         let _rows = &self.tables.rows;
+    }
+
+    /// It is as each book is that acts made, or that was read back. It does nothing.
+    pub fn is_sound(&self)
+        ensures { IsSound self.now }
+    {
+        let _tables = &self.tables;
     }
 
     /// The row with a number.

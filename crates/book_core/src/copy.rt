@@ -2,6 +2,7 @@
 ghost use Rattle.std.specs.Prelude.{◌≡◌, IfOk};
 ghost use Rattle.std.specs.Option.{ForSome};
 ghost use Rattle.book_model.specs.Book.{admitted, decided, forgotten};
+ghost use Rattle.book_model.specs.Restoring.{admission_of};
 
 use amqp_model::{DeliveryState, DeliveryTag, Text, copy_state};
 use book_model::{Admission, LinkKey, Row, Terminus};
@@ -53,6 +54,20 @@ pub(crate) fn admitted_row(admission: &Admission) -> Result<Row, AllocError>
         payload: admission.payload.clone()?,
         outcome: None,
         forgotten: false,
+    })
+}
+
+/// The Admit of a row.
+pub(crate) fn admission(row: &Row) -> Result<Admission, AllocError>
+    ensures { IfOk result (λ a. a ≡ admission_of row.now) }
+{
+    Ok(Admission {
+        row: row.number,
+        producer: row.producer,
+        tag: tag(&row.tag)?,
+        consumer: row.consumer,
+        format: row.format,
+        payload: row.payload.clone()?,
     })
 }
 

@@ -3,12 +3,14 @@
 //! A book changes only by acts. A list of acts is applied whole or not at all.
 #![tactic(auto)]
 
+mod acts;
 pub mod book;
 mod copy;
 mod keys;
 mod look;
 mod numbers;
 mod place;
+mod restore;
 mod row_index;
 mod row_name;
 pub mod rows;

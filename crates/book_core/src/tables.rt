@@ -7,7 +7,7 @@ ghost use Rattle.book_core.specs.Indexed.{IsIndexBack};
 ghost use Rattle.book_model.specs.Keys.{key_cmp};
 ghost use Rattle.book_core.specs.Numbers.{earlier};
 ghost use Rattle.book_core.specs.Table.{before};
-ghost use Rattle.book_core.specs.Tables.{Shows, SameBefore, IsSettled, IsSwept, Stepped, Ran, row_number, terminus_number};
+ghost use Rattle.book_core.specs.Tables.{Shows, SameBefore, IsNew, IsSettled, IsSwept, Stepped, Ran, row_number, terminus_number};
 ghost use Rattle.book_model.specs.declared.act.Act.TheVariants as act;
 ghost use Rattle.book_model.specs.declared.terminus.LinkRole.TheVariants as role;
 
@@ -29,13 +29,13 @@ use std::alloc::{AllocError, Global};
 /// The most termini of a book.
 const MAX_TERMINI: usize = 1024;
 /// The most rows of a book.
-const MAX_ROWS: usize = 4096;
+pub(crate) const MAX_ROWS: usize = 4096;
 /// The most rows of one producer's terminus, and the most undecided rows of one consumer's.
-const MAX_ROWS_OF_TERMINUS: u64 = 64;
+pub(crate) const MAX_ROWS_OF_TERMINUS: u64 = 64;
 /// The most bytes of a text of a terminus.
 const MAX_TEXT: usize = 1024;
 /// The most bytes of a payload.
-const MAX_PAYLOAD: usize = 65536;
+pub(crate) const MAX_PAYLOAD: usize = 65536;
 /// The most bytes of an encoded outcome.
 const MAX_OUTCOME: usize = 400;
 
@@ -107,7 +107,7 @@ impl Tables {
         }
     }
 
-    fn has_role(&self, number: TerminusNumber, role: LinkRole) -> bool
+    pub(crate) fn has_role(&self, number: TerminusNumber, role: LinkRole) -> bool
         ensures { (b : BookView) → Shows self.now b → result ≡ has_role role (terminus_at number.0 b.termini) }
     {
         match look::terminus(&self.termini.slots, number) {
@@ -116,7 +116,7 @@ impl Tables {
         }
     }
 
-    fn may_bind(&self, consumer: Option<TerminusNumber>) -> bool
+    pub(crate) fn may_bind(&self, consumer: Option<TerminusNumber>) -> bool
         ensures { (b : BookView) → Shows self.now b → result ≡ may_bind consumer b.termini }
     {
         match consumer {
@@ -236,7 +236,7 @@ impl Tables {
     }
 
     /// Makes a terminus; the act applies.
-    fn make(&mut self, terminus: &Terminus) -> Result<(), AllocError>
+    pub(crate) fn make(&mut self, terminus: &Terminus) -> Result<(), AllocError>
         ensures shows { (b : BookView) → Shows self.old b → make_refusal b terminus.now ≡ None → OnOk result (Shows self.new (effect b (act.Make terminus.now))) }
         ensures before { SameBefore self.old self.new }
     {
@@ -257,9 +257,9 @@ impl Tables {
         Ok(())
     }
 
-    /// Admits a row; the act applies.
-    fn admit(&mut self, admission: &Admission) -> Result<(), AllocError>
-        ensures shows { (b : BookView) → Shows self.old b → admit_refusal b admission.now ≡ None → OnOk result (Shows self.new (effect b (act.Admit admission.now))) }
+    /// Admits a row of the next number, under a tag that no unforgotten row of its producer has.
+    pub(crate) fn admit(&mut self, admission: &Admission) -> Result<(), AllocError>
+        ensures shows { (b : BookView) → Shows self.old b → IsNew b admission.now → OnOk result (Shows self.new (effect b (act.Admit admission.now))) }
         ensures before { SameBefore self.old self.new }
     {
         let Some(next) = self.counters.next_row.checked_add(1) else {
@@ -358,7 +358,8 @@ impl Tables {
         }
     }
 
-    fn step(&mut self, act: &Act) -> Result<(), BookFault>
+    /// Performs an act, if it applies.
+    pub(crate) fn step(&mut self, act: &Act) -> Result<(), BookFault>
         ensures step { (b : BookView) → Shows self.old b → Stepped result self.new b act.now }
         ensures before { SameBefore self.old self.new }
     {

@@ -18,7 +18,7 @@ use Rattle.book_laws.proofs.Searching.{by_case, one_way, found_among, found_numb
 use Rattle.book_laws.proofs.Says.{Kinds, Says, IsKept, row_looked, number_of_admit, number_of_make, decision_by, forgotten_by, open_by, row_by}
 
 -- a terminus of another number stays
-kept_role : (role : LinkRole) (n m : ℕ) (ts : List Terminus) → (n == m) ≡ false
+pub kept_role : (role : LinkRole) (n m : ℕ) (ts : List Terminus) → (n == m) ≡ false
     → has_role role (terminus_at n ts) ≡ true
     → has_role role (terminus_at n (filter (λ (t : Terminus). not (t.number.0 == m)) ts)) ≡ true
 kept_role role n m ts apart is =
@@ -27,7 +27,7 @@ kept_role role n m ts apart is =
     ∙ is
 
 -- no row keeps a terminus that may be dropped
-free : (o : Option Terminus) (rs : List Row) (role : LinkRole) (n : ℕ) → drop_refusal o rs ≡ None
+pub free : (o : Option Terminus) (rs : List Row) (role : LinkRole) (n : ℕ) → drop_refusal o rs ≡ None
     → ((t : Terminus) → o ≡ Some t → t.number.0 ≡ n) → has_role role o ≡ true → list_any (keeps role n) rs ≡ false
 free None rs role n h numbered is = absurd cc
 free (Some t) rs role n h numbered is =

@@ -1,6 +1,7 @@
 pub mod Searching
 pub mod Numbers
 pub mod Keys
+pub mod Lists
 pub mod Conditions
 pub mod Says
 pub mod Keeping
@@ -8,6 +9,10 @@ pub mod Making
 pub mod Admitting
 pub mod Settling
 pub mod Joining
+pub mod Sound
+pub mod KeptSound
+pub mod ReadBack
+pub mod Listed
 pub mod Telling
 pub mod Facts
 pub mod Order

@@ -29,13 +29,13 @@ has_role_more : (role : LinkRole) (o more : Option Terminus) → has_role role o
 has_role_more role None more is = absurd cc
 has_role_more role (Some t) more is = is
 
-has_role_push : (role : LinkRole) (n : ℕ) (ts : List Terminus) (t : Terminus) → has_role role (terminus_at n ts) ≡ true
+pub has_role_push : (role : LinkRole) (n : ℕ) (ts : List Terminus) (t : Terminus) → has_role role (terminus_at n ts) ≡ true
     → has_role role (terminus_at n (ts ++ t ∷ [])) ≡ true
 has_role_push role n ts t is =
     ap (has_role role) (find-append (λ (t : Terminus). t.number.0 == n) ts (t ∷ []))
     ∙ has_role_more role (terminus_at n ts) (terminus_at n (t ∷ [])) is
 
-may_bind_push : (o : Option TerminusNumber) (ts : List Terminus) (t : Terminus) → may_bind o ts ≡ true
+pub may_bind_push : (o : Option TerminusNumber) (ts : List Terminus) (t : Terminus) → may_bind o ts ≡ true
     → may_bind o (ts ++ t ∷ []) ≡ true
 may_bind_push None ts t is = refl
 may_bind_push (Some n) ts t is = has_role_push Consumer n.0 ts t is

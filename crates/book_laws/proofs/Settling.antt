@@ -1,5 +1,6 @@
 -- A Decide and a Forget: what the acts say of the rows after it.
-use Rattle.std.proofs.Common.{◌≡◌, ◌∙◌, sym, ap, refl, ℕ, ◌≤◌, ◌<◌, Bool, true, false, cond, not, ◌&&◌, ◌||◌, List, [], ◌∷◌, ◌++◌, arith, Option, Some, None}
+use Rattle.std.proofs.Common.{◌≡◌, ◌∙◌, sym, ap, refl, ℕ, ◌≤◌, ◌<◌, Bool, true, false, cond, not, ◌&&◌, ◌||◌, List, [], ◌∷◌, ◌++◌, length, arith, Option, Some, None}
+use Rattle.amqp_model.specs.PerfSpelling.{state_spelling}
 use Rattle.std.specs.Prelude.{◌==◌, find, count_by, is_some, option_map, if◌then◌else◌}
 use Rattle.std.specs.Option.{option_or}
 use Rattle.std.proofs.lemmas.Bool.{and_parts, or_parts, eqb-true}
@@ -80,6 +81,7 @@ says_decide k b d applies says = record {
     }
 
     there : (r : Row) × (row_at d.row.0 b.rows ≡ Some r) × (r.outcome ≡ None)
+        × (length (state_spelling d.outcome) ≤ 400)
     there = may_decide (row_at d.row.0 b.rows) d.outcome applies
 
     found : Found k d.row.0 there.0

@@ -3,3 +3,5 @@ pub mod Book
 pub mod Fault
 pub mod Keys
 pub mod Made
+pub mod Restoring
+pub mod Sound

@@ -1,10 +1,11 @@
+use Rattle.book_laws.proofs.KeptSound.{acts_keep}
 use Rattle.book_core.proofs.Steps.{shown_is, whole, undone_whole}
 use Rattle.book_core.proofs.book.Book.apply.Goals as goal
 
 pub invariant_of-self : goal.invariant_of-self
 invariant_of-self c =
     let ran = c.in-Ok.ensures.run _ c.self.invariant.shows in
-    whole _ _ (c.commit.ensures.shows _ ran.1) c.commit.ensures.settled
+    whole _ _ (c.commit.ensures.shows _ ran.1) c.commit.ensures.settled (acts_keep _ _ ran.0 c.self.invariant.sound)
 
 pub returns-in-Ok-clause-applied : goal.returns-in-Ok-clause-applied
 returns-in-Ok-clause-applied c =
