@@ -15,7 +15,7 @@ use Rattle.core_machine.specs.Counting.{uncounted, with_event, with_batch}
 use Rattle.core_machine.specs.Meaning.{Meaning, BookAt, IsBatchOf}
 use Rattle.core_machine.specs.Moves.{Move, handles, takes, GoesInTurnBy, taking, items_of, waiting_of, took_one}
 use Rattle.core_machine.specs.Turns.{declines}
-use Rattle.core_machine.specs.History.{tally, IsCutOff, HasHistoryOn, HasHistory}
+use Rattle.core_machine.specs.History.{tally, IsCutOff, HasHistoryOn, HasHistory, IsGivenOn, IsGiven}
 use Rattle.core_machine.specs.Opened.{IsOpened}
 
 -- the counts of moves, then of more moves
@@ -199,7 +199,22 @@ module _ {M : Type 0} (m : Meaning M) (g : Beginning) (below : List Entry) where
   taken_on old new c (Err Failed) lived fits batch works keeps still counted same named failed refused unchanged memory disk = subst (HasHistoryOn m g below) (sym (unchanged refl).0) lived
   taken_on old new c (Err NoConnection) lived fits batch works keeps still counted same named failed refused unchanged memory disk = subst (HasHistoryOn m g below) (sym (refused refl).0) lived
 
+  -- a batch was taken of a router with such a history
+  given_on : (old : M) (c : ConnectionId) (b : Batch) → HasHistoryOn m g below old → m.is_failed old ≡ false
+      → ((t : List Entry) → m.fits old t → IsBatchOf (conn t c.0) 64 b) → IsGivenOn m g below c b
+  given_on old c b lived worked batch = record {
+    id = m.id old;
+    moves = lived.0;
+    at = lived.1;
+    goes = lived.2.goes;
+    batch = batch lived.1 (lived.2.works worked).0;
+  }
+
 module _ {M : Type 0} (m : Meaning M) (g : Beginning) where
+  pub given : (old : M) (c : ConnectionId) (b : Batch) → HasHistory m g old → (m.is_failed old ≡ true → Ok b ≡ Err Failed)
+      → ((t : List Entry) → m.fits old t → IsBatchOf (conn t c.0) 64 b) → IsGiven m g c b
+  given old c b lived failed batch below = given_on m g below old c b (lived below) (worked b (m.is_failed old) failed) batch
+
   pub none_yet : (router : M) → IsOpened m g router → HasHistory m g router
   none_yet router was below = none_on m g below router was
 

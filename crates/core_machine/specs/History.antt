@@ -1,14 +1,18 @@
 -- What happened to a router since it was opened: the events that it handled and the batches that were taken, in one order; and where its
 -- journal stands by them.
-use Rattle.std.specs.Prelude.{◌≡◌, ◌⊎◌, true, false, List, [], ◌∷◌}
+use Rattle.std.specs.Prelude.{◌≡◌, ◌⊎◌, ℕ, true, false, List, [], ◌∷◌}
 use Rattle.book_model.specs.Made.{IsMade}
+use Rattle.router_trace.specs.declared.event.ConnectionId.{ConnectionId}
 use Rattle.router_trace.specs.declared.event.Event.{Event}
 use Rattle.router_trace.specs.Trace.{Beginning, Trace}
 use Rattle.router_trace.specs.Configuration.{opened}
+use Rattle.router_trace.specs.Connection.{conn}
+use Rattle.core_machine.specs.declared.answers.Batch.{Batch}
 use Rattle.core_machine.specs.declared.counts.Counts.{Counts}
 use Rattle.core_machine.specs.Counting.{uncounted, with_event, with_batch}
-use Rattle.core_machine.specs.Meaning.{Meaning, BookAt}
+use Rattle.core_machine.specs.Meaning.{Meaning, BookAt, IsBatchOf}
 use Rattle.core_machine.specs.Moves.{Move, handles, takes, GoesInTurnBy}
+use Rattle.core_machine.specs.Opened.{IsOpened}
 use Rattle.core_machine.specs.Turns.{declines}
 
 -- the counts after these moves: one more for each event, by kind, and for each take
@@ -37,3 +41,22 @@ HasHistoryOn m g below router = (moves : List Move) × (t : Trace) × IsHistory 
 -- whatever was before
 abbrev pub HasHistory : {M : Type 0} → Meaning M → Beginning → M → Type 0
 HasHistory m g router = (below : Trace) → HasHistoryOn m g below router
+
+-- The number of the last batch in the journal of a router that was just opened so.
+pub record IsFirstBatch {M : Type 0} (m : Meaning M) (g : Beginning) (number : ℕ) : Type 0 where
+  pub router : M
+  pub was : IsOpened m g router
+  pub batch : m.batches router ≡ number
+
+-- A take gives this batch of a connection at some moment of a history that begins so: 64 first items of its outbox at most, as the trace of that
+-- moment has them.
+pub record IsGivenOn {M : Type 0} (m : Meaning M) (g : Beginning) (below : Trace) (c : ConnectionId) (b : Batch) : Type 0 where
+  pub id : List ℕ
+  pub moves : List Move
+  pub at : Trace
+  pub goes : GoesInTurnBy (m.next id) moves (opened g below) at
+  pub batch : IsBatchOf (conn at c.0) 64 b
+
+-- whatever was before
+abbrev pub IsGiven : {M : Type 0} → Meaning M → Beginning → ConnectionId → Batch → Type 0
+IsGiven m g c b = (below : Trace) → IsGivenOn m g below c b

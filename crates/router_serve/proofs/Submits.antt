@@ -1,5 +1,5 @@
 -- What readers' seats count.
-use Rattle.std.proofs.Common.{◌≡◌, ◌∙◌, sym, ap, refl, ℕ, ◌+◌, ◌-◌, ◌≤◌, true, false, Result, Ok, Err, OnOk, OnErr, List, [], ◌∷◌, ◌++◌, Option, length, arith}
+use Rattle.std.proofs.Common.{◌≡◌, ◌∙◌, sym, ap, ℕ, ◌+◌, ◌-◌, ◌≤◌, false, Result, IsOk, Ok, Err, OnOk, OnErr, List, [], ◌∷◌, ◌++◌, Option, length, arith}
 use Rattle.std.proofs.lemmas.List.{length-append, length-drop}
 use Rattle.std.specs.Iterator.{Yields}
 use Rattle.std.specs.Vec.Iter.{into_iter_items, into_iter_steps}
@@ -7,10 +7,11 @@ use Rattle.std.specs.declared.vec.IntoIter.{IntoIter}
 use Rattle.amqp_model.specs.declared.item.Item.{Item}
 use Rattle.amqp_frames.specs.Cuts.{Stream}
 use Rattle.core_machine.specs.declared.counts.Counts.{Counts}
+use Rattle.core_machine.specs.declared.fault.CoreFault.{CoreFault}
 use Rattle.serve_streams.specs.declared.end.ReadEnd.{ReadEnd}
 use Rattle.serve_streams.specs.declared.end.ReadEnd.TheVariants as end
 use Rattle.serve_lock.specs.Adding.{Handled, with_items}
-use Rattle.router_serve.specs.Submitting.{CountsGone, CountsSome, HandsIn, Hinders, IsCore, with_downs, needs_down, Submitted}
+use Rattle.router_serve.specs.Submitting.{CountsGone, CountsSome, HandsIn, Hinders, IsCore, losses, with_downs, needs_down, Submitted}
 
 -- items, then more of them
 pub items_added : (n : Counts) (j k : ℕ) → with_items k (with_items j n) ≡ with_items (j + k) n
@@ -22,38 +23,25 @@ no_items n = ap (λ (i : ℕ). record n { items = i }) (let same : n.items ≡ n
 pub none_counted : (n : Counts) (most : ℕ) → CountsSome n n most
 none_counted n most = record { items = 0; within = omega arith; counted = no_items n }
 
--- a loss that is reported, or refused
-no_downs : (n : Counts) → n ≡ with_downs 0 n
+-- no loss
+pub no_downs : (n : Counts) → n ≡ with_downs 0 n
 no_downs n = ap (λ (i : ℕ). record n { downs = i }) (let same : n.downs ≡ n.downs + 0 = omega arith in same)
 
-pub told : {T E : Type 0} (r : Result T E) (old mid new : Counts) (over : List Item) (before behind : Stream) (source left : Option (List ℕ)) (e : ReadEnd)
-    → HandsIn old mid over before behind source left e → needs_down e ≡ true → OnOk r (new ≡ with_downs 1 mid) → OnErr r (new ≡ mid) → Submitted old new over before behind source left e
-told (Ok x) old mid new over before behind source left e items needs counted uncounted = record {
+-- a loss that is reported, or refused
+pub told : (r : Result (Unit {0}) CoreFault) (old mid new : Counts) (over : List Item) (before behind : Stream) (source left : Option (List ℕ)) (e : ReadEnd)
+    → HandsIn old mid over before behind source left e → (needs_down e ≡ false → IsOk r) → OnOk r (new ≡ with_downs (losses e r) mid) → OnErr r (new ≡ mid)
+    → Submitted old new over before behind source left e r
+told (Ok x) old mid new over before behind source left e items not_again counted uncounted = record {
   counts = mid;
   items = items;
-  downs = 1;
-  once = omega arith;
-  not_again = λ isnt. absurd (let bad : true ≡ false = sym needs ∙ isnt in cc);
+  not_again = not_again;
   counted = counted;
 }
-told (Err x) old mid new over before behind source left e items needs counted uncounted = record {
+told (Err x) old mid new over before behind source left e items not_again counted uncounted = record {
   counts = mid;
   items = items;
-  downs = 0;
-  once = omega arith;
-  not_again = λ isnt. refl;
+  not_again = not_again;
   counted = uncounted ∙ no_downs mid;
-}
-
-pub untold : (old new : Counts) (over : List Item) (before behind : Stream) (source left : Option (List ℕ)) (e : ReadEnd)
-    → HandsIn old new over before behind source left e → Submitted old new over before behind source left e
-untold old new over before behind source left e items = record {
-  counts = new;
-  items = items;
-  downs = 0;
-  once = omega arith;
-  not_again = λ isnt. refl;
-  counted = no_downs new;
 }
 
 -- items left a queue, then more of them

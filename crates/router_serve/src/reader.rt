@@ -1,7 +1,8 @@
 //! The thread that reads what a peer sends and submits it to the router.
-ghost use Rattle.std.specs.Prelude.{◌≡◌, [], false, length, OnOk, OnErr, IfErr};
+ghost use Rattle.std.specs.Prelude.{◌≡◌, [], false, length, Result, IsOk, OnOk, OnErr, IfErr};
+ghost use Rattle.core_machine.specs.declared.fault.CoreFault.{CoreFault};
 ghost use Rattle.serve_lock.specs.Adding.{with_items};
-ghost use Rattle.router_serve.specs.Submitting.{CountsGone, CountsSome, ends_badly, HandsIn, Hinders, IsCore, needs_down, Submitted};
+ghost use Rattle.router_serve.specs.Submitting.{CountsGone, CountsSome, ends_badly, HandsIn, Hinders, IsCore, losses, needs_down, Submitted, with_downs};
 
 use amqp_frames::FrameReader;
 use amqp_model::Item;
@@ -31,16 +32,55 @@ pub fn serve_reader<M: Machine, L: Log, G: Ledgers, R: Wait, I: Read, P: Gate>(
     input: &mut I,
     gate: &P,
 ) -> (Seat<G>, Vec<Receipt>, ReadEnd)
-    ensures { Submitted seat result.0 left.items frames.old frames.new (I.remaining input.old) (I.remaining input.new) result.2 }
+    ensures { (loss : Result (Unit {0}) CoreFault) × Submitted seat result.0 left.items frames.old frames.new (I.remaining input.old) (I.remaining input.new) result.2 loss }
 {
     let mut seat = seat;
-    let end = hand_in_all(
+    let (end, _) = submit_stream(
         rt, alloc, shared, &mut seat, conn, left, frames, input, gate,
     );
-    if needs_down(end) {
-        let _ = shared.submit(rt, &mut seat, Event::Down(conn));
-    }
     (seat, Vec::new(alloc), end)
+}
+
+/// Submits what a peer sends, and then the loss of its connection. It returns why the stream ended, and the router's answer to the loss; Ok too if
+/// the router has no need to be told of it.
+fn submit_stream<M: Machine, L: Log, G: Ledgers, R: Wait, I: Read, P: Gate>(
+    rt: &R,
+    alloc: Global,
+    shared: &Shared<M, L, G>,
+    seat: &mut Seat<G>,
+    conn: ConnectionId,
+    left: Vec<Item>,
+    frames: &mut FrameReader,
+    input: &mut I,
+    gate: &P,
+) -> (ReadEnd, Result<(), CoreFault>)
+    ensures { Submitted seat.old seat.new left.items frames.old frames.new (I.remaining input.old) (I.remaining input.new) result.0 result.1 }
+{
+    let end = hand_in_all(rt, alloc, shared, seat, conn, left, frames, input, gate);
+    let loss = report_loss(rt, shared, seat, conn, end);
+    (end, loss)
+}
+
+/// Reports the loss of a connection whose reader ended, if the router has yet to be told of it.
+///
+/// # Errors
+///
+/// The router's fault.
+fn report_loss<M: Machine, L: Log, G: Ledgers, R: Wait>(
+    rt: &R,
+    shared: &Shared<M, L, G>,
+    seat: &mut Seat<G>,
+    conn: ConnectionId,
+    end: ReadEnd,
+) -> Result<(), CoreFault>
+    ensures told { OnOk result (seat.new ≡ with_downs (losses end result) seat.old) }
+    ensures refused { OnErr result (seat.new ≡ seat.old) }
+    ensures not_again { needs_down end ≡ false → IsOk result }
+{
+    if needs_down(end) {
+        shared.submit(rt, seat, Event::Down(conn))?;
+    }
+    Ok(())
 }
 
 /// Whether the router has yet to be told that the connection is lost.

@@ -1,8 +1,8 @@
 //! Where the threads of a program get their seats, and connections their numbers.
-ghost use Rattle.std.specs.Prelude.{◌≡◌, ◌^◌, true, OnErr, IfOk};
+ghost use Rattle.std.specs.Prelude.{◌≡◌, ◌+◌, ◌≤◌, ◌^◌, true, OnErr, IfOk};
 ghost use Rattle.router_trace.specs.declared.event.Event.TheVariants as event;
 ghost use Rattle.core_machine.specs.Counting.{uncounted, with_event};
-ghost use Rattle.core_machine.specs.History.{HasHistory};
+ghost use Rattle.core_machine.specs.History.{HasHistory, IsFirstBatch};
 ghost use Rattle.core_machine.specs.Opened.{IsOpened};
 ghost use Rattle.serve_lock.specs.Blank.{AreOf};
 
@@ -19,7 +19,42 @@ pub struct Server<M: Machine, G: Ledgers> {
     pub(crate) alloc: Global,
     pub(crate) shared: Shared<M, NoLog, G>,
     pub(crate) idle: Mutex<Vec<Seat<G>>>,
-    newest: Mutex<u64>,
+    newest: Mutex<Newest>,
+}
+
+/// The number of the newest connection, 0 if there was none: numbers rise.
+#[derive(Drop)]
+struct Newest {
+    number: u64,
+}
+
+impl Newest {
+    /// A connection comes up, with the number after the newest one, and is the newest then.
+    ///
+    /// # Errors
+    ///
+    /// The router's fault; `Memory` if there is no higher number. The newest one is the same then.
+    fn up<M: Machine, G: Ledgers, R: Wait>(
+        &mut self,
+        rt: &R,
+        shared: &Shared<M, NoLog, G>,
+        seat: &mut Seat<G>,
+        peer: Peer,
+    ) -> Result<ConnectionId, CoreFault>
+        ensures above { IfOk result (λ conn. conn.0 ≡ self.old.number + 1) }
+        ensures newest { IfOk result (λ conn. self.new.number ≡ conn.0) }
+        ensures free { OnErr result (self.new.number ≡ self.old.number) }
+        ensures counted { IfOk result (λ conn. seat.new ≡ with_event (event.Up conn peer) seat.old) }
+        ensures uncounted { OnErr result (seat.new ≡ seat.old) }
+    {
+        let Some(number) = self.number.checked_add(1) else {
+            return Err(CoreFault::Memory);
+        };
+        let conn = ConnectionId(number);
+        shared.submit(rt, seat, Event::Up(conn, peer))?;
+        self.number = number;
+        Ok(conn)
+    }
 }
 
 impl<M: Machine, G: Ledgers> Server<M, G> {
@@ -34,17 +69,11 @@ impl<M: Machine, G: Ledgers> Server<M, G> {
         seat: &mut Seat<G>,
         peer: Peer,
     ) -> Result<ConnectionId, CoreFault>
+        ensures from_one { IfOk result (λ conn. 1 ≤ conn.0) }
         ensures counted { IfOk result (λ conn. seat.new ≡ with_event (event.Up conn peer) seat.old) }
         ensures uncounted { OnErr result (seat.new ≡ seat.old) }
     {
-        let mut newest = self.newest.lock(rt);
-        let Some(number) = newest.checked_add(1) else {
-            return Err(CoreFault::Memory);
-        };
-        let conn = ConnectionId(number);
-        self.shared.submit(rt, seat, Event::Up(conn, peer))?;
-        *newest = number;
-        Ok(conn)
+        self.newest.lock(rt).up(rt, &self.shared, seat, peer)
     }
 }
 
@@ -64,7 +93,7 @@ impl<M: Machine, N: Names> Server<M, N> {
             alloc,
             shared,
             idle: Mutex::new(Vec::new(alloc)),
-            newest: Mutex::new(0),
+            newest: Mutex::new(Newest { number: 0 }),
         })
     }
 
@@ -72,6 +101,7 @@ impl<M: Machine, N: Names> Server<M, N> {
     pub fn close(self) -> Closed<M, NoLog>
         ensures all { result.all ≡ true → M.meaning.counts result.core ≡ result.counts }
         ensures appended { result.appended ≡ M.meaning.batches result.core }
+        ensures opened { ∥ IsFirstBatch M.meaning N.opening result.opened ∥₁ }
         ensures history { ∥ HasHistory M.meaning N.opening result.core ∥₁ }
     {
         let Server {

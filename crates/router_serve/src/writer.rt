@@ -1,10 +1,11 @@
 //! The thread that writes a connection's outgoing items.
-ghost use Rattle.std.specs.Prelude.{◌≡◌, ◌≤◌, true, length, take, ℕ, OnErr, IfOk};
+ghost use Rattle.std.specs.Prelude.{◌≡◌, ◌<◌, true, false, length, take, ℕ, OnErr, IfOk, IfErr};
 ghost use Rattle.std.specs.Io.KnownBytes.{Appends};
 ghost use Rattle.serve_streams.specs.Spelled.{spelled};
-ghost use Rattle.router_serve.specs.Wrote.{Wrote};
+ghost use Rattle.core_machine.specs.History.{IsGiven};
+ghost use Rattle.router_serve.specs.Wrote.{EndsAt, GoesOn, Wrote};
 
-use core_machine::{Batch, Machine};
+use core_machine::{Batch, CoreFault, Machine};
 use router_trace::ConnectionId;
 use serve_lock::{Ledgers, Log, Seat, Shared};
 use serve_streams::{Gate, Side, WriteEnd, spell, write_beginning};
@@ -13,7 +14,9 @@ use std::io::Write;
 use std::sync::Wait;
 
 /// Writes a connection's outgoing items, batch by batch, each in one write if the output takes it whole, until
-/// the router ends the connection or something fails. It returns the seat, and why it ended.
+/// the router ends the connection or something fails. It returns the seat, and why it ended: `Ended` exactly after the
+/// connection's last batch, `Gap` exactly at a batch that doesn't begin with the number after the items before,
+/// `WriteFailed` exactly if some of a batch wasn't written, `Core` with the fault that the router answered.
 pub fn serve_writer<M: Machine, L: Log, G: Ledgers, R: Wait, W: Write, P: Gate>(
     rt: &R,
     alloc: Global,
@@ -23,37 +26,60 @@ pub fn serve_writer<M: Machine, L: Log, G: Ledgers, R: Wait, W: Write, P: Gate>(
     output: &mut W,
     gate: &P,
 ) -> (Seat<G>, WriteEnd)
-    ensures { Wrote conn (W.contents output.old) (W.contents output.new) seat result.0 result.1 }
+    ensures { Wrote (λ b. ∥ IsGiven M.meaning G.opening conn b ∥₁) conn (W.contents output.old) (W.contents output.new) seat result.0 result.1 }
 {
     let mut seat = seat;
     let mut buffer = Vec::new(alloc);
-    let mut next = 0u64;
+    let mut next = 0u128;
     let mut number = 0u64;
-    for _turn in 0..u64::MAX {
-        let batch = match shared.wait_batch(rt, &mut seat, conn) {
-            Ok(batch) => batch,
-            Err(fault) => return (seat, WriteEnd::Core(fault)),
-        };
-        if batch.first() != next {
-            return (seat, WriteEnd::Gap);
+    for _turn in rt.forever() {
+        let answer = shared.wait_batch(rt, &mut seat, conn);
+        match write_answer(rt, alloc, answer, next, number, output, gate, &mut buffer) {
+            Ok(behind) => next = behind,
+            Err(end) => return (seat, end),
         }
-        let Some(behind) = next.checked_add(batch.items().len() as u64) else {
-            return (seat, WriteEnd::Gap);
-        };
-        let whole = match write_batch(rt, alloc, &batch, number, output, gate, &mut buffer) {
-            Ok(whole) => whole,
-            Err(_) => return (seat, WriteEnd::Memory),
-        };
-        if !whole {
-            return (seat, WriteEnd::WriteFailed);
-        }
-        if batch.is_last() {
-            return (seat, WriteEnd::Ended);
-        }
-        next = behind;
         number = number.saturating_add(1);
     }
-    (seat, WriteEnd::WriteFailed)
+    unreachable!()
+}
+
+/// Writes the batch that the router answered, if it begins with the number `next`, and returns the number with which the one after it begins:
+/// one above that of its last item, which may be 2^64.
+///
+/// # Errors
+///
+/// Why the writer ends.
+fn write_answer<R: Wait, W: Write, P: Gate>(
+    rt: &R,
+    alloc: Global,
+    answer: Result<Batch, CoreFault>,
+    next: u128,
+    number: u64,
+    output: &mut W,
+    gate: &P,
+    buffer: &mut Vec<u8>,
+) -> Result<u128, WriteEnd>
+    ensures goes_on { IfOk result (λ behind. GoesOn answer next behind (W.contents output.old) (W.contents output.new)) }
+    ensures ends { IfErr result (λ e. EndsAt answer e next (W.contents output.old) (W.contents output.new)) }
+{
+    let batch = match answer {
+        Ok(batch) => batch,
+        Err(fault) => return Err(WriteEnd::Core(fault)),
+    };
+    if u128::from(batch.first()) != next {
+        return Err(WriteEnd::Gap);
+    }
+    let whole = match write_batch(rt, alloc, &batch, number, output, gate, buffer) {
+        Ok(whole) => whole,
+        Err(AllocError) => return Err(WriteEnd::Memory),
+    };
+    if !whole {
+        return Err(WriteEnd::WriteFailed);
+    }
+    if batch.is_last() {
+        return Err(WriteEnd::Ended);
+    }
+    Ok(u128::from(batch.first()) + batch.items().len() as u128)
 }
 
 /// Writes a batch, and returns whether all of it was written. If memory is refused, nothing is written.
@@ -66,7 +92,7 @@ fn write_batch<R: Wait, W: Write, P: Gate>(
     gate: &P,
     buffer: &mut Vec<u8>,
 ) -> Result<bool, AllocError>
-    ensures begun { IfOk result (λ whole. (k : ℕ) × (k ≤ length (spelled batch.now.items.items)) × Appends (W.contents output.old) (W.contents output.new) (take k (spelled batch.now.items.items))) }
+    ensures short { IfOk result (λ whole. whole ≡ false → (k : ℕ) × (k < length (spelled batch.now.items.items)) × Appends (W.contents output.old) (W.contents output.new) (take k (spelled batch.now.items.items))) }
     ensures whole { IfOk result (λ whole. whole ≡ true → Appends (W.contents output.old) (W.contents output.new) (spelled batch.now.items.items)) }
     ensures err { OnErr result (output.new ≡ output.old) }
 {

@@ -1,5 +1,5 @@
 -- How far a queue of items was handed in while the lock is held.
-use Rattle.std.proofs.Common.{◌≡◌, ◌∙◌, sym, ap, refl, subst, ℕ, ◌+◌, ◌-◌, ◌<◌, ◌≤◌, inl, inr, Bool, true, false, if◌then◌else◌, List, [], ◌∷◌, ◌++◌, length, take, drop, Result, Ok, Err, OnErr, arith}
+use Rattle.std.proofs.Common.{◌≡◌, ◌∙◌, sym, ap, refl, subst, ℕ, ◌+◌, ◌-◌, ◌<◌, ◌≤◌, inl, inr, Bool, true, false, if◌then◌else◌, List, [], ◌∷◌, ◌++◌, length, take, drop, Result, Ok, Err, OnErr, IfErr, arith}
 use Rattle.std.specs.Prelude.{◌≢◌, zero, suc}
 use Rattle.std.proofs.Math.Seq.{drop-append_seam, take-append_seam}
 use Rattle.std.proofs.lemmas.List.{append_assoc, length-append}
@@ -9,9 +9,12 @@ use Rattle.router_trace.specs.declared.event.Event.TheVariants as event
 use Rattle.router_trace.specs.Trace.{Entry, Step, step_of}
 use Rattle.core_machine.specs.declared.counts.Counts.{Counts}
 use Rattle.core_machine.specs.Counting.{with_event}
-use Rattle.core_machine.specs.Meaning.{Meaning}
+use Rattle.core_machine.specs.Meaning.{Meaning, BookAt}
+use Rattle.core_machine.specs.Turns.{declines}
+use Rattle.core_machine.specs.declared.fault.CoreFault.{CoreFault}
+use Rattle.core_machine.specs.declared.fault.CoreFault.TheVariants.{Disk, Memory, Failed, NoConnection}
 use Rattle.serve_lock.specs.Adding.{Handled, with_items}
-use Rattle.serve_lock.specs.Handing.{Enough, Stopped, gone, handed}
+use Rattle.serve_lock.specs.Handing.{Enough, Refuses, Stopped, gone, handed}
 
 -- items, then one more
 handed_more : (next : List Entry → Step → List Entry) (conn : ConnectionId) (items : List Item) (item : Item) (t : List Entry)
@@ -32,6 +35,15 @@ pub on_fault : {T E : Type 0} (r : Result T E) (P : Type 0) → P → OnErr r P
 on_fault (Ok x) P is = tt
 on_fault (Err e) P is = is
 
+-- an answer Ok is no fault
+pub ok_is_no_fault : {T : Type 0} (x : T) (e : CoreFault) → Ok x ≡ Err e → ⊥
+ok_is_no_fault x e is = cc
+
+-- what a fault leaves that is handed on
+pub handed_on : {T : Type 0} (r : Result T CoreFault) (f : CoreFault) (P : CoreFault → Type 0) → r ≡ Err f → P f → IfErr r P
+handed_on (Ok x) f P is left = absurd (ok_is_no_fault x f is)
+handed_on (Err e) f P is left = subst P (let same : f ≡ e = cc in same) left
+
 -- so many items of a queue were handed in, and so many more may write to the journal
 pub record IsFar {M : Type 0} (m : Meaning M) (conn : ConnectionId) (before behind : List Item) (had has : Counts) (old new : M) (turn writes : ℕ) : Type 0 where
   pub items : List Item
@@ -42,6 +54,10 @@ pub record IsFar {M : Type 0} (m : Meaning M) (conn : ConnectionId) (before behi
   pub named : m.id new ≡ m.id old
   pub fits : (t : List Entry) → m.fits old t → m.fits new (handed (m.next (m.id old)) conn items t)
   pub batches : (t : List Entry) → m.fits old t → m.batches new + writes ≡ m.batches old + 8
+  pub none : turn ≡ 0 → new ≡ old
+  pub works : 0 < turn → m.is_failed new ≡ false
+  pub keeps : (t : List Entry) → m.fits old t → m.keeps old (m.book t) → m.keeps new (m.book (handed (m.next (m.id old)) conn items t))
+  pub failures : m.failures new ≡ m.failures old
 
 -- none yet
 pub at_first : {M : Type 0} (m : Meaning M) (conn : ConnectionId) (before : List Item) (had : Counts) (core : M) → IsFar m conn before before had had core core 0 8
@@ -54,7 +70,20 @@ at_first m conn before had core = record {
   named = refl;
   fits = λ t fits. fits;
   batches = λ t fits. refl;
+  none = λ _. refl;
+  works = λ some. absurd (omega (arith, some));
+  keeps = λ t fits kept. kept;
+  failures = refl;
 }
+
+no_items : (items : List Item) → length items ≡ 0 → items ≡ []
+no_items [] none = refl
+no_items (i ∷ is) none = absurd (omega (arith, none))
+
+-- a machine that failed has handled none of them
+none_handled : (turn : ℕ) (b : Bool) → (0 < turn → b ≡ false) → b ≡ true → turn ≡ 0
+none_handled zero b works fails = refl
+none_handled (suc n) b works fails = absurd (let bad : true ≡ false = sym fails ∙ works (omega arith) in cc)
 
 module _ {M : Type 0} (m : Meaning M) (conn : ConnectionId) (before behind : List Item) (had mid : Counts) (old core : M) (turn writes : ℕ) (far : IsFar m conn before behind had mid old core turn writes) where
   -- one more
@@ -62,8 +91,10 @@ module _ {M : Type 0} (m : Meaning M) (conn : ConnectionId) (before behind : Lis
       → writes ≡ left + (if wrote then 1 else 0)
       → ((t : List Entry) → m.fits core t → m.fits new (m.next (m.id core) t (step_of (event.Item conn item))))
       → ((t : List Entry) → m.fits core t → m.batches new ≡ m.batches core + (if wrote then 1 else 0))
-      → m.id new ≡ m.id core → IsFar m conn before rest had has old new (turn + 1) left
-  further item rest has new wrote left popped counted fewer fits written named = record {
+      → m.id new ≡ m.id core → m.is_failed new ≡ false
+      → ((t : List Entry) → m.fits core t → m.keeps core (m.book t) → m.keeps new (m.book (m.next (m.id core) t (step_of (event.Item conn item)))))
+      → m.failures new ≡ m.failures core → IsFar m conn before rest had has old new (turn + 1) left
+  further item rest has new wrote left popped counted fewer fits written named works keeps failures = record {
     items = far.items ++ item ∷ [];
     queue = far.queue ∙ ap (λ l. far.items ++ l) popped ∙ sym (append_assoc far.items (item ∷ []) rest);
     turns = length-append far.items (item ∷ []) ∙ ap (λ n. n + 1) far.turns;
@@ -75,6 +106,38 @@ module _ {M : Type 0} (m : Meaning M) (conn : ConnectionId) (before behind : Lis
         (ap (λ i. m.next i (handed (m.next (m.id old)) conn far.items t) (step_of (event.Item conn item))) far.named ∙ sym (handed_more (m.next (m.id old)) conn far.items item t))
         (fits (handed (m.next (m.id old)) conn far.items t) (far.fits t f));
     batches = λ t f. omega (arith, far.batches t f, written (handed (m.next (m.id old)) conn far.items t) (far.fits t f), fewer);
+    none = λ same. absurd (omega (arith, same));
+    works = λ _. works;
+    keeps = λ t f k. subst (λ (u : List Entry). m.keeps new (m.book u))
+        (ap (λ i. m.next i (handed (m.next (m.id old)) conn far.items t) (step_of (event.Item conn item))) far.named ∙ sym (handed_more (m.next (m.id old)) conn far.items item t))
+        (keeps (handed (m.next (m.id old)) conn far.items t) (far.fits t f) (far.keeps t f k));
+    failures = failures ∙ far.failures;
+  }
+
+  -- a fault is answered to the next one
+  pub refuses : (item : Item) (rest : List Item) (new : M) (fault : CoreFault) → behind ≡ item ∷ rest
+      → (fault ≡ NoConnection → (new ≡ core) × ((t : List Entry) → m.fits core t → declines t (event.Item conn item) ≡ true))
+      → (fault ≡ Failed → (new ≡ core) × (m.is_failed core ≡ true)) → (fault ≡ Memory → m.is_failed new ≡ true) → (fault ≡ Disk → m.is_failed new ≡ true)
+      → (fault ≡ Disk → m.failures core < m.failures new) → ((fault ≡ Disk → ⊥) → m.failures new ≡ m.failures core)
+      → ((t : List Entry) → m.fits core t → m.keeps core (m.book t) → m.leaves new (BookAt m t (event.Item conn item)))
+      → Refuses m conn before rest old new fault
+  refuses item rest new fault popped refused failed memory disk cause no_other leaves = record {
+    items = far.items;
+    item = item;
+    queue = far.queue ∙ ap (λ l. far.items ++ l) popped;
+    declined = λ is t f. (
+      subst (λ (r : M). m.fits r (handed (m.next (m.id old)) conn far.items t)) (sym (refused is).0) (far.fits t f),
+      (refused is).1 (handed (m.next (m.id old)) conn far.items t) (far.fits t f),
+    );
+    failed = λ is.
+        let first : turn ≡ 0 = none_handled turn (m.is_failed core) far.works (failed is).1 in
+        let same : core ≡ old = far.none first in
+        (no_items far.items (far.turns ∙ first), (failed is).0 ∙ same, subst (λ (r : M). m.is_failed r ≡ true) same (failed is).1);
+    memory = memory;
+    disk = disk;
+    cause = λ is. let less = cause is in omega (arith, less, far.failures);
+    no_other = λ isnt. no_other isnt ∙ far.failures;
+    leaves = λ t f k. leaves (handed (m.next (m.id old)) conn far.items t) (far.fits t f) (far.keeps t f k);
   }
 
   gone_after : (n : ℕ) → n ≡ turn → behind ≡ drop n before

@@ -1,9 +1,13 @@
 -- Items of a connection that are handed in from the front of a queue, one after another, while the lock is held once.
-use Rattle.std.specs.Prelude.{◌≡◌, ◌≤◌, ◌⊎◌, ℕ, ◌+◌, ◌-◌, List, [], ◌∷◌, length, take}
+use Rattle.std.specs.Prelude.{◌≡◌, ◌≢◌, ◌<◌, ◌≤◌, ◌⊎◌, ℕ, ◌+◌, ◌-◌, true, List, [], ◌∷◌, ◌++◌, length, take}
 use Rattle.amqp_model.specs.declared.item.Item.{Item}
 use Rattle.router_trace.specs.declared.event.ConnectionId.{ConnectionId}
 use Rattle.router_trace.specs.declared.event.Event.TheVariants as event
 use Rattle.router_trace.specs.Trace.{Trace, Step, step_of}
+use Rattle.core_machine.specs.declared.fault.CoreFault.{CoreFault}
+use Rattle.core_machine.specs.declared.fault.CoreFault.TheVariants.{Disk, Memory, Failed, NoConnection}
+use Rattle.core_machine.specs.Meaning.{Meaning, BookAt}
+use Rattle.core_machine.specs.Turns.{declines}
 
 -- the items that left the front of a queue
 abbrev pub gone : List Item → List Item → List Item
@@ -21,3 +25,24 @@ Stopped before behind had has = (behind ≡ []) ⊎ (length behind + 64 ≡ leng
 abbrev pub handed : (Trace → Step → Trace) → ConnectionId → List Item → Trace → Trace
 handed next conn [] t = t
 handed next conn (item ∷ items) t = handed next conn items (next t (step_of (event.Item conn item)))
+
+-- A router answered this fault to the last item that left a queue of a connection, after it handled those before it, in their order: what that item
+-- did, by the fault, and what a crash leaves.
+pub record Refuses {M : Type 0} (m : Meaning M) (conn : ConnectionId) (before behind : List Item) (old new : M) (fault : CoreFault) : Type 0 where
+  -- the items that were handled, and the one that wasn't
+  pub items : List Item
+  pub item : Item
+  pub queue : before ≡ items ++ item ∷ behind
+  -- the router declined it, and has handled the others
+  pub declined : fault ≡ NoConnection → (t : Trace) → m.fits old t
+      → m.fits new (handed (m.next (m.id old)) conn items t) × (declines (handed (m.next (m.id old)) conn items t) (event.Item conn item) ≡ true)
+  -- the router had failed before: it handled none, and is as it was
+  pub failed : fault ≡ Failed → (items ≡ []) × (new ≡ old) × (m.is_failed old ≡ true)
+  -- it fails now
+  pub memory : fault ≡ Memory → m.is_failed new ≡ true
+  pub disk : fault ≡ Disk → m.is_failed new ≡ true
+  -- its disk failed meanwhile exactly where the fault says so
+  pub cause : fault ≡ Disk → m.failures old < m.failures new
+  pub no_other : fault ≢ Disk → m.failures new ≡ m.failures old
+  -- a crash leaves the book after the others, or that book after the acts of this one
+  pub leaves : (t : Trace) → m.fits old t → m.keeps old (m.book t) → m.leaves new (BookAt m (handed (m.next (m.id old)) conn items t) (event.Item conn item))

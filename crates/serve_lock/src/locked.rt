@@ -1,14 +1,14 @@
 //! The data under the lock.
-ghost use Rattle.std.specs.Prelude.{◌≡◌, ◌≤◌, ◌<◌, ◌+◌, ◌∷◌, ◌%◌, ◌==◌, ◌⊎◌, ◌&&◌, ◌||◌, not, ℕ, if◌then◌else◌, [], None, true, is_some, length, OnOk, OnErr, IfOk, IfErr, IfSome, IsErrOf};
+ghost use Rattle.std.specs.Prelude.{◌≡◌, ◌≤◌, ◌<◌, ◌+◌, ◌∷◌, ◌%◌, ◌==◌, ◌⊎◌, ◌&&◌, ◌||◌, not, ℕ, if◌then◌else◌, [], None, true, false, is_some, length, OnOk, OnErr, IfOk, IfErr, IfSome, IsErrOf};
 ghost use Rattle.router_trace.specs.Trace.{Trace, Took, step_of};
 ghost use Rattle.router_trace.specs.Connection.{conn as known, is_ready, is_live};
 ghost use Rattle.core_machine.specs.Counting.{uncounted, with_event, with_batch};
-ghost use Rattle.core_machine.specs.Meaning.{IsBatchOf};
+ghost use Rattle.core_machine.specs.Meaning.{BookAt, IsBatchOf};
 ghost use Rattle.core_machine.specs.Turns.{declines};
 ghost use Rattle.core_machine.specs.declared.fault.CoreFault.TheVariants.{Disk as DiskFailed, Memory, Failed, NoConnection};
 ghost use Rattle.serve_lock.specs.Adding.{sums, Handled};
-ghost use Rattle.serve_lock.specs.Handing.{Enough, Stopped, gone, handed};
-ghost use Rattle.core_machine.specs.History.{HasHistory};
+ghost use Rattle.serve_lock.specs.Handing.{Enough, Refuses, Stopped, gone, handed};
+ghost use Rattle.core_machine.specs.History.{HasHistory, IsFirstBatch, IsGiven};
 ghost use Rattle.core_machine.specs.Opened.{IsOpened};
 ghost use Rattle.serve_lock.specs.Ringing.{is_set};
 
@@ -73,6 +73,7 @@ pub struct Locked<M: Machine, L: Log, G: Ledgers> {
     sleepers: Sleepers,
     ghost counted: { M.meaning.counts router ≡ totals },
     ghost history: { ∥ HasHistory M.meaning G.opening router ∥₁ },
+    ghost first: { ∥ IsFirstBatch M.meaning G.opening opened ∥₁ },
 }
 
 impl<M: Machine, L: Log, G: Ledgers> Locked<M, L, G> {
@@ -105,6 +106,13 @@ impl<M: Machine, L: Log, G: Ledgers> Locked<M, L, G> {
         ensures fits { OnOk result ((t : Trace) → M.meaning.fits self.old.router t → M.meaning.fits self.new.router (M.meaning.next (M.meaning.id self.old.router) t (step_of event))) }
         ensures wrote { IfOk result (λ wrote. (t : Trace) → M.meaning.fits self.old.router t → M.meaning.batches self.new.router ≡ M.meaning.batches self.old.router + (if wrote then 1 else 0)) }
         ensures named { M.meaning.id self.new.router ≡ M.meaning.id self.old.router }
+        ensures works { OnOk result (M.meaning.is_failed self.new.router ≡ false) }
+
+        // Its journal keeps the next book. Whatever is answered, a crash leaves the book before the event or the book after it.
+        ensures keeps { OnOk result ((t : Trace) → M.meaning.fits self.old.router t → M.meaning.keeps self.old.router (M.meaning.book t)
+            → M.meaning.keeps self.new.router (M.meaning.book (M.meaning.next (M.meaning.id self.old.router) t (step_of event)))) }
+        ensures leaves { (t : Trace) → M.meaning.fits self.old.router t → M.meaning.keeps self.old.router (M.meaning.book t)
+            → M.meaning.leaves self.new.router (BookAt M.meaning t event) }
 
         // Which fault occurs, and what it leaves.
         ensures refused { IfErr result (λ f. f ≡ NoConnection → (self.new.router ≡ self.old.router) × ((t : Trace) → M.meaning.fits self.old.router t → declines t event ≡ true)) }
@@ -138,6 +146,9 @@ impl<M: Machine, L: Log, G: Ledgers> Locked<M, L, G> {
         ensures fits { OnOk result ((t : Trace) → M.meaning.fits self.old.router t → M.meaning.fits self.new.router (handed (M.meaning.next (M.meaning.id self.old.router)) conn (gone items.old.items items.new.items) t)) }
         ensures stopped { OnOk result ((t : Trace) → M.meaning.fits self.old.router t → Stopped items.old.items items.new.items (M.meaning.batches self.old.router) (M.meaning.batches self.new.router)) }
         ensures writes { OnOk result ((t : Trace) → M.meaning.fits self.old.router t → M.meaning.batches self.new.router ≤ M.meaning.batches self.old.router + 8) }
+
+        // Which fault occurs, to the last item that left the queue, and what it leaves.
+        ensures fault { IfErr result (λ f. Refuses M.meaning conn items.old.items items.new.items self.old.router self.new.router f) }
     {
         let mut writes = WRITES;
         for _turn in 0..MOST {
@@ -159,6 +170,7 @@ impl<M: Machine, L: Log, G: Ledgers> Locked<M, L, G> {
         ensures batch { IfOk result (λ batch. (t : Trace) → M.meaning.fits self.old.router t → IsBatchOf (known t conn.0) 64 batch) }
         ensures whose { IfOk result (λ b. b.conn ≡ conn) }
         ensures most { IfOk result (λ b. length b.items.items ≤ 64) }
+        ensures given { IfOk result (λ b. ∥ IsGiven M.meaning G.opening conn b ∥₁) }
         ensures counted { OnOk result (seat.new ≡ with_batch seat.old) }
         ensures uncounted { OnErr result (seat.new ≡ seat.old) }
 
@@ -216,6 +228,7 @@ impl<M: Machine, L: Log, G: Ledgers> Locked<M, L, G> {
         ensures counts { result.counts ≡ sums seats.items }
         ensures all { result.all ≡ true → M.meaning.counts result.core ≡ result.counts }
         ensures appended { result.appended ≡ M.meaning.batches result.core }
+        ensures opened { ∥ IsFirstBatch M.meaning G.opening result.opened ∥₁ }
         ensures history { ∥ HasHistory M.meaning G.opening result.core ∥₁ }
     {
         drop(receipts);

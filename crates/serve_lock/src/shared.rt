@@ -1,9 +1,10 @@
 //! The lock, and the bells beside it.
-ghost use Rattle.std.specs.Prelude.{◌≡◌, ◌<◌, ◌≤◌, true, length, vec_len, OnOk, OnErr, IfOk, IfSome};
+ghost use Rattle.std.specs.Prelude.{◌≡◌, ◌<◌, ◌≤◌, true, length, vec_len, OnOk, OnErr, IfOk, IfErr, IfSome};
 ghost use Rattle.core_machine.specs.Counting.{uncounted, with_event, with_batch};
+ghost use Rattle.core_machine.specs.declared.fault.CoreFault.TheVariants.{Disk as DiskFailed};
 ghost use Rattle.serve_lock.specs.Adding.{sums, Handled};
 ghost use Rattle.serve_lock.specs.Handing.{Enough};
-ghost use Rattle.core_machine.specs.History.{HasHistory};
+ghost use Rattle.core_machine.specs.History.{HasHistory, IsFirstBatch, IsGiven};
 ghost use Rattle.core_machine.specs.Opened.{IsOpened};
 
 use crate::bells::{BELLS, Bells, bell_of};
@@ -123,8 +124,10 @@ impl<M: Machine, L: Log, G: Ledgers> Shared<M, L, G> {
     ) -> Result<Batch, CoreFault>
         ensures whose { IfOk result (λ b. b.conn ≡ conn) }
         ensures most { IfOk result (λ b. length b.items.items ≤ 64) }
+        ensures given { IfOk result (λ b. ∥ IsGiven M.meaning G.opening conn b ∥₁) }
         ensures counted { OnOk result (seat.new ≡ with_batch seat.old) }
         ensures uncounted { OnErr result (seat.new ≡ seat.old) }
+        ensures no_disk { IfErr result (λ f. f ≡ DiskFailed → ⊥) }
     {
         let bell = &self.bells[bell_of(conn)];
         let mut locked = bell.wait_while(rt, self.state.lock(rt), |locked| locked.sleeps(conn));
@@ -147,6 +150,7 @@ impl<M: Machine, L: Log, G: Ledgers> Shared<M, L, G> {
         ensures counts { result.counts ≡ sums seats.items }
         ensures all { result.all ≡ true → M.meaning.counts result.core ≡ result.counts }
         ensures appended { result.appended ≡ M.meaning.batches result.core }
+        ensures opened { ∥ IsFirstBatch M.meaning G.opening result.opened ∥₁ }
         ensures history { ∥ HasHistory M.meaning G.opening result.core ∥₁ }
     {
         let Shared { state, bells: _ } = self;

@@ -9,6 +9,7 @@ invariant_of-self g c = let h = c.handle.ensures in
     let more = handled g.M.Machine.meaning g.G.Ledgers.opening c.args.self.now.router c.handle.new.self c.args.event c.handle.result in record {
       counted = c.in_err-done.ensures.uncounted ∙ c.args.self.now.counted;
       history = ∥∥₁_map c.args.self.now.history (λ lived. more lived h.fits h.taken h.works h.keeps h.leaves h.counted h.uncounted h.named h.failed h.refused h.refuses h.unchanged h.memory h.disk);
+      first = c.args.self.now.first;
     }
 
 -- the event was handled
@@ -17,4 +18,5 @@ invariant_of-self-2 g c = let h = c.handle.ensures in
     let more = handled g.M.Machine.meaning g.G.Ledgers.opening c.args.self.now.router c.handle.new.self c.args.event c.handle.result in record {
       counted = sym c.counts.ensures ∙ sym c.add.ensures.total;
       history = ∥∥₁_map c.args.self.now.history (λ lived. more lived h.fits h.taken h.works h.keeps h.leaves h.counted h.uncounted h.named h.failed h.refused h.refuses h.unchanged h.memory h.disk);
+      first = c.args.self.now.first;
     }
