@@ -42,26 +42,28 @@ pub record Spoilt (at end : ℕ) (old new : List ℕ) : Type 0 where
   pub is : new ≡ take at old ++ middle ++ drop end old ++ past
   pub fits : end < length old → length middle ≡ end - at
 
+-- What follows is said of contents of any type: the bytes of one file, or of several.
+
 -- a crash leaves nothing that it might not have left before
-abbrev pub NoMore : (List ℕ → Type 0) → (List ℕ → Type 0) → Type 0
-NoMore old new = (c : List ℕ) → new c → old c
+abbrev pub NoMore : {C : Type 0} → (C → Type 0) → (C → Type 0) → Type 0
+NoMore {C = C} old new = (c : C) → new c → old c
 
 -- a crash leaves this and nothing else
-abbrev pub Only : List ℕ → (List ℕ → Type 0) → Type 0
-Only file outcomes = (c : List ℕ) → outcomes c → c ≡ file
+abbrev pub Only : {C : Type 0} → C → (C → Type 0) → Type 0
+Only {C = C} contents outcomes = (c : C) → outcomes c → c ≡ contents
 
 -- Time goes on: a crash since t might have left what it might have left before, or what it may leave now.
-pub record Elapses (before now : ℕ) (past since : ℕ → List ℕ → Type 0) (may_leave : List ℕ → Type 0) : Type 0 where
+pub record Elapses {C : Type 0} (before now : ℕ) (past since : ℕ → C → Type 0) (may_leave : C → Type 0) : Type 0 where
   pub later : before ≤ now
-  pub nothing_else : (t : ℕ) (c : List ℕ) → t ≤ before → since t c → past t c ⊎ may_leave c
-  pub keeps : (t : ℕ) (c : List ℕ) → t ≤ before → past t c → since t c
+  pub nothing_else : (t : ℕ) (c : C) → t ≤ before → since t c → past t c ⊎ may_leave c
+  pub keeps : (t : ℕ) (c : C) → t ≤ before → past t c → since t c
 
--- a crash at any moment since old, up to new, leaves a file that has P
-pub record LeavesOnly {D : Type 0} (moment : D → ℕ) (left_since : D → ℕ → List ℕ → Type 0) (old new : D) (P : List ℕ → Type 0) : Type 0 where
+-- a crash at any moment since old, up to new, leaves contents that have P
+pub record LeavesOnly {D : Type 0} {C : Type 0} (moment : D → ℕ) (left_since : D → ℕ → C → Type 0) (old new : D) (P : C → Type 0) : Type 0 where
   pub later : moment old ≤ moment new
-  pub each : (c : List ℕ) → left_since new (moment old) c → P c
+  pub each : (c : C) → left_since new (moment old) c → P c
   -- for a run that began earlier
-  pub before : (t : ℕ) (c : List ℕ) → t ≤ moment old → left_since new t c → left_since old t c ⊎ P c
+  pub before : (t : ℕ) (c : C) → t ≤ moment old → left_since new t c → left_since old t c ⊎ P c
 
 -- `Failed` is answered exactly where the disk failed once more
 pub record HasCause {T : Type 0} (before now : ℕ) (result : Result T DiskFault) : Type 0 where

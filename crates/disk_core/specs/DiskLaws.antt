@@ -14,14 +14,14 @@ overwritten_inside at (byte ∷ bytes) old le =
     (ap (λ (n : ℕ). take at old ++ replicate n 0) (let none : at - length old ≡ 0 = omega (arith, le) in none) ∙ append-nil (take at old))
 
 -- Runs of calls.
-module _ {D : Type 0} (moment : D → ℕ) (left_since : D → ℕ → List ℕ → Type 0) where
+module _ {D : Type 0} {C : Type 0} (moment : D → ℕ) (left_since : D → ℕ → C → Type 0) where
   -- before the first call
-  pub started : (old : D) (P : List ℕ → Type 0) → ((c : List ℕ) → left_since old (moment old) c → P c) → LeavesOnly moment left_since old old P
+  pub started : (old : D) (P : C → Type 0) → ((c : C) → left_since old (moment old) c → P c) → LeavesOnly moment left_since old old P
   started old P here = record { later = omega arith; each = here; before = λ t c le left. inl left }
 
   -- one call more, after which a crash leaves what has P
-  pub goes_on : (old mid new : D) (P may_leave : List ℕ → Type 0) → LeavesOnly moment left_since old mid P → Elapses (moment mid) (moment new) (left_since mid) (left_since new) may_leave
-      → ((c : List ℕ) → may_leave c → P c) → LeavesOnly moment left_since old new P
+  pub goes_on : (old mid new : D) (P may_leave : C → Type 0) → LeavesOnly moment left_since old mid P → Elapses (moment mid) (moment new) (left_since mid) (left_since new) may_leave
+      → ((c : C) → may_leave c → P c) → LeavesOnly moment left_since old new P
   goes_on old mid new P may_leave so_far time here = record {
     later = omega (arith, so_far.later, time.later);
     each = λ c left. ⊎_elim (so_far.each c) (here c) (time.nothing_else (moment old) c so_far.later left);
@@ -29,7 +29,7 @@ module _ {D : Type 0} (moment : D → ℕ) (left_since : D → ℕ → List ℕ 
   }
 
   -- a wider property
-  pub widened : (old new : D) (P Q : List ℕ → Type 0) → LeavesOnly moment left_since old new P → ((c : List ℕ) → P c → Q c) → LeavesOnly moment left_since old new Q
+  pub widened : (old new : D) (P Q : C → Type 0) → LeavesOnly moment left_since old new P → ((c : C) → P c → Q c) → LeavesOnly moment left_since old new Q
   widened old new P Q run wider = record {
     later = run.later;
     each = λ c left. wider c (run.each c left);
@@ -37,7 +37,7 @@ module _ {D : Type 0} (moment : D → ℕ) (left_since : D → ℕ → List ℕ 
   }
 
   -- two runs, one after the other
-  pub joined : (old mid new : D) (P : List ℕ → Type 0) → LeavesOnly moment left_since old mid P → LeavesOnly moment left_since mid new P → LeavesOnly moment left_since old new P
+  pub joined : (old mid new : D) (P : C → Type 0) → LeavesOnly moment left_since old mid P → LeavesOnly moment left_since mid new P → LeavesOnly moment left_since old new P
   joined old mid new P front back = record {
     later = omega (arith, front.later, back.later);
     each = λ c left. ⊎_elim (front.each c) (λ has. has) (back.before (moment old) c front.later left);
