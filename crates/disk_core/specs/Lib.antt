@@ -5,7 +5,9 @@ pub mod Event
 pub mod Fault
 pub mod File
 pub mod Fuse
+pub mod FuseTwin
 pub mod ImageLaws
 pub mod Memory
 pub mod Note
 pub mod SpoiltLaws
+pub mod Twin
