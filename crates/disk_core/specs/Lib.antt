@@ -7,7 +7,10 @@ pub mod File
 pub mod Fuse
 pub mod FuseTwin
 pub mod ImageLaws
+pub mod MemTwin
 pub mod Memory
 pub mod Note
 pub mod SpoiltLaws
+pub mod TurnLaws
+pub mod Turns
 pub mod Twin
