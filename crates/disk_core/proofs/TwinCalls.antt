@@ -12,6 +12,7 @@ use Rattle.disk_core.specs.DiskLaws.{overwritten_inside}
 use Rattle.disk_core.specs.Event.{Event, Wrote, Shortened, Synced, BeganWrite, BeganCut, seen_of, kept_of, opened, ImagesNow}
 use Rattle.disk_core.specs.ImageLaws.{image_seen, opens_none, opens_wrote, opens_shortened, opens_began_write, opens_began_cut, image_synced}
 use Rattle.disk_core.specs.TurnLaws.{each_side}
+use Rattle.disk_core.specs.TwinLaws.{by_side}
 use Rattle.disk_core.specs.Turns.{Turn, Of, on, both, LeftNow, LeftSince, Told, add, write_event, cut_event, sync_event}
 use Rattle.disk_core.specs.Twin.{other, Contents, OnSide}
 
@@ -91,13 +92,6 @@ opens_on side turns now places opens = record {
 
 event_of_side : (side : Side) (e : Event) (turns now : List Turn) → now ≡ add side (Some e) turns → on side now ≡ e ∷ on side turns
 event_of_side side e turns now is = ap (on side) is ∙ on_same side e turns
-
--- The place of each side.
-by_side : (side : Side) (P : Side → Type 0) → P side → P (other side) → (s : Side) → P s
-by_side First P here there First = here
-by_side First P here there Second = there
-by_side Second P here there First = there
-by_side Second P here there Second = here
 
 -- A file that is told by its events is told by one more after a call.
 agrees_now : (es : List Event) (c : List ℕ) → ImagesNow [] es c → Agrees (opened es) (kept_of [] es) c

@@ -4,6 +4,7 @@ pub mod DiskLaws
 pub mod Event
 pub mod Fault
 pub mod File
+pub mod FileTwin
 pub mod Fuse
 pub mod FuseTwin
 pub mod ImageLaws
@@ -14,3 +15,4 @@ pub mod SpoiltLaws
 pub mod TurnLaws
 pub mod Turns
 pub mod Twin
+pub mod TwinLaws
