@@ -4,8 +4,15 @@ pub mod DiskLaws
 pub mod Event
 pub mod Fault
 pub mod File
+pub mod FileTwin
 pub mod Fuse
+pub mod FuseTwin
 pub mod ImageLaws
+pub mod MemTwin
 pub mod Memory
 pub mod Note
 pub mod SpoiltLaws
+pub mod TurnLaws
+pub mod Turns
+pub mod Twin
+pub mod TwinLaws

@@ -139,6 +139,13 @@ impl FileDisk {
         }
     }
 
+    /// The bytes that the file holds, by this disk's own account.
+    pub(crate) fn bytes(&self) -> &[u8]
+        ensures { result.now ≡ bytes_in self.now }
+    {
+        &self.bytes
+    }
+
     /// The count after one more failure.
     fn next_failure(&self) -> Result<u64, DiskFault>
         ensures next { IfOk result (λ failed. failed ≡ self.now.failed + 1) }
