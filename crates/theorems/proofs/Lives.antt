@@ -32,7 +32,7 @@ module _ (P : Trace → Type 0)
   cut_keeps [] t u was is = subst P (sym is) was
   cut_keeps (e ∷ es) t u was rest = cut_keeps es (did e ∷ booked t e) u (cuts t e was) rest.1
 
-  pub lives_keep : P [] → InLives P
+  pub lives_keep : P [] → (id : List ℕ) (lives : List Life) (u : Trace) → Lives id lives u → P u
   lives_keep none id [] u all = subst P (sym all) none
   lives_keep none id (x ∷ xs) u all =
       cut_keeps x.cut all.1 u (moves id x.moves (opened x.opening all.0) all.1 (opens x.opening all.0 all.3 (lives_keep none id xs all.0 all.2)) all.4) all.5
@@ -56,7 +56,7 @@ pub lives_rows : InLives Rows
 lives_rows = lives_keep Rows opened_rows (λ id ms t u was went. moves_rows id ms t u was (goes id ms t u went)) cut_rows no_rows
 
 pub lives_once : InLives RowsAreDecidedOnce
-lives_once id lives u all =
+lives_once = λ id lives u all.
     (lives_keep (Once empty_book) (opened_once empty_book) (λ id ms t u was went. moves_once empty_book id ms t u was (goes id ms t u went)) (cut_once empty_book)
     none_once id lives u all).once
 
@@ -78,4 +78,4 @@ lives_past id (x ∷ xs) u all small =
     (moves_past id x.moves x.opening all.0 all.1 all.3 (lives_past id xs all.0 all.2 small.1) all.4 (small_cut x.cut all.1 u all.5 small.0)) all.5
 
 pub lives_outcomes : InSmallLives (EachOut OutcomeIsKept)
-lives_outcomes id lives u all small = (lives_past id lives u all small).law
+lives_outcomes = λ id lives u all small. (lives_past id lives u all small).law
