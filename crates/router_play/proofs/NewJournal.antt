@@ -11,6 +11,8 @@ use Rattle.journal_store.specs.declared.store.Store.{Store}
 use Rattle.journal_store.specs.Store.{OpensTo, Stands, disk_of, used_of, count_of}
 use Rattle.journal_store.proofs.Opened.{opens_to_one}
 use Rattle.router_trace.specs.Trace.{Beginning}
+use Rattle.core_machine.specs.Meaning.{Meaning}
+use Rattle.core_machine.specs.Opened.{IsOpened}
 use Rattle.router_core.specs.declared.router.Core.{Core}
 use Rattle.router_core.specs.Handling.{store_of, kept_book}
 use Rattle.router_core.specs.Machine.{opening_of}
@@ -40,3 +42,7 @@ opening_new core config book used batches =
     ap (λ (b : BookView). begun_with config b (used_of (store_of core)) (count_of (store_of core))) book
     ∙ ap (λ (n : ℕ). begun_with config empty_book n (count_of (store_of core))) used
     ∙ ap (λ (n : ℕ). begun_with config empty_book 9 n) batches
+
+-- a machine that was opened so
+pub opened_same : {M : Type 0} (m : Meaning M) (g h : Beginning) (router : M) → g ≡ h → IsOpened m g router → IsOpened m h router
+opened_same m g h router same is = subst (λ (k : Beginning). IsOpened m k router) same is
