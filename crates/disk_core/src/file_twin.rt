@@ -18,9 +18,9 @@ use std::rt::Files;
 
 /// Two files that nobody else writes, NAME.0 and NAME.1.
 ///
-/// Each call is one of a [`FileDisk`] on its side, with what is said there: the premise, the copy in memory, and that
-/// no sync of a side succeeds after a call on that side that failed. What a crash may leave of both at one moment is
-/// kept in a ghost record of what was done on either side.
+/// Each call is one of a [`FileDisk`] on its side, with what is said there: the premise, the copy in memory, and that no sync
+/// of a side succeeds after a call on that side that failed. What a crash may leave of both at one moment is kept in a ghost
+/// record of what was done on either side.
 #[derive(Drop)]
 pub struct FileTwin {
     first: FileDisk,
@@ -64,9 +64,9 @@ impl FileTwin {
 
     /// Opens two regular files that are there, with a limit to the bytes of each, for reading only: each write fails.
     ///
-    /// `Failed`: one isn't there, or is no regular file, or can't be opened or read. A folder, a pipe and a device are
-    /// refused before they are opened, so that none is waited for. `Memory`: one has more bytes, which is found before
-    /// any memory is asked for them, or they don't fit in memory.
+    /// `Failed`: one isn't there, or is no regular file, or can't be opened or read. A folder, a pipe and a device are refused
+    /// before they are opened, so that none is waited for. `Memory`: one has more bytes, which is found before any memory is
+    /// asked for them, or they don't fit in memory.
     pub fn open_to_read<R: Files<File = File>>(
         rt: &R,
         alloc: Global,
@@ -89,11 +89,10 @@ impl FileTwin {
         Ok(FileTwin::over(first, second))
     }
 
-    /// Opens two files as `open` does, and makes empty ones where none are, the second first. Syncs their names too.
-    /// Where it fails it removes any file that it made.
+    /// Opens two files as `open` does, and makes empty ones where none are, the second first. Syncs their names too. Where
+    /// it fails it removes any file that it made.
     ///
-    /// `Failed`: one can't be made, opened or read, or their folder not synced. `Memory`: their bytes don't fit in
-    /// memory.
+    /// `Failed`: one can't be made, opened or read, or their folder not synced. `Memory`: their bytes don't fit in memory.
     pub fn create<R: Files<File = File>>(
         rt: &R,
         alloc: Global,
@@ -202,8 +201,7 @@ impl Twin for FileTwin {
             (left_since_of self.old) (left_since_of self.new) (images_of self.new) }
         ensures cause { HasCause (failures_of self.old) (failures_of self.new) result }
 
-        // A call that fails leaves the bytes as they were, but it has begun, by the record, and no sync of its side
-        // succeeds any more.
+        // A call that fails leaves the bytes as they were, but it has begun, by the record, and no sync of its side succeeds any more.
         ensures failed { IsErr result → contents_in self.new ≡ contents_in self.old }
         ensures began { IsErrOf result DiskFault.Failed →
             turns_in self.new ≡ Of side (BeganWrite at (length bytes.now)) ∷ turns_in self.old }
@@ -237,8 +235,7 @@ impl Twin for FileTwin {
             (left_since_of self.old) (left_since_of self.new) (images_of self.new) }
         ensures cause { HasCause (failures_of self.old) (failures_of self.new) result }
 
-        // A call that fails leaves the bytes as they were, but it has begun, by the record, and no sync of its side
-        // succeeds any more.
+        // A call that fails leaves the bytes as they were, but it has begun, by the record, and no sync of its side succeeds any more.
         ensures failed { IsErr result → contents_in self.new ≡ contents_in self.old }
         ensures began { IsErrOf result DiskFault.Failed → turns_in self.new ≡ Of side (BeganCut len) ∷ turns_in self.old }
         ensures kept { IsErrOf result DiskFault.Failed → has_lost self.new side ≡ true }

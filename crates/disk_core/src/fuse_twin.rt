@@ -8,9 +8,9 @@ ghost use Rattle.disk_core.specs.Twin.{other, OnSide};
 use crate::{CrashTwin, DiskFault, Side, Twin};
 use std::alloc::AllocError;
 
-/// A twin with one fuse for both sides: it passes a number of calls on, whichever side they are on, and then every call
-/// fails. The first write that fails this way, on either side, may have begun: it is passed on, so that a stop may
-/// leave it or not. Any other call that fails leaves both sides as they were.
+/// A twin with one fuse for both sides: it passes a number of calls on, whichever side they are on, and then every call fails.
+/// The first write that fails this way, on either side, may have begun: it is passed on, so that a stop may leave it or not. Any
+/// other call that fails leaves both sides as they were.
 #[derive(Debug, Drop)]
 pub struct FuseTwin<T: Twin> {
     inner: T,
@@ -160,8 +160,8 @@ impl<T: Twin> Twin for FuseTwin<T> {
         ensures cause { HasCause (T.failures (twin_of self.old) + own_failures self.old)
             (T.failures (twin_of self.new) + own_failures self.new) result }
 
-        // A blown fuse lets no write through, but the first one has begun, on whichever side it is: where the twin
-        // below doesn't fail too, a read gives what was to be written, and so a stop may leave it.
+        // A blown fuse lets no write through, but the first one has begun, on whichever side it is: where the twin below doesn't
+        // fail too, a read gives what was to be written, and so a stop may leave it.
         ensures burns { Burns (calls_left self.old) (calls_left self.new) result }
         ensures own { calls_left self.old ≢ Some 0 → own_failures self.new ≡ own_failures self.old }
         ensures blown { calls_left self.old ≡ Some 0 → has_begun self.old ≡ true →

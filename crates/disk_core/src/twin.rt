@@ -20,8 +20,8 @@ pub trait Twin: Drop {
     /// The moment, as a number that never decreases.
     ghost moment: { Self → ℕ };
 
-    /// What a crash at some moment from that one on might have left, during a call or between two: of both sides what
-    /// it left at one moment.
+    /// What a crash at some moment from that one on might have left, during a call or between two: of both sides what it left
+    /// at one moment.
     ghost left_since: { Self → ℕ → Contents → Type 0 };
 
     /// How often the device has failed, on either side.
@@ -37,8 +37,8 @@ pub trait Twin: Drop {
             (may_leave self.new) }
         ensures cause { HasCause (failures self.old) (failures self.new) result };
 
-    /// Reads of a side as much as there is from a place on and fits into the buffer: nothing past the end. The rest of
-    /// the buffer stays. At an `Err` the buffer may hold anything.
+    /// Reads of a side as much as there is from a place on and fits into the buffer: nothing past the end. The rest of the
+    /// buffer stays. At an `Err` the buffer may hold anything.
     fn read_at(&mut self, side: Side, at: usize, buffer: &mut [u8]) -> Result<usize, DiskFault>
         ensures count { IfOk result
             (λ n. n ≡ length (part at (length buffer.old) (seen self.old side))) }
@@ -51,8 +51,8 @@ pub trait Twin: Drop {
             (may_leave self.new) }
         ensures cause { HasCause (failures self.old) (failures self.new) result };
 
-    /// Writes on a side over what is there and past the end, and fills a gap before the place with zeros. Until a sync
-    /// of that side a crash may leave any bytes there in the range and past the old end.
+    /// Writes on a side over what is there and past the end, and fills a gap before the place with zeros. Until a sync of that
+    /// side a crash may leave any bytes there in the range and past the old end.
     fn write_at(&mut self, side: Side, at: usize, bytes: &[u8]) -> Result<(), DiskFault>
         ensures written { OnOk result (seen self.new side ≡ overwritten at bytes.now (seen self.old side)) }
         ensures crash { Opens (between at (at + length bytes.now))
@@ -74,8 +74,8 @@ pub trait Twin: Drop {
             (may_leave self.new) }
         ensures cause { HasCause (failures self.old) (failures self.new) result };
 
-    /// Cuts a side to a length. At or above the side's own length it changes nothing. Until a sync of that side a crash
-    /// may leave any bytes there from that length on.
+    /// Cuts a side to a length. At or above the side's own length it changes nothing. Until a sync of that side a crash may
+    /// leave any bytes there from that length on.
     fn cut(&mut self, side: Side, len: usize) -> Result<(), DiskFault>
         ensures cut { OnOk result (seen self.new side ≡ take len (seen self.old side)) }
         ensures crash { Opens (from len)
@@ -98,8 +98,7 @@ pub trait Twin: Drop {
             (may_leave self.new) }
         ensures cause { HasCause (failures self.old) (failures self.new) result };
 
-    /// After it a crash leaves of that side what a read gives, bytes and length. What it may leave of the other side
-    /// stays.
+    /// After it a crash leaves of that side what a read gives, bytes and length. What it may leave of the other side stays.
     fn sync(&mut self, side: Side) -> Result<(), DiskFault>
         ensures durable { OnOk result (Only (seen self.new side) (OnSide side (may_leave self.new))) }
         ensures seen { OnOk result (seen self.new ≡ seen self.old) }
@@ -137,8 +136,8 @@ pub trait CrashTwin: Twin {
     /// The fuse after it is set to this many calls: `None` on a twin that has no fuse.
     ghost fused: { ℕ → Option ℕ };
 
-    /// After this many more calls, on either side, every call fails, on a twin that has a fuse; another twin does
-    /// nothing. The bytes stay as they are.
+    /// After this many more calls, on either side, every call fails, on a twin that has a fuse; another twin does nothing.
+    /// The bytes stay as they are.
     fn fuse(&mut self, calls: u64)
         ensures set { lets_through self.new ≡ fused calls }
         ensures kept { kept self.new ≡ kept self.old }
@@ -149,9 +148,9 @@ pub trait CrashTwin: Twin {
             (Self.Twin.may_leave self.new) }
         ensures failures { Self.Twin.failures self.new ≡ Self.Twin.failures self.old };
 
-    /// The twin after a stop of both sides, with no fuse set, its failures counted from 0: `how` 0 leaves of each side
-    /// what its last sync left, 1 all writes since, and any other number does as 1. What it leaves is synced. At an
-    /// `Err` the twin is dropped.
+    /// The twin after a stop of both sides, with no fuse set, its failures counted from 0: `how` 0 leaves of each side what its
+    /// last sync left, 1 all writes since, and any other number does as 1. What it leaves is synced. At an `Err` the twin is
+    /// dropped.
     fn crash(self, how: u8) -> Result<Self, AllocError>
         ensures left { IfOk result (λ twin. Self.Twin.may_leave self (Self.Twin.seen twin)) }
         ensures oldest { how ≡ 0 → IfOk result (λ twin. Self.Twin.seen twin ≡ kept self) }
