@@ -20,6 +20,11 @@ impl Book {
     /// Reads a book back from acts, such as those of [`Book::acts`], with the numbers that come next in it. Acts apply
     /// in turn to the empty book, but their numbers need only rise, below the next ones; and what they say of termini,
     /// and the limits of 64, are tested after the last act.
+    ///
+    /// # Errors
+    ///
+    /// `NoTerminus` or `NoRow` for a next number of 0; the fault of the first act that isn't read; then `Limit` for more
+    /// than 64 rows of a terminus, then `NoTerminus` for one that a row keeps and that isn't there; `Memory`.
     pub fn restore(
         alloc: Global,
         next_terminus: TerminusNumber,
@@ -182,6 +187,7 @@ impl Tables {
             && (row.outcome.is_some() || self.may_bind(row.consumer))
     }
 
+    /// Whether no terminus has more rows than 64.
     fn all_within(&self) -> bool
         ensures { (b : BookView) → Shows self.now b → result ≡ list_all (is_within b.rows) b.rows }
     {
@@ -193,6 +199,7 @@ impl Tables {
         true
     }
 
+    /// Whether each row has the termini that it keeps.
     fn all_have_termini(&self) -> bool
         ensures { (b : BookView) → Shows self.now b → result ≡ list_all (has_termini b.termini) b.rows }
     {

@@ -1,7 +1,7 @@
 //! Questions on a book: which acts apply, and what it has then.
 use crate::acts::{acts_of, key_of, tag_of};
 use book_core::{Book, Rows};
-use book_model::{Row, RowNumber, TerminusNumber};
+use book_model::{Act, Row, RowNumber, TerminusNumber};
 use case_files::{Case, CaseFault, fault_number, number_of};
 use std::alloc::Global;
 use std::fmt::Write;
@@ -11,8 +11,12 @@ use std::fmt::Write;
 enum Question {
     /// To apply acts.
     Apply,
+    /// To read a book back.
+    Restore,
     /// The kinds and numbers of acts.
     Kinds,
+    /// The kinds and numbers of the acts that it stands for.
+    List,
     /// How much it has, and which numbers come next.
     Counts,
     /// A row.
@@ -33,7 +37,9 @@ enum Question {
 fn question_of(case: &Case<'_>) -> Result<Question, CaseFault> {
     match case.question {
         "apply" => Ok(Question::Apply),
+        "restore" => Ok(Question::Restore),
         "kinds" => Ok(Question::Kinds),
+        "list" => Ok(Question::List),
         "counts" => Ok(Question::Counts),
         "row" => Ok(Question::Row),
         "rows" => Ok(Question::Rows),
@@ -53,6 +59,7 @@ fn question_of(case: &Case<'_>) -> Result<Question, CaseFault> {
 pub fn answer(alloc: Global, book: &mut Book, case: &Case<'_>) -> Result<String, CaseFault> {
     match question_of(case)? {
         Question::Apply => apply(alloc, book, case),
+        Question::Restore => restore(alloc, book, case),
         Question::Kinds => kinds(alloc, book, case),
         question => told(alloc, book, question, case.words),
     }
@@ -68,11 +75,33 @@ fn apply(alloc: Global, book: &mut Book, case: &Case<'_>) -> Result<String, Case
     }
 }
 
-/// A line for each act: its kind and its number.
+/// Reads a book back from the acts of the lines of input, which is then that of the scene: nothing, or the fault's
+/// number. The words are the numbers that come next: `TERMINUS ROW`.
+fn restore(alloc: Global, book: &mut Book, case: &Case<'_>) -> Result<String, CaseFault> {
+    let mut words = case.words.split(' ');
+    let next_terminus = TerminusNumber(number_of(words.next())?);
+    let next_row = RowNumber(number_of(words.next())?);
+    let text = case.lines_text(alloc)?;
+    let acts = acts_of(alloc, book, text.as_str())?;
+    match Book::restore(alloc, next_terminus, next_row, acts.as_slice()) {
+        Ok(restored) => {
+            *book = restored;
+            Ok(String::new(alloc))
+        }
+        Err(fault) => fault_number(alloc, fault.number()),
+    }
+}
+
+/// The kinds and numbers of the acts of a case.
 fn kinds(alloc: Global, book: &Book, case: &Case<'_>) -> Result<String, CaseFault> {
     let text = case.input_text(alloc)?;
+    told_acts(alloc, acts_of(alloc, book, text.as_str())?.as_slice())
+}
+
+/// A line for each act: its kind and its number.
+fn told_acts(alloc: Global, acts: &[Act]) -> Result<String, CaseFault> {
     let mut lines = String::new(alloc);
-    for act in &acts_of(alloc, book, text.as_str())? {
+    for act in acts {
         let kind = act.kind();
         let number = act.number();
         writeln!(lines, "{kind} {number}")?;
@@ -89,7 +118,10 @@ fn told(alloc: Global, book: &Book, question: Question, words: &str) -> Result<S
         Question::Named => named(alloc, book, words),
         Question::Terminus => terminus(alloc, book, words),
         Question::Link => link(alloc, book, words),
-        Question::Apply | Question::Kinds | Question::Counts => counts(alloc, book),
+        Question::List => told_acts(alloc, book.acts()?.as_slice()),
+        Question::Apply | Question::Restore | Question::Kinds | Question::Counts => {
+            counts(alloc, book)
+        }
     }
 }
 

@@ -107,7 +107,7 @@ pub fn answer(
     match question_of(case)? {
         Question::Take(taken) => take(rt, scene, taken, case.words),
         Question::Put => put(rt, case.words),
-        Question::Get => digits_of(alloc, fs::read(rt, case.words)?.as_slice()),
+        Question::Get => get(rt, case.words),
         Question::Fuse => fuse(alloc, scene, number_of(Some(case.words))?),
         Question::Crash => crash(alloc, scene, number_of(Some(case.words))?),
         Question::Bytes => bytes(alloc, scene),
@@ -168,11 +168,24 @@ fn set_file(
 }
 
 /// Writes a file: `NAME BYTES`.
-fn put(rt: &HostRuntime, words: &str) -> Result<String, CaseFault> {
+///
+/// # Errors
+///
+/// `Word`, `Bytes`, `File`, `Memory`.
+pub fn put(rt: &HostRuntime, words: &str) -> Result<String, CaseFault> {
     let (name, digits) = words.split_once(' ').ok_or(CaseFault::Word)?;
     let bytes = bytes_of(rt.alloc(), digits)?;
     fs::write(rt, name, bytes.as_slice())?;
     Ok(String::new(rt.alloc()))
+}
+
+/// The bytes of a file.
+///
+/// # Errors
+///
+/// `File`, `Memory`.
+pub fn get(rt: &HostRuntime, name: &str) -> Result<String, CaseFault> {
+    digits_of(rt.alloc(), fs::read(rt, name)?.as_slice())
 }
 
 /// Sets a fuse.
@@ -271,7 +284,11 @@ fn read<D: Disk>(
 }
 
 /// Nothing if a call succeeded, or the number of its fault.
-fn done(alloc: Global, outcome: Result<(), DiskFault>) -> Result<String, CaseFault> {
+///
+/// # Errors
+///
+/// `Memory`.
+pub fn done(alloc: Global, outcome: Result<(), DiskFault>) -> Result<String, CaseFault> {
     match outcome {
         Ok(()) => Ok(String::new(alloc)),
         Err(fault) => fault_text(alloc, fault),

@@ -1,4 +1,4 @@
-//! Tries the cases that ask one library: values, performatives, frames, configurations, books, disks and journals.
+//! Tries the cases that ask one library: values, performatives, frames, configurations, books, disks, twins and journals.
 //! `docs/cases.md` describes their form.
 #![tactic(auto)]
 
@@ -11,6 +11,7 @@ mod frames;
 mod journals;
 mod performatives;
 mod scene;
+mod twins;
 mod values;
 
 use crate::scene::Subject;

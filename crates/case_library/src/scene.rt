@@ -1,6 +1,7 @@
 //! Scenes: what the questions of a case file are about.
 use crate::disks::{self, AnyDisk};
 use crate::journals::{self, StopDisk};
+use crate::twins::{self, AnyTwin};
 use crate::{books, configurations, frames, performatives, values};
 use book_core::Book;
 use case_files::{Case, CaseFault, Scene};
@@ -22,6 +23,8 @@ pub enum Subject {
     Book(Book),
     /// The disk that was taken last.
     Disk(Option<AnyDisk>),
+    /// The twin that was taken last.
+    Twin(Option<AnyTwin>),
     /// The disk of a journal, where one was taken.
     Journal(Option<StopDisk>),
 }
@@ -35,6 +38,7 @@ impl Scene for Subject {
             "configurations" => Some(Subject::Configuration(None)),
             "books" => Some(Subject::Book(Book::empty(alloc))),
             "disks" => Some(Subject::Disk(None)),
+            "twins" => Some(Subject::Twin(None)),
             "journals" => Some(Subject::Journal(None)),
             _ => None,
         }
@@ -49,6 +53,7 @@ impl Scene for Subject {
             Subject::Configuration(scene) => configurations::answer(alloc, scene, case),
             Subject::Book(book) => books::answer(alloc, book, case),
             Subject::Disk(scene) => disks::answer(rt, scene, case),
+            Subject::Twin(scene) => twins::answer(rt, scene, case),
             Subject::Journal(scene) => journals::answer(alloc, scene, case),
         }
     }

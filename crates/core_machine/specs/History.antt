@@ -48,9 +48,10 @@ pub record IsFirstBatch {M : Type 0} (m : Meaning M) (g : Beginning) (number : �
   pub was : IsOpened m g router
   pub batch : m.batches router ≡ number
 
--- A take gives this batch of a connection at some moment of a history that begins so: 64 first items of its outbox at most, as the trace of that
--- moment has them.
-pub record IsGivenOn {M : Type 0} (m : Meaning M) (g : Beginning) (below : Trace) (c : ConnectionId) (b : Batch) : Type 0 where
+-- A take gives this batch of a connection at some moment of a history that begins so: 64 first items of its outbox at
+-- most, as the trace of that moment has them.
+pub record IsGivenOn {M : Type 0} (m : Meaning M) (g : Beginning) (below : Trace) (c : ConnectionId) (b : Batch)
+    : Type 0 where
   pub id : List ℕ
   pub moves : List Move
   pub at : Trace

@@ -1,5 +1,6 @@
 -- What a reader submits.
-use Rattle.std.specs.Prelude.{◌≡◌, ◌≢◌, ◌≤◌, ◌⊎◌, ℕ, ◌+◌, ◌-◌, Bool, true, false, if◌then◌else◌, List, [], ◌++◌, Option, Some, Result, Ok, Err, IsOk, length, slice_get}
+use Rattle.std.specs.Prelude.{◌≡◌, ◌≢◌, ◌≤◌, ◌⊎◌, ℕ, ◌+◌, ◌-◌, Bool, true, false, if◌then◌else◌, List, [], ◌++◌}
+use Rattle.std.specs.Prelude.{Option, Some, Result, Ok, Err, IsOk, length, slice_get}
 use Rattle.std.specs.Io.KnownBytes.{Consumes, IsAtEnd}
 use Rattle.amqp_model.specs.declared.item.Item.{Item}
 use Rattle.amqp_model.specs.declared.item.Item.TheVariants as item
@@ -81,13 +82,15 @@ pub record HandsIn (old new : Counts) (over : List Item) (before behind : Stream
   pub none_lost : e ≢ end.Memory → (lost ≡ []) × (behind ≡ kept)
   pub ended : e ≡ end.End → IsAtEnd left ⊎ (before.failed ≡ true) ⊎ (ends_badly (over ++ items) ≡ true)
 
--- how many losses are counted, by the router's answer to it: one where it has yet to be told of the loss and answered Ok
+-- how many losses are counted, by the router's answer to it: one, if it had yet to be told of it and answered Ok
 abbrev pub losses : ReadEnd → Result (Unit {0}) CoreFault → ℕ
 losses e (Ok x) = if needs_down e then 1 else 0
 losses e (Err f) = 0
 
--- the same, and after it the loss of the connection, to which this is the router's answer: Ok too where it has no need to be told
-pub record Submitted (old new : Counts) (over : List Item) (before behind : Stream) (source left : Option (List ℕ)) (e : ReadEnd) (loss : Result (Unit {0}) CoreFault) : Type 0 where
+-- the same, and after it the loss of the connection, to which this is the router's answer: Ok too if it has no need to
+-- be told of it
+pub record Submitted (old new : Counts) (over : List Item) (before behind : Stream) (source left : Option (List ℕ))
+    (e : ReadEnd) (loss : Result (Unit {0}) CoreFault) : Type 0 where
   pub counts : Counts
   pub items : HandsIn old counts over before behind source left e
   pub not_again : needs_down e ≡ false → IsOk loss

@@ -2,7 +2,8 @@
 ghost use Rattle.std.specs.Prelude.{◌≡◌, [], false, length, Result, IsOk, OnOk, OnErr, IfErr};
 ghost use Rattle.core_machine.specs.declared.fault.CoreFault.{CoreFault};
 ghost use Rattle.serve_lock.specs.Adding.{with_items};
-ghost use Rattle.router_serve.specs.Submitting.{CountsGone, CountsSome, ends_badly, HandsIn, Hinders, IsCore, losses, needs_down, Submitted, with_downs};
+ghost use Rattle.router_serve.specs.Submitting.{CountsGone, CountsSome, ends_badly, HandsIn, Hinders, IsCore};
+ghost use Rattle.router_serve.specs.Submitting.{losses, needs_down, Submitted, with_downs};
 
 use amqp_frames::FrameReader;
 use amqp_model::Item;
@@ -32,7 +33,8 @@ pub fn serve_reader<M: Machine, L: Log, G: Ledgers, R: Wait, I: Read, P: Gate>(
     input: &mut I,
     gate: &P,
 ) -> (Seat<G>, Vec<Receipt>, ReadEnd)
-    ensures { (loss : Result (Unit {0}) CoreFault) × Submitted seat result.0 left.items frames.old frames.new (I.remaining input.old) (I.remaining input.new) result.2 loss }
+    ensures { (loss : Result (Unit {0}) CoreFault) × Submitted seat result.0 left.items frames.old frames.new
+        (I.remaining input.old) (I.remaining input.new) result.2 loss }
 {
     let mut seat = seat;
     let (end, _) = submit_stream(
@@ -41,8 +43,8 @@ pub fn serve_reader<M: Machine, L: Log, G: Ledgers, R: Wait, I: Read, P: Gate>(
     (seat, Vec::new(alloc), end)
 }
 
-/// Submits what a peer sends, and then the loss of its connection. It returns why the stream ended, and the router's answer to the loss; Ok too if
-/// the router has no need to be told of it.
+/// Submits what a peer sends, and then the loss of its connection. It returns why the stream ended, and the router's
+/// answer to the loss; Ok too if the router has no need to be told of it.
 fn submit_stream<M: Machine, L: Log, G: Ledgers, R: Wait, I: Read, P: Gate>(
     rt: &R,
     alloc: Global,
@@ -54,7 +56,8 @@ fn submit_stream<M: Machine, L: Log, G: Ledgers, R: Wait, I: Read, P: Gate>(
     input: &mut I,
     gate: &P,
 ) -> (ReadEnd, Result<(), CoreFault>)
-    ensures { Submitted seat.old seat.new left.items frames.old frames.new (I.remaining input.old) (I.remaining input.new) result.0 result.1 }
+    ensures { Submitted seat.old seat.new left.items frames.old frames.new
+        (I.remaining input.old) (I.remaining input.new) result.0 result.1 }
 {
     let end = hand_in_all(rt, alloc, shared, seat, conn, left, frames, input, gate);
     let loss = report_loss(rt, shared, seat, conn, end);

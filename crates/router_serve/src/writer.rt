@@ -1,9 +1,9 @@
 //! The thread that writes a connection's outgoing items.
-ghost use Rattle.std.specs.Prelude.{◌≡◌, ◌<◌, true, false, length, take, ℕ, OnErr, IfOk, IfErr};
+ghost use Rattle.std.specs.Prelude.{◌≡◌, true, false, OnErr, IfOk, IfErr};
 ghost use Rattle.std.specs.Io.KnownBytes.{Appends};
 ghost use Rattle.serve_streams.specs.Spelled.{spelled};
 ghost use Rattle.core_machine.specs.History.{IsGiven};
-ghost use Rattle.router_serve.specs.Wrote.{EndsAt, GoesOn, Wrote};
+ghost use Rattle.router_serve.specs.Wrote.{EndsAt, GoesOn, IsPartOf, Wrote};
 
 use core_machine::{Batch, CoreFault, Machine};
 use router_trace::ConnectionId;
@@ -26,7 +26,8 @@ pub fn serve_writer<M: Machine, L: Log, G: Ledgers, R: Wait, W: Write, P: Gate>(
     output: &mut W,
     gate: &P,
 ) -> (Seat<G>, WriteEnd)
-    ensures { Wrote (λ b. ∥ IsGiven M.meaning G.opening conn b ∥₁) conn (W.contents output.old) (W.contents output.new) seat result.0 result.1 }
+    ensures { Wrote (λ b. ∥ IsGiven M.meaning G.opening conn b ∥₁) conn
+        (W.contents output.old) (W.contents output.new) seat result.0 result.1 }
 {
     let mut seat = seat;
     let mut buffer = Vec::new(alloc);
@@ -43,8 +44,8 @@ pub fn serve_writer<M: Machine, L: Log, G: Ledgers, R: Wait, W: Write, P: Gate>(
     unreachable!()
 }
 
-/// Writes the batch that the router answered, if it begins with the number `next`, and returns the number with which the one after it begins:
-/// one above that of its last item, which may be 2^64.
+/// Writes the batch that the router answered, if it begins with the number `next`, and returns the number with which the
+/// one after it begins: one above that of its last item, which may be 2^64.
 ///
 /// # Errors
 ///
@@ -59,7 +60,8 @@ fn write_answer<R: Wait, W: Write, P: Gate>(
     gate: &P,
     buffer: &mut Vec<u8>,
 ) -> Result<u128, WriteEnd>
-    ensures goes_on { IfOk result (λ behind. GoesOn answer next behind (W.contents output.old) (W.contents output.new)) }
+    ensures goes_on { IfOk result (λ behind.
+        GoesOn answer next behind (W.contents output.old) (W.contents output.new)) }
     ensures ends { IfErr result (λ e. EndsAt answer e next (W.contents output.old) (W.contents output.new)) }
 {
     let batch = match answer {
@@ -92,7 +94,8 @@ fn write_batch<R: Wait, W: Write, P: Gate>(
     gate: &P,
     buffer: &mut Vec<u8>,
 ) -> Result<bool, AllocError>
-    ensures short { IfOk result (λ whole. whole ≡ false → (k : ℕ) × (k < length (spelled batch.now.items.items)) × Appends (W.contents output.old) (W.contents output.new) (take k (spelled batch.now.items.items))) }
+    ensures short { IfOk result (λ whole. whole ≡ false →
+        IsPartOf (spelled batch.now.items.items) (W.contents output.old) (W.contents output.new)) }
     ensures whole { IfOk result (λ whole. whole ≡ true → Appends (W.contents output.old) (W.contents output.new) (spelled batch.now.items.items)) }
     ensures err { OnErr result (output.new ≡ output.old) }
 {

@@ -26,16 +26,22 @@ abbrev pub handed : (Trace → Step → Trace) → ConnectionId → List Item �
 handed next conn [] t = t
 handed next conn (item ∷ items) t = handed next conn items (next t (step_of (event.Item conn item)))
 
--- A router answered this fault to the last item that left a queue of a connection, after it handled those before it, in their order: what that item
--- did, by the fault, and what a crash leaves.
-pub record Refuses {M : Type 0} (m : Meaning M) (conn : ConnectionId) (before behind : List Item) (old new : M) (fault : CoreFault) : Type 0 where
+-- the trace after a router handled these items
+abbrev pub after_items : {M : Type 0} → Meaning M → M → ConnectionId → List Item → Trace → Trace
+after_items m router conn items t = handed (m.next (m.id router)) conn items t
+
+-- A router answered this fault to the last item that left a queue of a connection, after it handled those before it, in
+-- their order: what that item did, by the fault, and what a crash leaves.
+pub record Refuses {M : Type 0} (m : Meaning M) (conn : ConnectionId) (before behind : List Item) (old new : M)
+    (fault : CoreFault) : Type 0 where
   -- the items that were handled, and the one that wasn't
   pub items : List Item
   pub item : Item
   pub queue : before ≡ items ++ item ∷ behind
   -- the router declined it, and has handled the others
   pub declined : fault ≡ NoConnection → (t : Trace) → m.fits old t
-      → m.fits new (handed (m.next (m.id old)) conn items t) × (declines (handed (m.next (m.id old)) conn items t) (event.Item conn item) ≡ true)
+      → m.fits new (after_items m old conn items t)
+      × (declines (after_items m old conn items t) (event.Item conn item) ≡ true)
   -- the router had failed before: it handled none, and is as it was
   pub failed : fault ≡ Failed → (items ≡ []) × (new ≡ old) × (m.is_failed old ≡ true)
   -- it fails now
@@ -45,4 +51,5 @@ pub record Refuses {M : Type 0} (m : Meaning M) (conn : ConnectionId) (before be
   pub cause : fault ≡ Disk → m.failures old < m.failures new
   pub no_other : fault ≢ Disk → m.failures new ≡ m.failures old
   -- a crash leaves the book after the others, or that book after the acts of this one
-  pub leaves : (t : Trace) → m.fits old t → m.keeps old (m.book t) → m.leaves new (BookAt m (handed (m.next (m.id old)) conn items t) (event.Item conn item))
+  pub leaves : (t : Trace) → m.fits old t → m.keeps old (m.book t)
+      → m.leaves new (BookAt m (after_items m old conn items t) (event.Item conn item))

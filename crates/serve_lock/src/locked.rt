@@ -1,5 +1,6 @@
 //! The data under the lock.
-ghost use Rattle.std.specs.Prelude.{◌≡◌, ◌≤◌, ◌<◌, ◌+◌, ◌∷◌, ◌%◌, ◌==◌, ◌⊎◌, ◌&&◌, ◌||◌, not, ℕ, if◌then◌else◌, [], None, true, false, is_some, length, OnOk, OnErr, IfOk, IfErr, IfSome, IsErrOf};
+ghost use Rattle.std.specs.Prelude.{◌≡◌, ◌≤◌, ◌<◌, ◌+◌, ◌∷◌, ◌%◌, ◌==◌, ◌⊎◌, ◌&&◌, ◌||◌, not, ℕ, if◌then◌else◌};
+ghost use Rattle.std.specs.Prelude.{[], None, true, false, is_some, length, OnOk, OnErr, IfOk, IfErr, IfSome, IsErrOf};
 ghost use Rattle.router_trace.specs.Trace.{Trace, Took, step_of};
 ghost use Rattle.router_trace.specs.Connection.{conn as known, is_ready, is_live};
 ghost use Rattle.core_machine.specs.Counting.{uncounted, with_event, with_batch};
@@ -108,10 +109,13 @@ impl<M: Machine, L: Log, G: Ledgers> Locked<M, L, G> {
         ensures named { M.meaning.id self.new.router ≡ M.meaning.id self.old.router }
         ensures works { OnOk result (M.meaning.is_failed self.new.router ≡ false) }
 
-        // Its journal keeps the next book. Whatever is answered, a crash leaves the book before the event or the book after it.
-        ensures keeps { OnOk result ((t : Trace) → M.meaning.fits self.old.router t → M.meaning.keeps self.old.router (M.meaning.book t)
-            → M.meaning.keeps self.new.router (M.meaning.book (M.meaning.next (M.meaning.id self.old.router) t (step_of event)))) }
-        ensures leaves { (t : Trace) → M.meaning.fits self.old.router t → M.meaning.keeps self.old.router (M.meaning.book t)
+        // Its journal keeps the next book. Whatever is answered, a crash leaves the book before the event or the one
+        // after it.
+        ensures keeps { OnOk result ((t : Trace) → M.meaning.fits self.old.router t
+            → M.meaning.keeps self.old.router (M.meaning.book t) → M.meaning.keeps self.new.router
+            (M.meaning.book (M.meaning.next (M.meaning.id self.old.router) t (step_of event)))) }
+        ensures leaves { (t : Trace) → M.meaning.fits self.old.router t
+            → M.meaning.keeps self.old.router (M.meaning.book t)
             → M.meaning.leaves self.new.router (BookAt M.meaning t event) }
 
         // Which fault occurs, and what it leaves.
@@ -148,7 +152,8 @@ impl<M: Machine, L: Log, G: Ledgers> Locked<M, L, G> {
         ensures writes { OnOk result ((t : Trace) → M.meaning.fits self.old.router t → M.meaning.batches self.new.router ≤ M.meaning.batches self.old.router + 8) }
 
         // Which fault occurs, to the last item that left the queue, and what it leaves.
-        ensures fault { IfErr result (λ f. Refuses M.meaning conn items.old.items items.new.items self.old.router self.new.router f) }
+        ensures fault { IfErr result (λ f.
+            Refuses M.meaning conn items.old.items items.new.items self.old.router self.new.router f) }
     {
         let mut writes = WRITES;
         for _turn in 0..MOST {
