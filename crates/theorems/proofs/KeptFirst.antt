@@ -44,6 +44,7 @@ use Rattle.router_core.specs.Replies.{handled}
 use Rattle.router_core.specs.Runs.{took_all, MayStep, Run}
 use Rattle.core_machine.specs.Moves.{Taking, took_one}
 use Rattle.core_machine.specs.Turns.{is_started, declines}
+use Rattle.router_core.proofs.Booking.{booked_keeps}
 use Rattle.router_core.proofs.Books.{started_handled}
 use Rattle.router_core.proofs.Following.{all_keep}
 use Rattle.theorems.specs.Carried.{HasSmallNumbers}

@@ -66,7 +66,7 @@ ends_life id life lives t es way file left = by (left.2).rest (left.2).events (l
       more = led.0;
       trace = is.mid;
       cut_off = refl;
-      lives = (way.1.0, is.mid, way.1.2, way.1.3, all, refl);
+      ended = (way.1.0, is.mid, way.1.2, way.1.3, all, refl);
       opens = subst (λ (b : BookView). OpensTo file b) book left.1;
     }
 
@@ -85,6 +85,6 @@ ends_life id life lives t es way file left = by (left.2).rest (left.2).events (l
       more = led.0;
       trace = did e ∷ booked is.mid e;
       cut_off = (turn, refl);
-      lives = (way.1.0, is.mid, way.1.2, way.1.3, all, (turn, refl));
+      ended = (way.1.0, is.mid, way.1.2, way.1.3, all, (turn, refl));
       opens = subst (λ (b : BookView). OpensTo file b) book left.1;
     }

@@ -76,7 +76,7 @@ pub record EndsLife (id : List ℕ) (life : Life) (lives : List Life) (t : Trace
   pub more : List Move
   pub trace : Trace
   pub cut_off : CutOff (take most rest) mid trace
-  pub lives : Lives id (stopped life more (take most rest) ∷ lives) trace
+  pub ended : Lives id (stopped life more (take most rest) ∷ lives) trace
   pub opens : OpensTo file (book_in trace)
 
 -- whatever runs were before, and whatever this one did so far

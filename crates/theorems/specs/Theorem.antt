@@ -6,14 +6,14 @@ use Rattle.router_trace.specs.declared.event.Event.{Event}
 use Rattle.router_trace.specs.Trace.{Beginning}
 use Rattle.router_core.specs.declared.driving.Driven.{Driven}
 use Rattle.router_core.specs.declared.router.Core.{Core}
-use Rattle.theorems.specs.Alike
+use Rattle.theorems.specs.Alike.{AnsweredAlone, SameWheneverTaken, SameHoweverCut}
 use Rattle.theorems.specs.Always.{Always, AlwaysFrom, AlwaysInTurn, InOneRun, InScripts, OnMade}
 use Rattle.theorems.specs.Credit.{WithinCredit}
-use Rattle.theorems.specs.Durable
+use Rattle.theorems.specs.Durable.{IsKeptFirst, RowIsAdmitted, EachRowIsBoundOnce, EachNewRowIsBound, OutcomeIsKept, EachOutcomeIsKept, EachRowIsDecidedOnce, RowsAreDecidedOnce}
 use Rattle.theorems.specs.Each.{EachOut, EachBound}
 use Rattle.theorems.specs.Lives.{InLives, InSmallLives}
 use Rattle.theorems.specs.Locked.{Kind, UnderTheLock, UnderTheLockIfSmall}
-use Rattle.theorems.specs.Messages
+use Rattle.theorems.specs.Messages.{BindsMessage, EachDeliveryCame, StaysWithConsumer, NeverComesBack, OfMessages, CarriesWhatWasBound, FramesJoin, OutcomesAreGiven, OutcomesAreOfConsumers, ToldAtMostOnce, ToldAnew, TellsAsGiven}
 use Rattle.theorems.specs.Order.{KeepsOrder, BeginsWithHeaders}
 use Rattle.theorems.specs.Stops.{Stopping, AnyMomentLeavesAPrefix, TheEndLeavesAll, EndsALife, GoesOnFrom}
 use Rattle.theorems.specs.Windows.{WindowKept}
