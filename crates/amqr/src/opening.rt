@@ -4,7 +4,7 @@ ghost use Rattle.core_machine.specs.Opened.{IsOpened};
 ghost use Rattle.router_core.specs.Machine.{opening_of};
 ghost use Rattle.amqr_files.specs.Journals.{IsNotListed};
 
-use amqr_files::{JournalDisk, Refusal, journal_disk};
+use amqr_files::{JournalDisk, Refusal, Unopened, journal_disk};
 use core_machine::Machine;
 use disk_core::{Disk, DiskFault, MemDisk};
 use gate_journal::format;
@@ -13,25 +13,32 @@ use router_core::Core;
 use std::alloc::Global;
 use std::fs::File;
 use std::rt::Files;
+use std::time::Clock;
 
 /// A router over the journal in the file that is named, or over a new one in memory.
 ///
 /// # Errors
 ///
-/// `File` where the file can't be opened for reading and writing; else as `opened`.
-pub fn open_router<R: Files<File = File>>(
+/// `InUse` where another server has the file in use, `File` where it can't be opened for reading and writing; else as `opened`.
+pub fn open_router<R: Files<File = File> + Clock>(
     rt: &R,
     alloc: Global,
     journal: Option<&str>,
     config: &Config,
-) -> Result<Core<JournalDisk>, Refusal>
+) -> Result<Core<JournalDisk>, Unopened>
     ensures opened { IfOk result (λ core. IsOpened ⟦<Core<JournalDisk> as Machine>⟧.meaning (opening_of config.now core) core) }
 {
     let disk = match journal {
         Some(path) => JournalDisk::File(journal_disk(rt, alloc, path)?),
-        None => JournalDisk::Memory(new_journal(alloc)?),
+        None => match new_journal(alloc) {
+            Ok(disk) => JournalDisk::Memory(disk),
+            Err(fault) => return Err(Unopened::Refused(Refusal::from(fault))),
+        },
     };
-    opened(alloc, disk, config)
+    match opened(alloc, disk, config) {
+        Ok(core) => Ok(core),
+        Err(refusal) => Err(Unopened::Refused(refusal)),
+    }
 }
 
 /// A new journal in memory.

@@ -6,7 +6,7 @@ ghost use Rattle.serve_lock.specs.Blank.{AreOf};
 
 use crate::opening::open_router;
 use amqr_commands::{Refusal, Serving, Status, config_at, refuse};
-use amqr_files::JournalDisk;
+use amqr_files::{Endpoint, JournalDisk, Purpose, Unopened, refuse_journal, tell_file};
 use core_machine::Machine;
 use route_table::{Config, Listener, Role};
 use router_core::Core;
@@ -35,7 +35,7 @@ enum Bound {
 }
 
 /// Serves clients at the configuration's listeners, or at the standard one where it has none, over the journal in the file that is
-/// named, or over one in memory.
+/// named, or over one in memory. Why it doesn't is a line of the output, and a sentence of the errors unless it is to be quiet.
 pub fn serve<
     R: Net<Listener = TcpListener, Stream = TcpStream>
         + Files<File = File>
@@ -46,25 +46,60 @@ pub fn serve<
         + Clock
         + Eprint,
     O: Write,
->(rt: &R, serving: Serving<'_>, output: &mut O) -> io::Result<Status> {
+    E: Write,
+>(rt: &R, serving: Serving<'_>, output: &mut O, errors: &mut E) -> io::Result<Status> {
+    if serving.quiet {
+        return serve_telling(rt, serving, output, &mut io::sink());
+    }
+    serve_telling(rt, serving, output, errors)
+}
+
+/// Serves clients, as `serve` does, and writes sentences to the errors.
+fn serve_telling<
+    R: Net<Listener = TcpListener, Stream = TcpStream>
+        + Files<File = File>
+        + AllocGlobal
+        + Threads
+        + Wait
+        + Sync
+        + Clock
+        + Eprint,
+    O: Write,
+    E: Write,
+>(rt: &R, serving: Serving<'_>, output: &mut O, errors: &mut E) -> io::Result<Status> {
     let alloc = rt.alloc();
-    let config = match config_at(rt, serving.config) {
+    let config = match config_at(rt, serving.config, errors) {
         Ok(config) => config,
         Err(refusal) => return refuse(output, refusal),
     };
     match open_router(rt, alloc, serving.journal, &config) {
-        Ok(core) => serve_over(rt, alloc, config, core, serving, output),
-        Err(refusal) => {
+        Ok(core) => serve_over(rt, alloc, config, core, serving, output, errors),
+        Err(fault) => {
             drop(config);
-            refuse(output, refusal)
+            refuse_router(rt, serving.journal.unwrap_or(""), fault, output, errors)
         }
     }
+}
+
+/// Writes why no router is opened over the journal in a file.
+fn refuse_router<R: Files<File = File>, O: Write, E: Write>(
+    rt: &R,
+    path: &str,
+    fault: Unopened,
+    output: &mut O,
+    errors: &mut E,
+) -> io::Result<Status> {
+    if fault == Unopened::Refused(Refusal::File) {
+        let _ = tell_file(rt, path, Purpose::Serve, errors);
+    }
+    refuse_journal(output, path, fault)
 }
 
 /// Serves with a router, once all listeners have their sockets.
 fn serve_over<
     R: Net<Listener = TcpListener, Stream = TcpStream> + Threads + Wait + Sync + Clock + Eprint,
     O: Write,
+    E: Write,
 >(
     rt: &R,
     alloc: Global,
@@ -72,6 +107,7 @@ fn serve_over<
     core: Core<JournalDisk>,
     serving: Serving<'_>,
     output: &mut O,
+    errors: &mut E,
 ) -> io::Result<Status>
     requires opened { IsOpened ⟦<Core<JournalDisk> as Machine>⟧.meaning (opening_of config core) core }
 {
@@ -80,7 +116,7 @@ fn serve_over<
         drop(config);
         return refuse(output, Refusal::Memory);
     };
-    match bind(rt, alloc, listeners_of(&config, &own), output) {
+    match bind(rt, alloc, listeners_of(&config, &own), output, errors) {
         Ok(Bound::All(sockets)) => match start(rt, alloc, config, core, &own, &sockets, serving) {
             Ok(status) => Ok(status),
             Err(_) => refuse(output, Refusal::Memory),
@@ -98,27 +134,33 @@ fn serve_over<
     }
 }
 
-/// Makes the sockets of listeners, and prints each listener, or the first that can't be bound.
-fn bind<R: Net<Listener = TcpListener, Stream = TcpStream>, O: Write>(
+/// Makes the sockets of listeners, and prints each listener, or the first that can't be bound, with the reason on the errors.
+fn bind<R: Net<Listener = TcpListener, Stream = TcpStream>, O: Write, E: Write>(
     rt: &R,
     alloc: Global,
     listeners: &[Listener],
     output: &mut O,
+    errors: &mut E,
 ) -> io::Result<Bound> {
-    let Ok(sockets) = bind_all(rt, alloc, listeners) else {
+    let Ok(sockets) = bind_all(rt, alloc, listeners, errors) else {
         return Ok(Bound::Ended(refuse(output, Refusal::Memory)?));
     };
     if let Some(listener) = listeners.get(sockets.len()) {
-        let (host, port) = (listener.host.as_str(), listener.port);
-        writeln!(output, "listen {host}:{port}")?;
+        let endpoint = endpoint_of(listener);
+        writeln!(output, "listen {endpoint}")?;
         return Ok(Bound::Ended(Status::BadInput));
     }
     for listener in listeners {
-        let (host, port) = (listener.host.as_str(), listener.port);
-        writeln!(output, "listening {host}:{port}")?;
+        let endpoint = endpoint_of(listener);
+        writeln!(output, "listening {endpoint}")?;
     }
     output.flush()?;
     Ok(Bound::All(sockets))
+}
+
+/// Where a listener listens.
+fn endpoint_of(listener: &Listener) -> Endpoint<'_> {
+    Endpoint::new(listener.host.as_str(), listener.port)
 }
 
 /// The listener of a configuration that has none.
@@ -137,17 +179,22 @@ fn listeners_of<'a>(config: &'a Config, own: &'a [Listener]) -> &'a [Listener] {
     }
 }
 
-/// The sockets of listeners, in order, up to the first that can't be bound.
-fn bind_all<R: Net<Listener = TcpListener, Stream = TcpStream>>(
+/// The sockets of listeners, in order, up to the first that can't be bound, of which a sentence is written to the errors.
+fn bind_all<R: Net<Listener = TcpListener, Stream = TcpStream>, E: Write>(
     rt: &R,
     alloc: Global,
     listeners: &[Listener],
+    errors: &mut E,
 ) -> Result<Vec<TcpListener>, AllocError> {
     let mut sockets = Vec::new(alloc);
     for listener in listeners {
-        match TcpListener::bind(rt, (listener.host.as_str(), listener.port)) {
+        let endpoint = endpoint_of(listener);
+        match TcpListener::bind(rt, (endpoint.host, endpoint.port)) {
             Ok(socket) => sockets.push(socket)?,
-            Err(_) => return Ok(sockets),
+            Err(error) => {
+                let _ = writeln!(errors, "no listener can be had at {endpoint}: {error}");
+                return Ok(sockets);
+            }
         }
     }
     Ok(sockets)
