@@ -11,14 +11,14 @@ use core_machine::Machine;
 use route_table::{Config, Listener, Role};
 use router_core::Core;
 use router_serve::{Blanks, Names, Server};
-use serve_sockets::{Program, ProgramState, listen};
+use serve_sockets::{Lines, Program, ProgramState, listen, write_lines};
 use std::alloc::{AllocError, Global};
 use std::fs::File;
 use std::io::{self, Write};
 use std::marker::Brand;
 use std::net::{Net, TcpListener, TcpStream};
 use std::rt::Files;
-use std::sync::Wait;
+use std::sync::{Arc, Wait};
 use std::thread::Threads;
 use std::time::Clock;
 
@@ -44,7 +44,10 @@ pub fn serve<
         + Wait
         + Sync
         + Clock
-        + Eprint,
+        + Eprint
+        + Copy
+        + Send
+        + 'static,
     O: Write,
     E: Write,
 >(rt: &R, serving: Serving<'_>, output: &mut O, errors: &mut E) -> io::Result<Status> {
@@ -63,7 +66,10 @@ fn serve_telling<
         + Wait
         + Sync
         + Clock
-        + Eprint,
+        + Eprint
+        + Copy
+        + Send
+        + 'static,
     O: Write,
     E: Write,
 >(rt: &R, serving: Serving<'_>, output: &mut O, errors: &mut E) -> io::Result<Status> {
@@ -97,7 +103,15 @@ fn refuse_router<R: Files<File = File>, O: Write, E: Write>(
 
 /// Serves with a router, once all listeners have their sockets.
 fn serve_over<
-    R: Net<Listener = TcpListener, Stream = TcpStream> + Threads + Wait + Sync + Clock + Eprint,
+    R: Net<Listener = TcpListener, Stream = TcpStream>
+        + Threads
+        + Wait
+        + Sync
+        + Clock
+        + Eprint
+        + Copy
+        + Send
+        + 'static,
     O: Write,
     E: Write,
 >(
@@ -202,7 +216,15 @@ fn bind_all<R: Net<Listener = TcpListener, Stream = TcpStream>, E: Write>(
 
 /// Serves with a router, with ledgers that are made for it.
 fn start<
-    R: Net<Listener = TcpListener, Stream = TcpStream> + Threads + Wait + Sync + Clock + Eprint,
+    R: Net<Listener = TcpListener, Stream = TcpStream>
+        + Threads
+        + Wait
+        + Sync
+        + Clock
+        + Eprint
+        + Copy
+        + Send
+        + 'static,
 >(
     rt: &R,
     alloc: Global,
@@ -221,7 +243,15 @@ fn start<
 /// Serves, and joins the threads' counts with what the router did.
 fn counted<
     N: Names,
-    R: Net<Listener = TcpListener, Stream = TcpStream> + Threads + Wait + Sync + Clock + Eprint,
+    R: Net<Listener = TcpListener, Stream = TcpStream>
+        + Threads
+        + Wait
+        + Sync
+        + Clock
+        + Eprint
+        + Copy
+        + Send
+        + 'static,
 >(
     rt: &R,
     alloc: Global,
@@ -241,8 +271,14 @@ fn counted<
         drop(config);
         return Err(AllocError);
     };
-    let state = ProgramState::new(alloc, config, serving.connections, serving.quiet);
+    let Ok(lines) = Arc::new(alloc, Lines::new(alloc, serving.quiet)) else {
+        drop(config);
+        drop(router);
+        return Err(AllocError);
+    };
+    let state = ProgramState::new(alloc, config, serving.connections, lines);
     let program = Program { router, state };
+    write_lines(rt, &program.state.lines)?;
     if serving.journal.is_none() {
         program.state.lines.say(rt, IN_MEMORY);
     }
@@ -253,6 +289,7 @@ fn counted<
         listeners_of(&program.state.config, own),
         sockets,
     );
+    program.state.lines.close(rt);
     if close(program) {
         return Ok(Status::Failed);
     }
