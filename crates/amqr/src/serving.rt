@@ -26,6 +26,10 @@ use std::time::Clock;
 const IN_MEMORY: &str =
     "the journal is kept in memory: durable deliveries don't outlive this process";
 
+/// What is reported of the limits.
+const LIMITS: &str =
+    "at most 64 connections are up at once, and 256 with those that are at their doors";
+
 /// The sockets of the listeners.
 enum Bound {
     /// Each has one.
@@ -266,6 +270,7 @@ fn counted<
     requires blanks { AreOf N.ups N.items N.downs N.ticks N.starts N.batches N.seats blanks }
     requires seats { N.seats ≡ 2 ^ 62 }
 {
+    let kept = kept_words(alloc, serving.journal, &core)?;
     let made: Result<Server<Core<JournalDisk>, N>, AllocError> = Server::new(alloc, core, blanks);
     let Ok(router) = made else {
         drop(config);
@@ -279,9 +284,8 @@ fn counted<
     let state = ProgramState::new(alloc, config, serving.connections, lines);
     let program = Program { router, state };
     write_lines(rt, &program.state.lines)?;
-    if serving.journal.is_none() {
-        program.state.lines.say(rt, IN_MEMORY);
-    }
+    program.state.lines.say(rt, kept.as_str());
+    program.state.lines.say(rt, LIMITS);
     program.start(rt);
     listen(
         rt,
@@ -294,6 +298,30 @@ fn counted<
         return Ok(Status::Failed);
     }
     Ok(Status::Done)
+}
+
+/// What is reported of the journal when serving begins: where it is, how many rows and termini it has, and how much room is left.
+fn kept_words(
+    alloc: Global,
+    path: Option<&str>,
+    core: &Core<JournalDisk>,
+) -> Result<String, AllocError> {
+    let Some(path) = path else {
+        return format!(in alloc; "{IN_MEMORY}");
+    };
+    let (undecided, unforgotten) = rows_left(core);
+    let (termini, room) = (core.book().terminus_count(), core.room().max(0));
+    format!(in alloc;
+        "the journal {path} has {undecided} rows undecided, {unforgotten} unforgotten, {termini} termini, and room for {room} bytes"
+    )
+}
+
+/// How many rows of a router's book are undecided, and how many its producers haven't settled.
+fn rows_left(core: &Core<JournalDisk>) -> (usize, usize) {
+    let rows = core.book();
+    let undecided = rows.rows().filter(|row| row.outcome.is_none()).count();
+    let unforgotten = rows.rows().filter(|row| !row.forgotten).count();
+    (undecided, unforgotten)
 }
 
 /// The seats that no thread uses come back, and all else is let go. It tells whether the router failed.
