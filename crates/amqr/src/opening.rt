@@ -4,14 +4,14 @@ ghost use Rattle.core_machine.specs.Opened.{IsOpened};
 ghost use Rattle.router_core.specs.Machine.{opening_of};
 ghost use Rattle.amqr_files.specs.Journals.{IsNotListed};
 
-use amqr_files::{JournalDisk, Refusal, Unopened, journal_disk};
+use amqr_files::{JournalDisk, MOST_BYTES, Refusal, Unopened, journal_disk};
 use core_machine::Machine;
 use disk_core::{Disk, DiskFault, MemDisk};
 use gate_journal::format;
 use route_table::Config;
 use router_core::Core;
-use std::alloc::Global;
-use std::fs::File;
+use std::alloc::{AllocError, Global};
+use std::fs::{self, File};
 use std::rt::Files;
 use std::time::Clock;
 
@@ -62,4 +62,40 @@ fn opened(alloc: Global, disk: JournalDisk, config: &Config) -> Result<Core<Jour
         Ok(core) => Ok(core),
         Err(fault) => Err(Refusal::from(fault)),
     }
+}
+
+/// What is reported of the journal when serving begins: where it is, how many rows and termini it has, and how full its file is.
+///
+/// # Errors
+///
+/// Memory was refused.
+pub fn journal_words<R: Files<File = File>>(
+    rt: &R,
+    alloc: Global,
+    path: Option<&str>,
+    core: &Core<JournalDisk>,
+) -> Result<String, AllocError> {
+    let Some(path) = path else {
+        return format!(in alloc;
+            "the journal is kept in memory: durable deliveries don't outlive this process"
+        );
+    };
+    let bytes = match fs::metadata(rt, path) {
+        Ok(found) => found.len(),
+        Err(_) => 0,
+    };
+    let room = (MOST_BYTES as u64).saturating_sub(bytes);
+    let (undecided, unforgotten) = rows_left(core);
+    let termini = core.book().terminus_count();
+    format!(in alloc;
+        "the journal {path} has {undecided} undecided rows, {unforgotten} unforgotten ones and {termini} termini; {room} bytes are left of {MOST_BYTES}"
+    )
+}
+
+/// How many rows of a router's book are undecided, and how many its producers haven't settled.
+fn rows_left(core: &Core<JournalDisk>) -> (usize, usize) {
+    let book = core.book();
+    let undecided = book.rows().filter(|row| row.outcome.is_none()).count();
+    let unforgotten = book.rows().filter(|row| !row.forgotten).count();
+    (undecided, unforgotten)
 }

@@ -4,14 +4,15 @@ ghost use Rattle.core_machine.specs.Opened.{IsOpened};
 ghost use Rattle.router_core.specs.Machine.{opening_of};
 ghost use Rattle.serve_lock.specs.Blank.{AreOf};
 
-use crate::opening::open_router;
+use crate::opening::{journal_words, open_router};
 use amqr_commands::{Refusal, Serving, Status, config_at, refuse};
 use amqr_files::{Endpoint, JournalDisk, Purpose, Unopened, refuse_journal, tell_file};
 use core_machine::Machine;
 use route_table::{Config, Listener, Role};
 use router_core::Core;
 use router_serve::{Blanks, Names, Server};
-use serve_sockets::{Lines, Program, ProgramState, listen, write_lines};
+use serve_sockets::{Lines, Program, ProgramState, THREADS, listen, write_lines};
+use state_connections::CONNECTIONS;
 use std::alloc::{AllocError, Global};
 use std::fs::File;
 use std::io::{self, Write};
@@ -22,13 +23,14 @@ use std::sync::{Arc, Wait};
 use std::thread::Threads;
 use std::time::Clock;
 
-/// What is reported where the journal is kept in memory.
-const IN_MEMORY: &str =
-    "the journal is kept in memory: durable deliveries don't outlive this process";
-
-/// What is reported of the limits.
-const LIMITS: &str =
-    "at most 64 connections are up at once, and 256 with those that are at their doors";
+/// How clients are to be served, and what is reported first.
+#[derive(Clone, Copy)]
+struct Task<'a> {
+    /// How they are to be served.
+    serving: Serving<'a>,
+    /// What is reported of the journal.
+    journal: &'a str,
+}
 
 /// The sockets of the listeners.
 enum Bound {
@@ -83,7 +85,18 @@ fn serve_telling<
         Err(refusal) => return refuse(output, refusal),
     };
     match open_router(rt, alloc, serving.journal, &config) {
-        Ok(core) => serve_over(rt, alloc, config, core, serving, output, errors),
+        Ok(core) => {
+            let Ok(journal) = journal_words(rt, alloc, serving.journal, &core) else {
+                drop(core);
+                drop(config);
+                return refuse(output, Refusal::Memory);
+            };
+            let task = Task {
+                serving,
+                journal: journal.as_str(),
+            };
+            serve_over(rt, alloc, config, core, task, output, errors)
+        }
         Err(fault) => {
             drop(config);
             refuse_router(rt, serving.journal.unwrap_or(""), fault, output, errors)
@@ -123,7 +136,7 @@ fn serve_over<
     alloc: Global,
     config: Config,
     core: Core<JournalDisk>,
-    serving: Serving<'_>,
+    task: Task<'_>,
     output: &mut O,
     errors: &mut E,
 ) -> io::Result<Status>
@@ -135,7 +148,7 @@ fn serve_over<
         return refuse(output, Refusal::Memory);
     };
     match bind(rt, alloc, listeners_of(&config, &own), output, errors) {
-        Ok(Bound::All(sockets)) => match start(rt, alloc, config, core, &own, &sockets, serving) {
+        Ok(Bound::All(sockets)) => match start(rt, alloc, config, core, &own, &sockets, task) {
             Ok(status) => Ok(status),
             Err(_) => refuse(output, Refusal::Memory),
         },
@@ -236,12 +249,12 @@ fn start<
     core: Core<JournalDisk>,
     own: &[Listener],
     sockets: &[TcpListener],
-    serving: Serving<'_>,
+    task: Task<'_>,
 ) -> Result<Status, AllocError>
     requires opened { IsOpened ⟦<Core<JournalDisk> as Machine>⟧.meaning (opening_of config core) core }
 {
     let blanks = Blanks::new();
-    counted::<Brand, R>(rt, alloc, config, own, sockets, serving, core, blanks)
+    counted::<Brand, R>(rt, alloc, config, own, sockets, task, core, blanks)
 }
 
 /// Serves, and joins the threads' counts with what the router did.
@@ -262,7 +275,7 @@ fn counted<
     config: Config,
     own: &[Listener],
     sockets: &[TcpListener],
-    serving: Serving<'_>,
+    task: Task<'_>,
     core: Core<JournalDisk>,
     blanks: Blanks,
 ) -> Result<Status, AllocError>
@@ -270,22 +283,21 @@ fn counted<
     requires blanks { AreOf N.ups N.items N.downs N.ticks N.starts N.batches N.seats blanks }
     requires seats { N.seats ≡ 2 ^ 62 }
 {
-    let kept = kept_words(alloc, serving.journal, &core)?;
     let made: Result<Server<Core<JournalDisk>, N>, AllocError> = Server::new(alloc, core, blanks);
     let Ok(router) = made else {
         drop(config);
         return Err(AllocError);
     };
-    let Ok(lines) = Arc::new(alloc, Lines::new(alloc, serving.quiet)) else {
+    let Ok(lines) = Arc::new(alloc, Lines::new(alloc, task.serving.quiet)) else {
         drop(config);
         drop(router);
         return Err(AllocError);
     };
-    let state = ProgramState::new(alloc, config, serving.connections, lines);
+    let state = ProgramState::new(alloc, config, task.serving.connections, lines);
     let program = Program { router, state };
     write_lines(rt, &program.state.lines)?;
-    program.state.lines.say(rt, kept.as_str());
-    program.state.lines.say(rt, LIMITS);
+    program.state.lines.say(rt, task.journal);
+    tell_limits(rt, &program.state);
     program.start(rt);
     listen(
         rt,
@@ -300,28 +312,13 @@ fn counted<
     Ok(Status::Done)
 }
 
-/// What is reported of the journal when serving begins: where it is, how many rows and termini it has, and how much room is left.
-fn kept_words(
-    alloc: Global,
-    path: Option<&str>,
-    core: &Core<JournalDisk>,
-) -> Result<String, AllocError> {
-    let Some(path) = path else {
-        return format!(in alloc; "{IN_MEMORY}");
-    };
-    let (undecided, unforgotten) = rows_left(core);
-    let (termini, room) = (core.book().terminus_count(), core.room().max(0));
-    format!(in alloc;
-        "the journal {path} has {undecided} rows undecided, {unforgotten} unforgotten, {termini} termini, and room for {room} bytes"
-    )
-}
-
-/// How many rows of a router's book are undecided, and how many its producers haven't settled.
-fn rows_left(core: &Core<JournalDisk>) -> (usize, usize) {
-    let rows = core.book();
-    let undecided = rows.rows().filter(|row| row.outcome.is_none()).count();
-    let unforgotten = rows.rows().filter(|row| !row.forgotten).count();
-    (undecided, unforgotten)
+/// Reports how many connections are served at once.
+fn tell_limits<R: Wait + Clock>(rt: &R, state: &ProgramState) {
+    if let Ok(line) = format!(in state.alloc;
+        "up to {CONNECTIONS} connections are served at once, and up to {THREADS} are taken with those that are at their doors"
+    ) {
+        state.lines.say(rt, &line);
+    }
 }
 
 /// The seats that no thread uses come back, and all else is let go. It tells whether the router failed.

@@ -14,4 +14,4 @@ mod watch;
 pub use lines::{Lines, write_lines};
 pub use listening::listen;
 pub use program::Program;
-pub use state::ProgramState;
+pub use state::{ProgramState, THREADS};
