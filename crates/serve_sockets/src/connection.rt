@@ -1,6 +1,7 @@
 //! The threads of one connection.
 use crate::program::Program;
 use crate::socket::{LINGER, PATIENCE, swallow};
+use crate::spoken::Spoken;
 use crate::state::ProgramState;
 use crate::streams::DOOR;
 use crate::watch::{Watch, reader_words, writer_words};
@@ -34,6 +35,7 @@ pub fn connection<S: Service, R: Threads + Wait + Clock + Sync>(
         return;
     };
     let role = door.role();
+    let spoken = first_spoken(stream);
     match at_door(program.state.alloc, stream, &mut frames, door) {
         Greeted::Up(user, items) => {
             if program.state.streams.lock(rt).pass(number) {
@@ -49,11 +51,20 @@ pub fn connection<S: Service, R: Threads + Wait + Clock + Sync>(
             if program.state.streams.lock(rt).is_late(number) {
                 late(rt, &program.state, peer);
             } else {
-                refused(rt, &program.state, stream, peer, end);
+                refused(rt, &program.state, stream, peer, end, spoken);
             }
         }
     }
     drop(frames);
+}
+
+/// What a peer speaks. It waits for its first bytes, and leaves them to be read.
+fn first_spoken(stream: &TcpStream) -> Spoken {
+    let mut first = [0u8; 8];
+    match stream.peek(&mut first) {
+        Ok(came) if came <= first.len() => Spoken::of(&first[..came]),
+        _ => Spoken::Amqp,
+    }
 }
 
 /// Reports that a connection was at its door for too long.
@@ -81,8 +92,12 @@ fn refused<R: Wait + Clock>(
     stream: &TcpStream,
     peer: SocketAddr,
     end: ReadEnd,
+    spoken: Spoken,
 ) {
-    let words = reader_words(end);
+    let words = match end {
+        ReadEnd::Door => spoken.words(),
+        _ => reader_words(end),
+    };
     if let Ok(line) = format!(in state.alloc; "{peer} ended at the door: {words}") {
         state.lines.say(rt, &line);
     }

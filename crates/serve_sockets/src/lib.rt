@@ -7,6 +7,7 @@ mod listening;
 mod moment;
 mod program;
 mod socket;
+mod spoken;
 mod state;
 mod streams;
 mod watch;
