@@ -85,17 +85,37 @@ pub fn journal_words<R: Files<File = File>>(
         Err(_) => 0,
     };
     let room = (MOST_BYTES as u64).saturating_sub(bytes);
-    let (undecided, unforgotten) = rows_left(core);
+    let RowsLeft {
+        undecided,
+        unforgotten,
+    } = rows_left(core);
     let termini = core.book().terminus_count();
     format!(in alloc;
         "the journal {path} has {undecided} undecided rows, {unforgotten} unforgotten ones and {termini} termini; {room} bytes are left of {MOST_BYTES}"
     )
 }
 
-/// How many rows of a router's book are undecided, and how many its producers haven't settled.
-fn rows_left(core: &Core<JournalDisk>) -> (usize, usize) {
-    let book = core.book();
-    let undecided = book.rows().filter(|row| row.outcome.is_none()).count();
-    let unforgotten = book.rows().filter(|row| !row.forgotten).count();
-    (undecided, unforgotten)
+/// How many rows of a book wait for a peer.
+struct RowsLeft {
+    /// How many are undecided.
+    undecided: u64,
+    /// How many their producers haven't settled.
+    unforgotten: u64,
+}
+
+/// How many rows of a router's book wait for a peer.
+fn rows_left(core: &Core<JournalDisk>) -> RowsLeft {
+    let mut left = RowsLeft {
+        undecided: 0,
+        unforgotten: 0,
+    };
+    for row in core.book().rows() {
+        if row.outcome.is_none() {
+            left.undecided = left.undecided.saturating_add(1);
+        }
+        if !row.forgotten {
+            left.unforgotten = left.unforgotten.saturating_add(1);
+        }
+    }
+    left
 }
