@@ -66,6 +66,10 @@ class Served:
         with open(self.told.name, encoding="utf-8") as file:
             return file.read().splitlines()
 
+    def said(self):
+        """The lines without their times."""
+        return [it.split(" ", 1)[1] for it in self.lines()]
+
     def lives(self):
         return self.process.poll() is None
 

@@ -16,7 +16,7 @@ fn main(rt: HostRuntime) -> ExitCode {
         return ExitCode::from(Status::Failed.code());
     };
     let done = match serving_in(rt.alloc(), words.as_slice()) {
-        Some(serving) => serve(&rt, serving, &mut rt.stdout()),
+        Some(serving) => serve(&rt, serving, &mut rt.stdout(), &mut rt.stderr()),
         None => run_over(&rt, words.as_slice()),
     };
     let status = match done {

@@ -4,27 +4,33 @@ ghost use Rattle.core_machine.specs.Opened.{IsOpened};
 ghost use Rattle.router_core.specs.Machine.{opening_of};
 ghost use Rattle.serve_lock.specs.Blank.{AreOf};
 
-use crate::opening::open_router;
+use crate::opening::{journal_words, open_router};
 use amqr_commands::{Refusal, Serving, Status, config_at, refuse};
-use amqr_files::JournalDisk;
+use amqr_files::{Endpoint, JournalDisk, Purpose, Unopened, refuse_journal, tell_file};
 use core_machine::Machine;
 use route_table::{Config, Listener, Role};
 use router_core::Core;
 use router_serve::{Blanks, Names, Server};
-use serve_sockets::{Program, ProgramState, listen};
+use serve_sockets::{Lines, Program, ProgramState, THREADS, listen, write_lines};
+use state_connections::CONNECTIONS;
 use std::alloc::{AllocError, Global};
 use std::fs::File;
 use std::io::{self, Write};
 use std::marker::Brand;
 use std::net::{Net, TcpListener, TcpStream};
 use std::rt::Files;
-use std::sync::Wait;
+use std::sync::{Arc, Wait};
 use std::thread::Threads;
 use std::time::Clock;
 
-/// What is reported where the journal is kept in memory.
-const IN_MEMORY: &str =
-    "the journal is kept in memory: durable deliveries don't outlive this process";
+/// How clients are to be served, and what is reported first.
+#[derive(Clone, Copy)]
+struct Task<'a> {
+    /// How they are to be served.
+    serving: Serving<'a>,
+    /// What is reported of the journal.
+    journal: &'a str,
+}
 
 /// The sockets of the listeners.
 enum Bound {
@@ -35,7 +41,7 @@ enum Bound {
 }
 
 /// Serves clients at the configuration's listeners, or at the standard one where it has none, over the journal in the file that is
-/// named, or over one in memory.
+/// named, or over one in memory. Why it doesn't is a line of the output, and a sentence of the errors unless it is to be quiet.
 pub fn serve<
     R: Net<Listener = TcpListener, Stream = TcpStream>
         + Files<File = File>
@@ -44,34 +50,95 @@ pub fn serve<
         + Wait
         + Sync
         + Clock
-        + Eprint,
+        + Eprint
+        + Copy
+        + Send
+        + 'static,
     O: Write,
->(rt: &R, serving: Serving<'_>, output: &mut O) -> io::Result<Status> {
+    E: Write,
+>(rt: &R, serving: Serving<'_>, output: &mut O, errors: &mut E) -> io::Result<Status> {
+    if serving.quiet {
+        return serve_telling(rt, serving, output, &mut io::sink());
+    }
+    serve_telling(rt, serving, output, errors)
+}
+
+/// Serves clients, as `serve` does, and writes sentences to the errors.
+fn serve_telling<
+    R: Net<Listener = TcpListener, Stream = TcpStream>
+        + Files<File = File>
+        + AllocGlobal
+        + Threads
+        + Wait
+        + Sync
+        + Clock
+        + Eprint
+        + Copy
+        + Send
+        + 'static,
+    O: Write,
+    E: Write,
+>(rt: &R, serving: Serving<'_>, output: &mut O, errors: &mut E) -> io::Result<Status> {
     let alloc = rt.alloc();
-    let config = match config_at(rt, serving.config) {
+    let config = match config_at(rt, serving.config, errors) {
         Ok(config) => config,
         Err(refusal) => return refuse(output, refusal),
     };
     match open_router(rt, alloc, serving.journal, &config) {
-        Ok(core) => serve_over(rt, alloc, config, core, serving, output),
-        Err(refusal) => {
+        Ok(core) => {
+            let Ok(journal) = journal_words(rt, alloc, serving.journal, &core) else {
+                drop(core);
+                drop(config);
+                return refuse(output, Refusal::Memory);
+            };
+            let task = Task {
+                serving,
+                journal: journal.as_str(),
+            };
+            serve_over(rt, alloc, config, core, task, output, errors)
+        }
+        Err(fault) => {
             drop(config);
-            refuse(output, refusal)
+            refuse_router(rt, serving.journal.unwrap_or(""), fault, output, errors)
         }
     }
 }
 
+/// Writes why no router is opened over the journal in a file.
+fn refuse_router<R: Files<File = File>, O: Write, E: Write>(
+    rt: &R,
+    path: &str,
+    fault: Unopened,
+    output: &mut O,
+    errors: &mut E,
+) -> io::Result<Status> {
+    if fault == Unopened::Refused(Refusal::File) {
+        let _ = tell_file(rt, path, Purpose::Serve, errors);
+    }
+    refuse_journal(output, path, fault)
+}
+
 /// Serves with a router, once all listeners have their sockets.
 fn serve_over<
-    R: Net<Listener = TcpListener, Stream = TcpStream> + Threads + Wait + Sync + Clock + Eprint,
+    R: Net<Listener = TcpListener, Stream = TcpStream>
+        + Threads
+        + Wait
+        + Sync
+        + Clock
+        + Eprint
+        + Copy
+        + Send
+        + 'static,
     O: Write,
+    E: Write,
 >(
     rt: &R,
     alloc: Global,
     config: Config,
     core: Core<JournalDisk>,
-    serving: Serving<'_>,
+    task: Task<'_>,
     output: &mut O,
+    errors: &mut E,
 ) -> io::Result<Status>
     requires opened { IsOpened ⟦<Core<JournalDisk> as Machine>⟧.meaning (opening_of config core) core }
 {
@@ -80,8 +147,8 @@ fn serve_over<
         drop(config);
         return refuse(output, Refusal::Memory);
     };
-    match bind(rt, alloc, listeners_of(&config, &own), output) {
-        Ok(Bound::All(sockets)) => match start(rt, alloc, config, core, &own, &sockets, serving) {
+    match bind(rt, alloc, listeners_of(&config, &own), output, errors) {
+        Ok(Bound::All(sockets)) => match start(rt, alloc, config, core, &own, &sockets, task) {
             Ok(status) => Ok(status),
             Err(_) => refuse(output, Refusal::Memory),
         },
@@ -98,27 +165,33 @@ fn serve_over<
     }
 }
 
-/// Makes the sockets of listeners, and prints each listener, or the first that can't be bound.
-fn bind<R: Net<Listener = TcpListener, Stream = TcpStream>, O: Write>(
+/// Makes the sockets of listeners, and prints each listener, or the first that can't be bound, with the reason on the errors.
+fn bind<R: Net<Listener = TcpListener, Stream = TcpStream>, O: Write, E: Write>(
     rt: &R,
     alloc: Global,
     listeners: &[Listener],
     output: &mut O,
+    errors: &mut E,
 ) -> io::Result<Bound> {
-    let Ok(sockets) = bind_all(rt, alloc, listeners) else {
+    let Ok(sockets) = bind_all(rt, alloc, listeners, errors) else {
         return Ok(Bound::Ended(refuse(output, Refusal::Memory)?));
     };
     if let Some(listener) = listeners.get(sockets.len()) {
-        let (host, port) = (listener.host.as_str(), listener.port);
-        writeln!(output, "listen {host}:{port}")?;
+        let endpoint = endpoint_of(listener);
+        writeln!(output, "listen {endpoint}")?;
         return Ok(Bound::Ended(Status::BadInput));
     }
     for listener in listeners {
-        let (host, port) = (listener.host.as_str(), listener.port);
-        writeln!(output, "listening {host}:{port}")?;
+        let endpoint = endpoint_of(listener);
+        writeln!(output, "listening {endpoint}")?;
     }
     output.flush()?;
     Ok(Bound::All(sockets))
+}
+
+/// Where a listener listens.
+fn endpoint_of(listener: &Listener) -> Endpoint<'_> {
+    Endpoint::new(listener.host.as_str(), listener.port)
 }
 
 /// The listener of a configuration that has none.
@@ -137,17 +210,22 @@ fn listeners_of<'a>(config: &'a Config, own: &'a [Listener]) -> &'a [Listener] {
     }
 }
 
-/// The sockets of listeners, in order, up to the first that can't be bound.
-fn bind_all<R: Net<Listener = TcpListener, Stream = TcpStream>>(
+/// The sockets of listeners, in order, up to the first that can't be bound, of which a sentence is written to the errors.
+fn bind_all<R: Net<Listener = TcpListener, Stream = TcpStream>, E: Write>(
     rt: &R,
     alloc: Global,
     listeners: &[Listener],
+    errors: &mut E,
 ) -> Result<Vec<TcpListener>, AllocError> {
     let mut sockets = Vec::new(alloc);
     for listener in listeners {
-        match TcpListener::bind(rt, (listener.host.as_str(), listener.port)) {
+        let endpoint = endpoint_of(listener);
+        match TcpListener::bind(rt, (endpoint.host, endpoint.port)) {
             Ok(socket) => sockets.push(socket)?,
-            Err(_) => return Ok(sockets),
+            Err(error) => {
+                let _ = writeln!(errors, "no listener can be had at {endpoint}: {error}");
+                return Ok(sockets);
+            }
         }
     }
     Ok(sockets)
@@ -155,7 +233,15 @@ fn bind_all<R: Net<Listener = TcpListener, Stream = TcpStream>>(
 
 /// Serves with a router, with ledgers that are made for it.
 fn start<
-    R: Net<Listener = TcpListener, Stream = TcpStream> + Threads + Wait + Sync + Clock + Eprint,
+    R: Net<Listener = TcpListener, Stream = TcpStream>
+        + Threads
+        + Wait
+        + Sync
+        + Clock
+        + Eprint
+        + Copy
+        + Send
+        + 'static,
 >(
     rt: &R,
     alloc: Global,
@@ -163,25 +249,33 @@ fn start<
     core: Core<JournalDisk>,
     own: &[Listener],
     sockets: &[TcpListener],
-    serving: Serving<'_>,
+    task: Task<'_>,
 ) -> Result<Status, AllocError>
     requires opened { IsOpened ⟦<Core<JournalDisk> as Machine>⟧.meaning (opening_of config core) core }
 {
     let blanks = Blanks::new();
-    counted::<Brand, R>(rt, alloc, config, own, sockets, serving, core, blanks)
+    counted::<Brand, R>(rt, alloc, config, own, sockets, task, core, blanks)
 }
 
 /// Serves, and joins the threads' counts with what the router did.
 fn counted<
     N: Names,
-    R: Net<Listener = TcpListener, Stream = TcpStream> + Threads + Wait + Sync + Clock + Eprint,
+    R: Net<Listener = TcpListener, Stream = TcpStream>
+        + Threads
+        + Wait
+        + Sync
+        + Clock
+        + Eprint
+        + Copy
+        + Send
+        + 'static,
 >(
     rt: &R,
     alloc: Global,
     config: Config,
     own: &[Listener],
     sockets: &[TcpListener],
-    serving: Serving<'_>,
+    task: Task<'_>,
     core: Core<JournalDisk>,
     blanks: Blanks,
 ) -> Result<Status, AllocError>
@@ -194,11 +288,16 @@ fn counted<
         drop(config);
         return Err(AllocError);
     };
-    let state = ProgramState::new(alloc, config, serving.connections, serving.quiet);
+    let Ok(lines) = Arc::new(alloc, Lines::new(alloc, task.serving.quiet)) else {
+        drop(config);
+        drop(router);
+        return Err(AllocError);
+    };
+    let state = ProgramState::new(alloc, config, task.serving.connections, lines);
     let program = Program { router, state };
-    if serving.journal.is_none() {
-        program.state.lines.say(rt, IN_MEMORY);
-    }
+    write_lines(rt, &program.state.lines)?;
+    program.state.lines.say(rt, task.journal);
+    tell_limits(rt, &program.state);
     program.start(rt);
     listen(
         rt,
@@ -206,10 +305,20 @@ fn counted<
         listeners_of(&program.state.config, own),
         sockets,
     );
+    program.state.lines.close(rt);
     if close(program) {
         return Ok(Status::Failed);
     }
     Ok(Status::Done)
+}
+
+/// Reports how many connections are served at once.
+fn tell_limits<R: Wait + Clock>(rt: &R, state: &ProgramState) {
+    if let Ok(line) = format!(in state.alloc;
+        "up to {CONNECTIONS} connections are served at once, and up to {THREADS} are taken with those that are at their doors"
+    ) {
+        state.lines.say(rt, &line);
+    }
 }
 
 /// The seats that no thread uses come back, and all else is let go. It tells whether the router failed.

@@ -8,8 +8,8 @@ ghost use Rattle.amqr_commands.specs.Running.{Plays, PlaysInput, PlaysRuns, Writ
 use crate::config::config_of;
 use crate::script::{ScriptFault, read_script};
 use amqr_files::{
-    InputFault, MOST_BYTES, Refusal, Serving, Status, Task, format_disk, list, list_journal,
-    print_lines, read_whole, read_words, refuse,
+    InputFault, MOST_BYTES, Purpose, Refusal, Serving, Status, Task, format_disk, is_in_use, list,
+    list_journal, print_lines, read_whole, read_words, refuse, tell_file, tell_line,
 };
 use clap::Error;
 use clap::error::ErrorKind;
@@ -44,20 +44,14 @@ pub fn run<R: Files<File = File> + AllocGlobal, S: AsStr, I: Read, O: Write, E: 
     let alloc = rt.alloc();
     match read_words(alloc, words) {
         Ok(Task::PlayInput) => play_standard(alloc, input, output),
-        Ok(Task::Play { config, script }) => play_file(rt, config, script, output),
+        Ok(Task::Play { config, script }) => play_file(rt, config, script, output, errors),
         Ok(Task::Serve(_)) => {
             writeln!(errors, "clients are served by the program alone")?;
             Ok(Status::BadWords)
         }
-        Ok(Task::Frames { file }) => match fs::open(rt, file) {
-            Ok(mut file) => frames(alloc, &mut file, output),
-            Err(_) => refuse(output, Refusal::File),
-        },
-        Ok(Task::Format { file }) => make(FileDisk::create(rt, alloc, file), output),
-        Ok(Task::Journal { file }) => {
-            let disk = FileDisk::open_to_read(rt, alloc, file, MOST_JOURNAL);
-            show(alloc, disk, output)
-        }
+        Ok(Task::Frames { file }) => list_frames(rt, file, output, errors),
+        Ok(Task::Format { file }) => make(rt, file, output, errors),
+        Ok(Task::Journal { file }) => show(rt, file, output, errors),
         Err(fault) => explain(&fault, output, errors),
     }
 }
@@ -70,19 +64,25 @@ pub fn serving_in<'a, S: AsStr>(alloc: Global, words: &'a [S]) -> Option<Serving
     }
 }
 
-/// The configuration in a file, or the standard one where no file is named.
+/// The configuration in a file, or the standard one where no file is named. Of a file that can't be read, and of a faulty line, a sentence is written to the
+/// errors too.
 ///
 /// # Errors
 ///
 /// `File` where it can't be read; `Config` with its first faulty line; `Memory` where memory was refused.
-pub fn config_at<R: Files<File = File> + AllocGlobal>(
+pub fn config_at<R: Files<File = File> + AllocGlobal, E: Write>(
     rt: &R,
     path: Option<&str>,
+    errors: &mut E,
 ) -> Result<Config, Refusal> {
-    match path {
-        Some(path) => config_in(rt, path),
-        None => standard(rt.alloc()),
+    let Some(path) = path else {
+        return standard(rt.alloc());
+    };
+    let read = config_in(rt, path, errors);
+    if matches!(&read, Err(Refusal::File)) {
+        let _ = tell_file(rt, path, Purpose::Read, errors);
     }
+    read
 }
 
 /// Writes what is wrong with the arguments, or the help that they ask for.
@@ -102,21 +102,78 @@ fn explain<O: Write, E: Write>(
     Ok(Status::Done)
 }
 
-/// Lists the frames of an input.
-fn frames<I: Read, O: Write>(alloc: Global, input: &mut I, output: &mut O) -> io::Result<Status> {
-    match read_whole(alloc, input) {
-        Ok(stream) => list(alloc, stream.as_slice(), output),
-        Err(InputFault::Unread) => refuse(output, Refusal::File),
-        Err(InputFault::Memory) => refuse(output, Refusal::Memory),
+/// Lists the frames in a file.
+fn list_frames<R: Files<File = File> + AllocGlobal, O: Write, E: Write>(
+    rt: &R,
+    path: &str,
+    output: &mut O,
+    errors: &mut E,
+) -> io::Result<Status> {
+    match input_in(rt, path) {
+        Ok(stream) => list(rt.alloc(), stream.as_slice(), output),
+        Err(fault) => refuse_input(rt, path, fault, output, errors),
     }
 }
 
-/// Makes a journal on the disk over a file.
-fn make<O: Write>(disk: Result<FileDisk, DiskFault>, output: &mut O) -> io::Result<Status> {
-    match disk {
-        Ok(mut disk) => format_disk(&mut disk, output),
-        Err(fault) => refuse(output, not_opened(fault)),
+/// All bytes of the input in a file.
+///
+/// # Errors
+///
+/// `Unread` where it can't be opened or read; `Memory` where memory was refused.
+fn input_in<R: Files<File = File> + AllocGlobal>(
+    rt: &R,
+    path: &str,
+) -> Result<Vec<u8>, InputFault> {
+    match fs::open(rt, path) {
+        Ok(mut file) => read_whole(rt.alloc(), &mut file),
+        Err(_) => Err(InputFault::Unread),
     }
+}
+
+/// Writes why the input in a file isn't used.
+fn refuse_input<R: Files<File = File>, O: Write, E: Write>(
+    rt: &R,
+    path: &str,
+    fault: InputFault,
+    output: &mut O,
+    errors: &mut E,
+) -> io::Result<Status> {
+    match fault {
+        InputFault::Unread => {
+            let _ = tell_file(rt, path, Purpose::Read, errors);
+            refuse(output, Refusal::File)
+        }
+        InputFault::Memory => refuse(output, Refusal::Memory),
+    }
+}
+
+/// Makes a journal in a file.
+fn make<R: Files<File = File> + AllocGlobal, O: Write, E: Write>(
+    rt: &R,
+    path: &str,
+    output: &mut O,
+    errors: &mut E,
+) -> io::Result<Status> {
+    match FileDisk::create(rt, rt.alloc(), path) {
+        Ok(mut disk) => format_disk(&mut disk, output),
+        Err(fault) => refuse_disk(rt, path, Purpose::Make, fault, output, errors),
+    }
+}
+
+/// Writes why the disk over a file isn't opened.
+fn refuse_disk<R: Files<File = File>, O: Write, E: Write>(
+    rt: &R,
+    path: &str,
+    purpose: Purpose,
+    fault: DiskFault,
+    output: &mut O,
+    errors: &mut E,
+) -> io::Result<Status> {
+    let refusal = not_opened(fault);
+    if refusal == Refusal::File {
+        let _ = tell_file(rt, path, purpose, errors);
+    }
+    refuse(output, refusal)
 }
 
 /// The refusal where a file could not be opened or made as a disk.
@@ -130,60 +187,97 @@ fn not_opened(fault: DiskFault) -> Refusal
     }
 }
 
-/// Lists the journal on the disk over a file.
-fn show<O: Write>(
-    alloc: Global,
-    disk: Result<FileDisk, DiskFault>,
+/// Lists the journal in a file. That a server has it in use is told on the errors.
+fn show<R: Files<File = File> + AllocGlobal, O: Write, E: Write>(
+    rt: &R,
+    path: &str,
     output: &mut O,
+    errors: &mut E,
 ) -> io::Result<Status> {
-    match disk {
-        Ok(mut disk) => list_journal(alloc, &mut disk, output),
-        Err(fault) => refuse(output, not_opened(fault)),
+    let alloc = rt.alloc();
+    match FileDisk::open_to_read(rt, alloc, path, MOST_JOURNAL) {
+        Ok(mut disk) => {
+            if is_in_use(rt, path) {
+                let _ = writeln!(
+                    errors,
+                    "the journal {path} is in use: it may change meanwhile"
+                );
+            }
+            list_journal(alloc, &mut disk, output)
+        }
+        Err(fault) => refuse_disk(rt, path, Purpose::List, fault, output, errors),
     }
 }
 
 /// Plays the script in a file, with the configuration in another where one is named, which is checked first.
-fn play_file<R: Files<File = File> + AllocGlobal, O: Write>(
+fn play_file<R: Files<File = File> + AllocGlobal, O: Write, E: Write>(
     rt: &R,
     config: Option<&str>,
     script: &str,
     output: &mut O,
+    errors: &mut E,
 ) -> io::Result<Status> {
-    let config = match config_at(rt, config) {
+    let config = match config_at(rt, config, errors) {
         Ok(config) => config,
         Err(refusal) => return refuse(output, refusal),
     };
-    match fs::open(rt, script) {
-        Ok(mut file) => play(rt.alloc(), config, &mut file, output),
-        Err(_) => refuse(output, Refusal::File),
+    match input_in(rt, script) {
+        Ok(text) => play_text(rt.alloc(), config, text.as_slice(), output),
+        Err(fault) => {
+            drop(config);
+            refuse_input(rt, script, fault, output, errors)
+        }
     }
 }
 
-/// The configuration in a file.
+/// The configuration in a file. Of a faulty line a sentence is written to the errors too.
 ///
 /// # Errors
 ///
 /// `File` where it can't be read; `Config` with its first faulty line; `Memory` where memory was refused.
-fn config_in<R: Files<File = File> + AllocGlobal>(rt: &R, path: &str) -> Result<Config, Refusal> {
+fn config_in<R: Files<File = File> + AllocGlobal, E: Write>(
+    rt: &R,
+    path: &str,
+    errors: &mut E,
+) -> Result<Config, Refusal> {
     match fs::open(rt, path) {
-        Ok(mut file) => read_config(rt.alloc(), &mut file),
+        Ok(mut file) => read_config(rt.alloc(), &mut file, path, errors),
         Err(_) => Err(Refusal::File),
     }
 }
 
-/// The configuration in an input.
+/// The configuration in an input, which is that of a file. Of a faulty line a sentence is written to the errors too.
 ///
 /// # Errors
 ///
 /// `File` where it can't be read; `Config` with its first faulty line; `Memory` where memory was refused.
-fn read_config<I: Read>(alloc: Global, input: &mut I) -> Result<Config, Refusal>
+fn read_config<I: Read, E: Write>(
+    alloc: Global,
+    input: &mut I,
+    path: &str,
+    errors: &mut E,
+) -> Result<Config, Refusal>
     ensures ok { IfOk result (λ config. IfSome (I.remaining input.old) (λ text. IsConfig text config)) }
     ensures err { IfErr result (λ refusal. IfSome (I.remaining input.old) (λ text. IsRefusedInput text refusal)) }
 {
-    match read_whole(alloc, input) {
-        Ok(text) => config_of(alloc, text.as_slice()),
-        Err(InputFault::Unread) => Err(Refusal::File),
-        Err(InputFault::Memory) => Err(Refusal::Memory),
+    let text = match read_whole(alloc, input) {
+        Ok(text) => text,
+        Err(InputFault::Unread) => return Err(Refusal::File),
+        Err(InputFault::Memory) => return Err(Refusal::Memory),
+    };
+    match config_of(alloc, text.as_slice()) {
+        Ok(config) => Ok(config),
+        Err(refusal) => {
+            tell_config(path, text.as_slice(), refusal, errors);
+            Err(refusal)
+        }
+    }
+}
+
+/// Writes a sentence about the faulty line of a configuration, if that is why it is refused. One that can't be written is lost.
+fn tell_config<E: Write>(path: &str, text: &[u8], refusal: Refusal, errors: &mut E) {
+    if let Refusal::Config { line, kind } = refusal {
+        let _ = tell_line(path, text, line, kind, errors);
     }
 }
 

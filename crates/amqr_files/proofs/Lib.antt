@@ -1,2 +1,3 @@
 pub mod Streaming
 pub mod Listings
+pub mod Hosts

@@ -15,8 +15,10 @@ use Rattle.amqr_files.specs.Print.{Refuses, printed}
 use Rattle.amqr_files.specs.Status.{status_of}
 use Rattle.amqr_files.specs.declared.journal.JournalLine.{JournalLine}
 use Rattle.amqr_files.specs.declared.journal.JournalLine.TheVariants.{Act, End}
+use Rattle.amqr_files.specs.declared.journal.Unopened.{Unopened}
+use Rattle.amqr_files.specs.declared.journal.Unopened.TheVariants.{InUse, Refused}
 use Rattle.amqr_files.specs.declared.status.Status.{Status}
-use Rattle.amqr_files.specs.declared.status.Status.TheVariants.{Done}
+use Rattle.amqr_files.specs.declared.status.Status.TheVariants.{Done, BadInput}
 use Rattle.amqr_files.specs.declared.status.Refusal.{Refusal}
 use Rattle.amqr_files.specs.declared.status.Refusal.TheVariants as refusal
 
@@ -81,3 +83,17 @@ pub record IsMade (before after : List ℕ) (may_leave : List ℕ → Type 0) : 
 -- how making a journal ends
 abbrev pub Formats : List ℕ → Type 0 → Type 0 → Status → Option (List ℕ) → Option (List ℕ) → Type 0
 Formats before made failed status old new = ((status ≡ Done) × made × Appends old new (codes "formatted" ++ 10 ∷ [])) ⊎ RefusesFor (IsNotMade before failed) status old new
+
+-- the line of a journal that another server has in use
+abbrev pub in_use_text : List ℕ → List ℕ
+in_use_text path = codes "journal " ++ (path ++ codes " is in use")
+
+-- how the program ends where no server is started over a journal
+abbrev pub unopened_status : Unopened → Status
+unopened_status InUse = BadInput
+unopened_status (Refused r) = status_of r
+
+-- a writer that held these bytes, where they are known, now holds one more line: why no server is started over the journal in a file
+abbrev pub RefusesJournal : List ℕ → Unopened → Option (List ℕ) → Option (List ℕ) → Type 0
+RefusesJournal path InUse old new = Appends old new (in_use_text path ++ 10 ∷ [])
+RefusesJournal path (Refused r) old new = Refuses r old new

@@ -2,3 +2,4 @@ pub mod Print
 pub mod Status
 pub mod Listing
 pub mod Journals
+pub mod Endpoint

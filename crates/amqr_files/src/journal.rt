@@ -2,7 +2,7 @@
 ghost use Rattle.std.specs.Prelude.{◌≡◌, ◌≢◌, ◌⊎◌, ◌<◌, ◌++◌, ◌∷◌, [], false, map, IfOk, IfErr, IsErrOf, OnOk};
 ghost use Rattle.disk_core.specs.Disk.{NoMore};
 ghost use Rattle.disk_core.specs.File.{failures_of, has_lost};
-ghost use Rattle.amqr_files.specs.Journals.{kind_name, act_line, end_line, IsJournal, IsNotListed, IsNotMade, IsMade, ListsJournal, Formats};
+ghost use Rattle.amqr_files.specs.Journals.{kind_name, act_line, end_line, IsJournal, IsNotListed, IsNotMade, IsMade, ListsJournal, Formats, unopened_status, RefusesJournal};
 
 use crate::input::MOST_BYTES;
 use crate::print::{print_lines, refuse};
@@ -12,12 +12,48 @@ use disk_core::{Disk, DiskFault, FileDisk};
 use gate_journal::{Entry, Listing, format, list};
 use std::alloc::{AllocError, Global};
 use std::fmt::{self, Display, Formatter};
-use std::fs::{self, File};
+use std::fs::{self, File, OpenOptions, TryLockError};
 use std::io::{self, Write};
 use std::rt::Files;
+use std::thread;
+use std::time::{Clock, Duration};
 
 /// The most bytes of a journal's file that is opened: those of a journal, and one gate.
 const MOST_JOURNAL: u64 = MOST_BYTES as u64 + 1;
+
+/// How often the lock of a journal's file is tried.
+const TRIES: u64 = 10;
+
+/// The time between two tries, in milliseconds.
+const PAUSE: u64 = 25;
+
+/// Why the file of a journal isn't opened for a server.
+#[derive(Clone, Copy, Debug, PartialEq, Eq)]
+pub enum Unopened {
+    /// Another server has it in use.
+    InUse,
+    /// As the program says it in general.
+    Refused(Refusal),
+}
+
+/// The line of a journal that another server has in use: `journal FILE is in use`.
+#[derive(Clone, Copy, Debug)]
+pub struct InUse<'a> {
+    /// The path of its file.
+    pub path: &'a str,
+}
+
+impl<'a> Display for InUse<'a> {
+    ghost use Rattle.std.specs.Prelude.{Some};
+    ghost use Rattle.amqr_files.specs.Journals.{in_use_text};
+
+    ghost output = { λ line. Some (in_use_text line.path.now) };
+
+    fn fmt<W: fmt::Write>(&self, f: &mut Formatter<W>) -> fmt::Result {
+        let path = self.path;
+        write!(f, "journal {path} is in use")
+    }
+}
 
 /// A line of a journal's list; `{}` prints it, without the LF.
 #[derive(Clone, Copy, Debug, PartialEq, Eq)]
@@ -152,34 +188,88 @@ pub fn list_journal<D: Disk, O: Write>(
     }
 }
 
-/// The disk over the file of a journal, for reading and writing.
+/// The disk over the file of a journal, for reading and writing. It holds the file system's lock on the file from before a byte is read until the
+/// disk is let go, or the process ends.
 ///
 /// # Errors
 ///
-/// `File` where it is no regular file, or can't be opened for both, or read; `Memory` where it has more bytes than a journal may have,
-/// or memory was refused.
-pub fn journal_disk<R: Files<File = File>>(
+/// `InUse` if another process holds the lock; `File` if it is no regular file, or can't be opened for both, locked or read; `Memory` if it has more bytes
+/// than a journal may have, or memory was refused.
+pub fn journal_disk<R: Files<File = File> + Clock>(
     rt: &R,
     alloc: Global,
     path: &str,
-) -> Result<FileDisk, Refusal>
+) -> Result<FileDisk, Unopened>
     ensures failures { IfOk result (λ disk. failures_of disk ≡ 0) }
     ensures works { IfOk result (λ disk. has_lost disk ≡ false) }
-    ensures refusal { IfErr result (λ refusal. (refusal ≡ Refusal.File) ⊎ (refusal ≡ Refusal.Memory)) }
+    ensures refusal { IfErr result (λ fault. (fault ≡ Unopened.InUse) ⊎ ((fault ≡ Unopened.Refused Refusal.File) ⊎ (fault ≡ Unopened.Refused Refusal.Memory))) }
 {
-    let Ok(found) = fs::metadata(rt, path) else {
-        return Err(Refusal::File);
+    let Some(file) = open_regular(rt, path) else {
+        return Err(Unopened::Refused(Refusal::File));
     };
-    if !found.is_file() {
-        return Err(Refusal::File);
-    }
+    lock(rt, &file)?;
+    let Ok(found) = file.metadata() else {
+        return Err(Unopened::Refused(Refusal::File));
+    };
     if found.len() > MOST_JOURNAL {
-        return Err(Refusal::Memory);
+        return Err(Unopened::Refused(Refusal::Memory));
     }
-    match FileDisk::open(rt, alloc, path) {
+    match FileDisk::over(alloc, file) {
         Ok(disk) => Ok(disk),
-        Err(DiskFault::Failed) => Err(Refusal::File),
-        Err(DiskFault::Memory) => Err(Refusal::Memory),
+        Err(DiskFault::Failed) => Err(Unopened::Refused(Refusal::File)),
+        Err(DiskFault::Memory) => Err(Unopened::Refused(Refusal::Memory)),
+    }
+}
+
+/// A regular file that is there, opened for reading and writing. Others are refused before they are opened, so that none is waited for.
+fn open_regular<R: Files<File = File>>(rt: &R, path: &str) -> Option<File> {
+    let found = fs::metadata(rt, path).ok()?;
+    if !found.is_file() {
+        return None;
+    }
+    let mut options = OpenOptions::new();
+    options.read(true).write(true);
+    options.open(rt, path).ok()
+}
+
+/// Takes the lock of a journal's file. Who lists the journal may have it for a moment, so it is tried for a quarter of a second.
+///
+/// # Errors
+///
+/// `InUse` if another process holds it; `File` if it can't be had.
+fn lock<R: Clock>(rt: &R, file: &File) -> Result<(), Unopened>
+    ensures { IfErr result (λ fault. (fault ≡ Unopened.InUse) ⊎ (fault ≡ Unopened.Refused Refusal.File)) }
+{
+    for _turn in 0..TRIES {
+        match file.try_lock() {
+            Ok(()) => return Ok(()),
+            Err(TryLockError::WouldBlock) => thread::sleep(rt, Duration::from_millis(PAUSE)),
+            Err(TryLockError::Error(_)) => return Err(Unopened::Refused(Refusal::File)),
+        }
+    }
+    Err(Unopened::InUse)
+}
+
+/// Whether a process holds the lock of a journal's file. It is asked by taking the lock, shared, for a moment; what can't be opened or locked is held by
+/// nobody.
+pub fn is_in_use<R: Files<File = File>>(rt: &R, path: &str) -> bool {
+    match fs::open(rt, path) {
+        Ok(file) => matches!(file.try_lock_shared(), Err(TryLockError::WouldBlock)),
+        Err(_) => false,
+    }
+}
+
+/// Writes why no server is started over the journal in a file.
+pub fn refuse_journal<O: Write>(output: &mut O, path: &str, fault: Unopened) -> io::Result<Status>
+    ensures status { IfOk result (λ status. status ≡ unopened_status fault) }
+    ensures told { IfOk result (λ status. RefusesJournal path.now fault (O.contents output.old) (O.contents output.new)) }
+{
+    match fault {
+        Unopened::InUse => {
+            output.writeln(InUse { path })?;
+            Ok(Status::BadInput)
+        }
+        Unopened::Refused(refusal) => refuse(output, refusal),
     }
 }
 

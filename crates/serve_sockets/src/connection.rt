@@ -1,8 +1,10 @@
 //! The threads of one connection.
-use crate::lines::{Watch, reader_words, writer_words};
 use crate::program::Program;
 use crate::socket::{LINGER, PATIENCE, swallow};
+use crate::spoken::Spoken;
 use crate::state::ProgramState;
+use crate::streams::DOOR;
+use crate::watch::{Watch, reader_words, writer_words};
 use amqp_frames::FrameReader;
 use amqp_model::Item;
 use core_door::Door;
@@ -16,12 +18,13 @@ use std::thread;
 use std::thread::Threads;
 use std::time::{Clock, Duration};
 
-/// Serves a connection until it ends.
-pub fn connection<S: Service, R: Threads + Wait + Clock + Eprint + Sync>(
+/// Serves a connection until it ends. Its socket is the one with this number.
+pub fn connection<S: Service, R: Threads + Wait + Clock + Sync>(
     rt: &R,
     program: &Program<S>,
     listener: &Listener,
     peer: SocketAddr,
+    number: u64,
     stream: &TcpStream,
 ) {
     let _ = stream.set_nodelay(true);
@@ -32,14 +35,46 @@ pub fn connection<S: Service, R: Threads + Wait + Clock + Eprint + Sync>(
         return;
     };
     let role = door.role();
+    let spoken = first_spoken(stream);
     match at_door(program.state.alloc, stream, &mut frames, door) {
         Greeted::Up(user, items) => {
-            let who = Peer { user, role };
-            enter(rt, program, stream, peer, who, items, &mut frames);
+            if program.state.streams.lock(rt).pass(number) {
+                let who = Peer { user, role };
+                enter(rt, program, stream, peer, who, items, &mut frames);
+            } else {
+                drop(user);
+                drop(items);
+                late(rt, &program.state, peer);
+            }
         }
-        Greeted::Ended(end) => refused(rt, &program.state, stream, peer, end),
+        Greeted::Ended(end) => {
+            if program.state.streams.lock(rt).is_late(number) {
+                late(rt, &program.state, peer);
+            } else {
+                refused(rt, &program.state, stream, peer, end, spoken);
+            }
+        }
     }
     drop(frames);
+}
+
+/// What a peer speaks. It waits for its first bytes, and leaves them to be read.
+fn first_spoken(stream: &TcpStream) -> Spoken {
+    let mut first = [0u8; 8];
+    match stream.peek(&mut first) {
+        Ok(came) if came <= first.len() => Spoken::of(&first[..came]),
+        _ => Spoken::Amqp,
+    }
+}
+
+/// Reports that a connection was at its door for too long.
+fn late<R: Wait + Clock>(rt: &R, state: &ProgramState, peer: SocketAddr) {
+    let seconds = DOOR / 1_000;
+    if let Ok(line) = format!(in state.alloc;
+        "{peer} ended at the door: it hadn't come up after {seconds} seconds"
+    ) {
+        state.lines.say(rt, &line);
+    }
 }
 
 /// Greets a peer at a door.
@@ -51,14 +86,18 @@ fn at_door(alloc: Global, stream: &TcpStream, frames: &mut FrameReader, door: Do
 }
 
 /// Reports that a connection ended at its door, and gives the peer time to read why.
-fn refused<R: Wait + Clock + Eprint>(
+fn refused<R: Wait + Clock>(
     rt: &R,
     state: &ProgramState,
     stream: &TcpStream,
     peer: SocketAddr,
     end: ReadEnd,
+    spoken: Spoken,
 ) {
-    let words = reader_words(end);
+    let words = match end {
+        ReadEnd::Door => spoken.words(),
+        _ => reader_words(end),
+    };
     if let Ok(line) = format!(in state.alloc; "{peer} ended at the door: {words}") {
         state.lines.say(rt, &line);
     }
@@ -70,7 +109,7 @@ fn refused<R: Wait + Clock + Eprint>(
 }
 
 /// Serves a connection after its door.
-fn enter<S: Service, R: Threads + Wait + Clock + Eprint + Sync>(
+fn enter<S: Service, R: Threads + Wait + Clock + Sync>(
     rt: &R,
     program: &Program<S>,
     stream: &TcpStream,
@@ -97,7 +136,7 @@ fn enter<S: Service, R: Threads + Wait + Clock + Eprint + Sync>(
 }
 
 /// Brings a connection up, and serves it.
-fn come_up<S: Service, R: Threads + Wait + Clock + Eprint + Sync>(
+fn come_up<S: Service, R: Threads + Wait + Clock + Sync>(
     rt: &R,
     program: &Program<S>,
     stream: &TcpStream,
@@ -128,7 +167,7 @@ fn come_up<S: Service, R: Threads + Wait + Clock + Eprint + Sync>(
 }
 
 /// Reads in this thread and writes in another, until both have ended.
-fn both<S: Service, R: Threads + Wait + Clock + Eprint + Sync>(
+fn both<S: Service, R: Threads + Wait + Clock + Sync>(
     rt: &R,
     program: &Program<S>,
     stream: &TcpStream,
@@ -163,7 +202,7 @@ fn both<S: Service, R: Threads + Wait + Clock + Eprint + Sync>(
 }
 
 /// Writes the router's output, then waits for the peer's end.
-fn output<S: Service, R: Wait + Clock + Eprint>(
+fn output<S: Service, R: Wait + Clock>(
     rt: &R,
     program: &Program<S>,
     stream: &TcpStream,
@@ -192,7 +231,7 @@ fn output<S: Service, R: Wait + Clock + Eprint>(
 }
 
 /// Reports why a connection ended.
-fn tell_end<R: Wait + Eprint>(
+fn tell_end<R: Wait + Clock>(
     rt: &R,
     state: &ProgramState,
     conn: ConnectionId,

@@ -4,11 +4,15 @@
 mod connection;
 mod lines;
 mod listening;
+mod moment;
 mod program;
 mod socket;
+mod spoken;
 mod state;
 mod streams;
+mod watch;
 
+pub use lines::{Lines, write_lines};
 pub use listening::listen;
 pub use program::Program;
-pub use state::ProgramState;
+pub use state::{ProgramState, THREADS};

@@ -1,7 +1,7 @@
 //! Accepts connections, and gives the router the time.
 use crate::connection::connection;
 use crate::program::Program;
-use crate::state::{ProgramState, Taken};
+use crate::state::{ProgramState, THREADS, Taken};
 use route_table::Listener;
 use serve_streams::Service;
 use std::io::{Error, ErrorKind};
@@ -23,7 +23,7 @@ const TRIES: u64 = 500;
 /// Accepts connections at all listeners, each of which has its socket, until no more are accepted and all have ended.
 pub fn listen<
     S: Service,
-    R: Net<Listener = TcpListener, Stream = TcpStream> + Threads + Wait + Sync + Clock + Eprint,
+    R: Net<Listener = TcpListener, Stream = TcpStream> + Threads + Wait + Sync + Clock,
 >(rt: &R, program: &Program<S>, listeners: &[Listener], sockets: &[TcpListener]) {
     let done = Mutex::new(false);
     let rung = Condvar::new();
@@ -49,7 +49,7 @@ pub fn listen<
 }
 
 /// Accepts the connections of one listener.
-fn accept_all<S: Service, R: Threads + Wait + Sync + Clock + Eprint>(
+fn accept_all<S: Service, R: Threads + Wait + Sync + Clock>(
     rt: &R,
     program: &Program<S>,
     listener: &Listener,
@@ -61,7 +61,7 @@ fn accept_all<S: Service, R: Threads + Wait + Sync + Clock + Eprint>(
             match accepted {
                 Ok(stream) => {
                     failing = false;
-                    if is_served(rt, &program.state) {
+                    if is_served(rt, &program.state, &stream) {
                         let made = scope.spawn(move || run_one(rt, program, listener, stream));
                         if made.is_err() {
                             no_thread(rt, &program.state);
@@ -83,19 +83,30 @@ fn accept_all<S: Service, R: Threads + Wait + Sync + Clock + Eprint>(
 }
 
 /// Whether a connection that was accepted gets threads.
-fn is_served<R: Wait + Eprint>(rt: &R, state: &ProgramState) -> bool {
+fn is_served<R: Wait + Clock>(rt: &R, state: &ProgramState, stream: &TcpStream) -> bool {
     match state.take(rt) {
         Taken::Over => false,
         Taken::TooMany => {
-            state.lines.say(rt, "a connection is closed: too many");
+            too_many(rt, state, stream);
             false
         }
         Taken::Served | Taken::Last => true,
     }
 }
 
+/// Reports a connection that gets no threads.
+fn too_many<R: Wait + Clock>(rt: &R, state: &ProgramState, stream: &TcpStream) {
+    if let Ok(peer) = stream.peer_addr() {
+        if let Ok(line) = format!(in state.alloc;
+            "{peer} is turned away: {THREADS} connections have threads"
+        ) {
+            state.lines.say(rt, &line);
+        }
+    }
+}
+
 /// A connection that was to get threads gets none.
-fn no_thread<R: Wait + Eprint>(rt: &R, state: &ProgramState) {
+fn no_thread<R: Wait + Clock>(rt: &R, state: &ProgramState) {
     state.leave(rt);
     state
         .lines
@@ -103,12 +114,7 @@ fn no_thread<R: Wait + Eprint>(rt: &R, state: &ProgramState) {
 }
 
 /// No connection could be accepted: it is reported once, until one is accepted, and the listener pauses.
-fn not_accepted<R: Wait + Clock + Eprint>(
-    rt: &R,
-    state: &ProgramState,
-    error: Error,
-    reported: bool,
-) {
+fn not_accepted<R: Wait + Clock>(rt: &R, state: &ProgramState, error: Error, reported: bool) {
     if !reported {
         if let Ok(line) = format!(in state.alloc; "no connection can be taken: {error}") {
             state.lines.say(rt, &line);
@@ -119,7 +125,7 @@ fn not_accepted<R: Wait + Clock + Eprint>(
 }
 
 /// Serves one connection.
-fn run_one<S: Service, R: Threads + Wait + Sync + Clock + Eprint>(
+fn run_one<S: Service, R: Threads + Wait + Sync + Clock>(
     rt: &R,
     program: &Program<S>,
     listener: &Listener,
@@ -127,9 +133,9 @@ fn run_one<S: Service, R: Threads + Wait + Sync + Clock + Eprint>(
 ) {
     if let Ok(peer) = stream.peer_addr() {
         if let Ok(stream) = Arc::new(program.state.alloc, stream) {
-            let number = program.state.streams.lock(rt).add(&stream);
+            let number = program.state.streams.lock(rt).add(rt, &stream);
             if let Some(number) = number {
-                connection(rt, program, listener, peer, &stream);
+                connection(rt, program, listener, peer, number, &stream);
                 program.state.streams.lock(rt).remove(number);
             }
         }
@@ -166,7 +172,7 @@ fn wake_one<R: Net<Listener = TcpListener, Stream = TcpStream> + Clock>(rt: &R, 
 }
 
 /// Gives the router the time every half second, until it is done; where the router failed, serving ends.
-fn tick<S: Service, R: Wait + Clock + Eprint>(
+fn tick<S: Service, R: Wait + Clock>(
     rt: &R,
     program: &Program<S>,
     done: &Mutex<bool>,
@@ -179,8 +185,8 @@ fn tick<S: Service, R: Wait + Clock + Eprint>(
     program.router.put_back(rt, seat);
 }
 
-/// Submits a tick every half second, until serving is done.
-fn tell_time<S: Service, R: Wait + Clock + Eprint>(
+/// Submits a tick every half second, until serving is done. Those that are at their doors for too long lose their sockets.
+fn tell_time<S: Service, R: Wait + Clock>(
     rt: &R,
     program: &Program<S>,
     seat: &mut S::Seat,
@@ -194,6 +200,7 @@ fn tell_time<S: Service, R: Wait + Clock + Eprint>(
         if is_done(rt, done, rung) {
             return;
         }
+        program.state.streams.lock(rt).end_late(rt);
         if let Ok(passed) = start.elapsed(rt) {
             let moment = u64::try_from(passed.as_millis()).unwrap_or(u64::MAX);
             if let Err(fault) = program.router.tick(rt, seat, moment) {

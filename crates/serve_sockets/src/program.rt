@@ -2,6 +2,7 @@
 use crate::state::ProgramState;
 use serve_streams::Service;
 use std::sync::Wait;
+use std::time::Clock;
 
 /// The router with its seats, and everything else that the threads share. The threads know the router as a service, so that they are proved
 /// without its tables, and what needs no router is a part by itself.
@@ -15,7 +16,7 @@ pub struct Program<S: Service> {
 
 impl<S: Service> Program<S> {
     /// Starts the router.
-    pub fn start<R: Wait + Eprint>(&self, rt: &R) {
+    pub fn start<R: Wait + Clock>(&self, rt: &R) {
         if let Err(fault) = self.router.start(rt) {
             self.state.failed(rt, fault);
         }

@@ -4,10 +4,11 @@ use crate::streams::Streams;
 use core_machine::CoreFault;
 use route_table::Config;
 use std::alloc::Global;
-use std::sync::{Condvar, Mutex, Wait};
+use std::sync::{Arc, Condvar, Mutex, Wait};
+use std::time::Clock;
 
 /// The most connections that have threads at once.
-const THREADS: usize = 256;
+pub const THREADS: usize = 256;
 
 /// How many connections there were and are, and whether more are accepted.
 #[derive(Clone, Copy)]
@@ -41,7 +42,7 @@ pub struct ProgramState {
     /// The configuration.
     pub config: Config,
     /// The lines on standard error.
-    pub lines: Lines,
+    pub lines: Arc<Lines>,
     /// The sockets of the connections.
     pub streams: Mutex<Streams>,
     taking: Mutex<Taking>,
@@ -49,17 +50,17 @@ pub struct ProgramState {
 }
 
 impl ProgramState {
-    /// What the threads share, before there are any: up to so many connections are accepted, or any number, and the lines are quiet or not.
+    /// What the threads share, before there are any: up to so many connections are accepted, or any number, and lines are handed over here.
     pub fn new(
         alloc: Global,
         config: Config,
         connections: Option<u64>,
-        quiet: bool,
+        lines: Arc<Lines>,
     ) -> ProgramState {
         ProgramState {
             alloc,
             config,
-            lines: Lines::new(quiet),
+            lines,
             streams: Mutex::new(Streams::new(alloc)),
             taking: Mutex::new(Taking {
                 left: connections,
@@ -119,7 +120,7 @@ impl ProgramState {
 
     /// The router answered a fault. Where it failed, no more connections are accepted, and those that have threads lose their sockets,
     /// also at their doors, so that none is waited for.
-    pub fn failed<R: Wait + Eprint>(&self, rt: &R, fault: CoreFault) {
+    pub fn failed<R: Wait + Clock>(&self, rt: &R, fault: CoreFault) {
         match fault {
             CoreFault::NoConnection => return,
             CoreFault::Disk => self.lines.say(rt, "the router's disk failed"),
