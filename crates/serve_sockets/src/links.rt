@@ -1,5 +1,5 @@
 //! The links that a peer asked for, as far as a line tells of them.
-ghost use Rattle.std.specs.Prelude.{◌≡◌, ◌≤◌, length};
+ghost use Rattle.std.specs.Prelude.{◌≡◌, ◌≤◌, [], length};
 ghost use Rattle.serve_sockets.specs.declared.links.TheConstants.{MOST};
 
 use amqp_model::{Address, Attach, Role, SourceTerminus, TargetTerminus};
@@ -167,7 +167,10 @@ pub struct Links {
 
 impl Links {
     /// No links.
-    pub fn new(alloc: Global) -> Links {
+    pub fn new(alloc: Global) -> Links
+        ensures asked { result.asked.items ≡ [] }
+        ensures answered { result.answered.items ≡ [] }
+    {
         Links {
             alloc,
             asked: VecDeque::new(alloc),
@@ -197,6 +200,7 @@ impl Links {
     /// The router answers by an attach. What the peer asked for before and has no answer yet gets none any more, since answers come in order.
     pub fn answer(&mut self, channel: u16, answer: &Attach)
         ensures few { length self.old.answered.items ≤ MOST → length self.new.answered.items ≤ MOST }
+        ensures asked { length self.new.asked.items ≤ length self.old.asked.items }
     {
         let Some(link) = take_answered(&mut self.asked, answer) else {
             return;
@@ -221,7 +225,10 @@ impl Links {
     }
 
     /// The router detaches a link: which one it was, if that is known. A detach on a handle without a link stands for an answer that didn't fit.
-    pub fn detach(&mut self, channel: u16, handle: u32) -> Option<(Link, Lost)> {
+    pub fn detach(&mut self, channel: u16, handle: u32) -> Option<(Link, Lost)>
+        ensures asked { length self.new.asked.items ≤ length self.old.asked.items }
+        ensures answered { length self.new.answered.items ≤ length self.old.answered.items }
+    {
         let place = self
             .answered
             .iter()
@@ -237,13 +244,18 @@ impl Links {
     }
 
     /// The router ended a session, and with it its links.
-    pub fn end(&mut self, channel: u16) {
+    pub fn end(&mut self, channel: u16)
+        ensures asked { self.new.asked ≡ self.old.asked }
+        ensures answered { length self.new.answered.items ≤ length self.old.answered.items }
+    {
         self.answered.retain(|it| it.channel != channel);
     }
 }
 
 /// Takes the link that an attach of the router answers out of those that were asked for, and those before it.
-fn take_answered(asked: &mut VecDeque<Link>, answer: &Attach) -> Option<Link> {
+fn take_answered(asked: &mut VecDeque<Link>, answer: &Attach) -> Option<Link>
+    ensures { length asked.new.items ≤ length asked.old.items }
+{
     let place = asked.iter().position(|link| link.is_answered_by(answer))?;
     for _ in 0..place {
         drop(asked.pop_front());
