@@ -395,25 +395,31 @@ def same_tag(scene, served):
 
 
 def taken_again(scene, served):
-    """A durable link that was left isn't taken up again yet; one that was closed is made anew. Nor has a link that isn't durable the key of one that is
-    attached, and one of another address is another's."""
-    def refused(peer, link, name):
-        until(lambda: link.state & GONE, peer)
-        expect((link.remote_condition.name, scene.acts()), (name, ""))
-        link.close()
-
+    """A durable link is stolen by another with its key, durable or not, and taken up again once it was left, which writes nothing. One of another address isn't
+    allowed. One that was closed is made anew."""
     it = Pair(scene, served, "d.key")
     thief = End(served, "c.d.key")
-    refused(thief, thief.receiver("d.key"), "amqp:not-implemented")
-    refused(thief, thief.receiver("d.key.other", durable=True), "amqp:not-allowed")
-    refused(thief, thief.receiver("d.key", durable=True), "amqp:not-implemented")
+    other = thief.receiver("d.key.other", durable=True)
+    until(lambda: other.state & GONE, thief)
+    expect((other.remote_condition.name, scene.acts()), ("amqp:not-allowed", ""))
+    other.close()
     thief.close()
-    it.receiver.detach()
-    it.until(lambda: it.c.detached)
-    refused(it.c, it.c.receiver("d.key", durable=True), "amqp:not-implemented")
-    again = it.c.receiver("d.key")
-    it.until(attached(again))
-    expect(again.remote_source.durability, Terminus.NONDURABLE)
+    thief = End(served, "c.d.key")
+    theirs = thief.receiver("d.key", durable=True)
+    until(lambda: theirs.state & ACTIVE and it.receiver.remote_condition, thief, it.c)
+    expect((it.receiver.remote_condition.name, theirs.remote_source.durability, scene.acts()), ("amqp:link:stolen", Terminus.DELIVERIES, ""))
+    theirs.detach()
+    until(lambda: thief.detached, thief)
+    thief.close()
+    back = End(served, "c.d.key")
+    again = back.receiver("d.key", durable=True)
+    until(attached(again), back)
+    volatile = End(served, "c.d.key")
+    last = volatile.receiver("d.key")
+    until(lambda: last.state & ACTIVE and again.remote_condition, volatile, back)
+    expect((again.remote_condition.name, last.remote_source.durability, scene.acts()), ("amqp:link:stolen", Terminus.NONDURABLE, ""))
+    for peer in (back, volatile):
+        peer.close()
     it.sender.close()
     it.until(lambda: it.sender.state & GONE)
     it.sender.free()

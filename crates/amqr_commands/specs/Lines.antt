@@ -6,13 +6,18 @@ use Rattle.amqr_commands.specs.Words.{Text, cut_at, number_of, bytes_of}
 use Rattle.core_player.specs.declared.script.Step.{Step}
 use Rattle.core_player.specs.declared.script.Step.TheVariants.{Up, In, Down, Tick, Fuse}
 use Rattle.router_trace.specs.declared.event.PeerRole.TheVariants.{Normal, RouteContainer}
+use Rattle.router_play.specs.declared.script.Stop.{Stop}
+use Rattle.router_play.specs.declared.script.Stop.TheVariants.{Old, New}
+use Rattle.amqr_commands.specs.declared.script.line.Instruction.{Instruction}
+use Rattle.amqr_commands.specs.declared.script.line.Instruction.TheVariants.{Play, Stop as Stopping}
 use Rattle.amqr_commands.specs.declared.script.line.LineFault.{LineFault}
 use Rattle.amqr_commands.specs.declared.script.line.LineFault.TheVariants.{Wrong, Memory}
 
--- a line says nothing, or a step, or something that a script may not say
+-- a line says nothing, or a step, or a stop, or something that a script may not say
 pub data Saying : Type 0 where
   nothing : Saying
   step : Step → Saying
+  stop : Stop → Saying
   wrong : Saying
 
 -- a comment, whose first character is `#`
@@ -56,13 +61,22 @@ step_by (verb ∷ number ∷ []) = with_number verb (number_of number)
 step_by (verb ∷ number ∷ word ∷ []) = with_word verb (number_of number) word
 step_by _ = None
 
+-- `stop old`, `stop new`
+abbrev pub stop_in : Text → Option Stop
+stop_in line = if bytes_eq line (codes "stop old") then Some Old else if bytes_eq line (codes "stop new") then Some New else None
+
+abbrev pub said_or : Option Stop → Saying → Saying
+said_or (Some how) other = stop how
+said_or None other = other
+
 -- what a line says; its words are one space apart, with none before or after them
 unfoldable pub saying_of : Text → Saying
-saying_of line = if is_comment line || is_blank line then nothing else said (step_by (cut_at 32 line))
+saying_of line = if is_comment line || is_blank line then nothing else said_or (stop_in line) (said (step_by (cut_at 32 line)))
 
 -- what a function read from a line is what it says, unless memory ran out
-abbrev pub Says : Result (Option Step) LineFault → Saying → Type 0
+abbrev pub Says : Result (Option Instruction) LineFault → Saying → Type 0
 Says (Ok None) saying = saying ≡ nothing
-Says (Ok (Some x)) saying = saying ≡ step x
+Says (Ok (Some (Play x))) saying = saying ≡ step x
+Says (Ok (Some (Stopping how))) saying = saying ≡ stop how
 Says (Err Wrong) saying = saying ≡ wrong
 Says (Err Memory) saying = ⊤

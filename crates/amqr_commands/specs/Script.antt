@@ -3,8 +3,12 @@ use Rattle.std.specs.Prelude.{◌≡◌, ◌≢◌, ◌+◌, ℕ, ◌==◌, List
 use Rattle.std.specs.List.{count_by}
 use Rattle.std.specs.Str.{IsUtf8, IsValidUpTo}
 use Rattle.amqr_commands.specs.Words.{Text, cut_at}
-use Rattle.amqr_commands.specs.Lines.{Saying, nothing, step, wrong, saying_of}
+use Rattle.amqr_commands.specs.Lines.{Saying, nothing, step, stop, wrong, saying_of}
 use Rattle.core_player.specs.declared.script.Step.{Step}
+use Rattle.router_play.specs.declared.script.Stop.{Stop}
+use Rattle.router_play.specs.declared.script.Stop.TheVariants.{Old}
+use Rattle.amqr_commands.specs.declared.script.line.Instruction.{Instruction}
+use Rattle.amqr_commands.specs.declared.script.line.Instruction.TheVariants.{Play, Stop as Stopping}
 use Rattle.amqr_commands.specs.declared.script.ScriptFault.{ScriptFault}
 use Rattle.amqr_commands.specs.declared.script.ScriptFault.TheVariants.{Line, Memory}
 
@@ -17,15 +21,23 @@ unfoldable pub AllSay : List Text → Type 0
 AllSay [] = ⊤
 AllSay (line ∷ lines) = (saying_of line ≢ wrong) × AllSay lines
 
-abbrev pub steps_in : Saying → List Step
-steps_in nothing = []
-steps_in (step x) = x ∷ []
-steps_in wrong = []
+abbrev pub instructions_in : Saying → List Instruction
+instructions_in nothing = []
+instructions_in (step x) = Play x ∷ []
+instructions_in (stop how) = Stopping how ∷ []
+instructions_in wrong = []
 
--- the steps that lines say, in order
-unfoldable pub steps_of : List Text → List Step
-steps_of [] = []
-steps_of (line ∷ lines) = steps_in (saying_of line) ++ steps_of lines
+-- the steps and stops that lines say, in order
+unfoldable pub instructions_of : List Text → List Instruction
+instructions_of [] = []
+instructions_of (line ∷ lines) = instructions_in (saying_of line) ++ instructions_of lines
+
+-- the runs of a script, of which these steps are the first of its first one: each stop ends one, and so does the script's end, which leaves what was
+-- synced last
+abbrev pub runs_from : List Step → List Instruction → List (List Step × Stop)
+runs_from steps [] = (steps, Old) ∷ []
+runs_from steps (Play x ∷ rest) = runs_from (steps ++ x ∷ []) rest
+runs_from steps (Stopping how ∷ rest) = (steps, how) ∷ runs_from [] rest
 
 -- the n-th line, counted from 1, is the first that says something that a script may not say
 abbrev pub IsFirstWrong : List Text → ℕ → Type 0
@@ -39,9 +51,13 @@ line_of before = count_by (λ byte. byte == 10) before + 1
 abbrev pub IsFirstBroken : Text → ℕ → Type 0
 IsFirstBroken text n = (place : ℕ) × IsValidUpTo text place × (n ≡ line_of (take place text))
 
--- the text is a script of these steps
-abbrev pub HasSteps : Text → List Step → Type 0
-HasSteps text steps = IsUtf8 text × AllSay (lines_of text) × (steps ≡ steps_of (lines_of text))
+-- the text is a script of these steps and stops
+abbrev pub HasInstructions : Text → List Instruction → Type 0
+HasInstructions text instructions = IsUtf8 text × AllSay (lines_of text) × (instructions ≡ instructions_of (lines_of text))
+
+-- the text is a script of these runs
+abbrev pub HasRuns : Text → List (List Step × Stop) → Type 0
+HasRuns text runs = (instructions : List Instruction) × HasInstructions text instructions × (runs ≡ runs_from [] instructions)
 
 -- the text is at fault in this line: text that isn't UTF-8 comes before lines that are wrong
 abbrev pub IsFaulty : Text → ScriptFault → Type 0

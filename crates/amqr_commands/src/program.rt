@@ -1,8 +1,9 @@
 //! The program, over any files, reader and writers.
-ghost use Rattle.std.specs.Prelude.{◌≡◌, ◌<◌, false, length, IfOk, IfErr, OnOk, IfSome};
+ghost use Rattle.std.specs.Prelude.{◌≡◌, ◌<◌, None, length, map, IfOk, IfErr, OnOk, IfSome};
+ghost use Rattle.std.specs.List.{list_any};
 ghost use Rattle.route_table.specs.Settings.{standard};
 ghost use Rattle.amqr_commands.specs.Config.{IsConfig, IsRefusedInput};
-ghost use Rattle.amqr_commands.specs.Running.{Plays, PlaysInput, PlaysSteps, Writes, sets_fuse, end_of};
+ghost use Rattle.amqr_commands.specs.Running.{Plays, PlaysInput, PlaysRuns, Writes, as_run, is_fuse, sets_fuse, end_of};
 
 use crate::config::config_of;
 use crate::script::{ScriptFault, read_script};
@@ -12,7 +13,8 @@ use amqr_files::{
 };
 use clap::Error;
 use clap::error::ErrorKind;
-use disk_core::{DiskFault, FileDisk};
+use disk_core::{DiskFault, FileDisk, FuseDisk, MemDisk};
+use gate_journal::{OpenFault, format};
 use route_table::Config;
 use router_play::{CoreFault, Report, Run, Step, play_runs};
 use std::alloc::Global;
@@ -333,7 +335,7 @@ pub fn play_text<O: Write>(
     ensures { IfOk result (λ status. Plays config text.now status (O.contents output.old) (O.contents output.new)) }
 {
     match read_script(alloc, text) {
-        Ok(steps) => play_steps(alloc, config, steps, output),
+        Ok(runs) => play_script(alloc, config, runs.as_slice(), output),
         Err(ScriptFault::Line { line }) => {
             drop(config);
             refuse(output, Refusal::Script { line })
@@ -342,37 +344,63 @@ pub fn play_text<O: Write>(
     }
 }
 
-/// Plays the steps of a script.
-fn play_steps<O: Write>(
+/// Plays the runs of a script, on a new journal in memory.
+fn play_script<O: Write>(
     alloc: Global,
     config: Config,
-    steps: Vec<Step>,
+    runs: &[Run],
     output: &mut O,
 ) -> io::Result<Status>
-    ensures { IfOk result (λ status. PlaysSteps config steps.items status (O.contents output.old) (O.contents output.new)) }
+    ensures { IfOk result (λ status. PlaysRuns config (map as_run runs.now) status (O.contents output.old) (O.contents output.new)) }
 {
-    let fused = sets_fuse(&steps);
-    let runs = [Run { steps }];
-    let report = play_runs(alloc, config, runs.as_slice());
-    print_report(&report, fused, output)
+    let mut disk = FuseDisk::new(MemDisk::new(alloc));
+    match format(&mut disk) {
+        Ok(()) => {
+            let report = play_runs(alloc, disk, config, runs);
+            print_report(&report, sets_fuse(runs), output)
+        }
+        Err(_) => {
+            drop(disk);
+            drop(config);
+            refuse(output, Refusal::Memory)
+        }
+    }
+}
+
+/// Whether runs set a fuse.
+fn sets_fuse(runs: &[Run]) -> bool
+    ensures { result ≡ sets_fuse (map as_run runs.now) }
+{
+    for run in runs {
+        if has_fuse(&run.steps) {
+            return true;
+        }
+    }
+    false
 }
 
 /// Whether steps set a fuse.
-fn sets_fuse(steps: &[Step]) -> bool
-    ensures { result ≡ sets_fuse steps.now }
+fn has_fuse(steps: &[Step]) -> bool
+    ensures { result ≡ list_any is_fuse steps.now }
 {
     steps.iter().any(|step| matches!(step, Step::Fuse { .. }))
 }
 
 /// Writes the lines of a report, and a line that memory was refused if it was. Where the steps set a fuse, it is the fuse that made the
 /// router's disk fail: that is what was asked for, and no failure of the program.
-fn print_report<O: Write>(report: &Report, fused: bool, output: &mut O) -> io::Result<Status>
+fn print_report<O: Write, C: Drop>(
+    report: &Report<C>,
+    fused: bool,
+    output: &mut O,
+) -> io::Result<Status>
     ensures status { IfOk result (λ status. status ≡ end_of fused report.now) }
-    ensures lines { report.now.out_of_memory ≡ false → OnOk result (Writes report.now.lines.items (O.contents output.old) (O.contents output.new)) }
+    ensures lines { report.now.halted ≡ None → OnOk result (Writes report.now.lines.items (O.contents output.old) (O.contents output.new)) }
 {
     print_lines(output, report.lines.as_slice())?;
-    if report.out_of_memory {
-        return refuse(output, Refusal::Memory);
+    match report.halted {
+        None => {}
+        Some(OpenFault::Memory) => return refuse(output, Refusal::Memory),
+        Some(_) => return Ok(Status::Failed),
     }
     match report.failed {
         None => Ok(Status::Done),

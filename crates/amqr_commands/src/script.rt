@@ -2,13 +2,14 @@
 pub mod line;
 pub mod word;
 
-ghost use Rattle.std.specs.Prelude.{◌≡◌, ◌+◌, ◌<◌, length, take, IfOk, IfErr};
-ghost use Rattle.amqr_commands.specs.Script.{HasSteps, IsFaulty, line_of};
+ghost use Rattle.std.specs.Prelude.{◌≡◌, ◌+◌, ◌<◌, [], ◌∷◌, ◌++◌, length, map, take, IfOk, IfErr, OnOk};
+ghost use Rattle.amqr_commands.specs.Running.{as_run};
+ghost use Rattle.amqr_commands.specs.Script.{HasInstructions, HasRuns, IsFaulty, line_of, runs_from};
 
-use crate::script::line::{LineFault, read_line};
+use crate::script::line::{Instruction, LineFault, read_line};
 use crate::script::word::cut;
-use router_play::Step;
-use std::alloc::Global;
+use router_play::{Run, Stop};
+use std::alloc::{AllocError, Global};
 use std::str;
 use thiserror::Error;
 
@@ -26,18 +27,24 @@ pub enum ScriptFault {
     Memory,
 }
 
-/// The steps of a script. The whole text is checked: a fault is that of its first faulty line. Text that isn't UTF-8
+/// The runs of a script. The whole text is checked: a fault is that of its first faulty line. Text that isn't UTF-8
 /// is at fault in the line of its first wrong byte, and comes before any other fault.
 ///
 /// # Errors
 ///
 /// `Line` with the first faulty line; `Memory` where memory was refused.
-pub fn read_script(alloc: Global, text: &[u8]) -> Result<Vec<Step>, ScriptFault>
-    ensures ok { IfOk result (λ steps. HasSteps text.now steps.items) }
+pub fn read_script(alloc: Global, text: &[u8]) -> Result<Vec<Run>, ScriptFault>
+    ensures ok { IfOk result (λ runs. HasRuns text.now (map as_run runs.items)) }
     ensures err { IfErr result (λ fault. IsFaulty text.now fault) }
 {
     match str::from_utf8(text) {
-        Ok(text) => read_lines(alloc, text),
+        Ok(text) => {
+            let instructions = read_lines(alloc, text)?;
+            match runs_of(alloc, instructions) {
+                Ok(runs) => Ok(runs),
+                Err(AllocError) => Err(ScriptFault::Memory),
+            }
+        }
         Err(fault) => Err(ScriptFault::Line {
             line: line_at(text, fault.valid_up_to()),
         }),
@@ -53,9 +60,39 @@ pub(crate) fn line_at(text: &[u8], place: usize) -> u64
     before as u64 + 1
 }
 
-/// The steps of the lines of a text.
-fn read_lines(alloc: Global, text: &str) -> Result<Vec<Step>, ScriptFault>
-    ensures ok { IfOk result (λ steps. HasSteps text.now steps.items) }
+/// The runs that steps and stops make: each stop ends one, and so does the end.
+fn runs_of(alloc: Global, instructions: Vec<Instruction>) -> Result<Vec<Run>, AllocError>
+    ensures { IfOk result (λ runs. map as_run runs.items ≡ runs_from [] instructions.items) }
+{
+    let mut runs = Vec::new(alloc);
+    let mut steps = Vec::new(alloc);
+    for instruction in instructions {
+        match instruction {
+            Instruction::Play(step) => add(&mut steps, step)?,
+            Instruction::Stop(stop) => {
+                add(&mut runs, Run { steps, stop })?;
+                steps = Vec::new(alloc);
+            }
+        }
+    }
+    let stop = Stop::Old;
+    add(&mut runs, Run { steps, stop })?;
+    Ok(runs)
+}
+
+/// Appends an item.
+fn add<T: Drop>(items: &mut Vec<T>, item: T) -> Result<(), AllocError>
+    ensures { OnOk result (items.new.items ≡ items.old.items ++ item ∷ []) }
+{
+    match items.push(item) {
+        Ok(()) => Ok(()),
+        Err(_) => Err(AllocError),
+    }
+}
+
+/// The steps and stops of the lines of a text.
+fn read_lines(alloc: Global, text: &str) -> Result<Vec<Instruction>, ScriptFault>
+    ensures ok { IfOk result (λ steps. HasInstructions text.now steps.items) }
     ensures err { IfErr result (λ fault. IsFaulty text.now fault) }
 {
     let mut steps = Vec::new(alloc);

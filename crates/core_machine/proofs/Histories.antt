@@ -67,7 +67,7 @@ module _ {M : Type 0} (m : Meaning M) (g : Beginning) (below : List Entry) where
     record {
       goes = refl;
       counted = was.counts;
-      made = was.made;
+      sound = was.sound;
       works = λ _. (was.fits below, was.keeps below);
       failed = λ fails. absurd (let bad : true ≡ false = sym fails ∙ was.works in cc);
     },
@@ -92,7 +92,7 @@ module _ {M : Type 0} (m : Meaning M) (g : Beginning) (below : List Entry) where
         record {
           goes = subst (λ (i : List ℕ). GoesInTurnBy (m.next i) (ms ++ handles (step_of e) ∷ []) (opened g below) u) (sym named) all;
           counted = counted ∙ (ap (with_event e) h.counted ∙ sym (tally_more ms (handles (step_of e) ∷ []) uncounted));
-          made = h.made;
+          sound = h.sound;
           works = λ _. (fits t now.0, keeps t now.0 now.1);
           failed = λ fails. absurd (let bad : true ≡ false = sym fails ∙ works in cc);
         },
@@ -117,7 +117,7 @@ module _ {M : Type 0} (m : Meaning M) (g : Beginning) (below : List Entry) where
         record {
           goes = subst (λ (i : List ℕ). GoesInTurnBy (m.next i) (ms ++ takes (taking c) ∷ []) (opened g below) (took_one (taking c) t)) (sym named) all;
           counted = counted ∙ (ap with_batch h.counted ∙ sym (tally_more ms (takes (taking c) ∷ []) uncounted));
-          made = h.made;
+          sound = h.sound;
           works = λ _. (subst (λ (n : ℕ). m.fits new (Took c.0 n ∷ t)) same (fits t now.0), subst (λ (n : ℕ). m.keeps new (m.book (Took c.0 n ∷ t))) same (keeps t now.1));
           failed = λ fails. absurd (let bad : true ≡ false = sym fails ∙ works in cc);
         },
@@ -132,7 +132,7 @@ module _ {M : Type 0} (m : Meaning M) (g : Beginning) (below : List Entry) where
     record {
       goes = subst (λ (i : List ℕ). GoesInTurnBy (m.next i) lived.0 (opened g below) lived.1) (sym named) lived.2.goes;
       counted = uncounted ∙ lived.2.counted;
-      made = lived.2.made;
+      sound = lived.2.sound;
       works = λ works. absurd (let bad : true ≡ false = sym fails ∙ works in cc);
       failed = λ _. let now = lived.2.works worked in cut lived.1 now.0 now.1;
     },
@@ -148,7 +148,7 @@ module _ {M : Type 0} (m : Meaning M) (g : Beginning) (below : List Entry) where
     record {
       goes = subst (λ (i : List ℕ). GoesInTurnBy (m.next i) lived.0 (opened g below) lived.1) (sym named) lived.2.goes;
       counted = counted ∙ lived.2.counted;
-      made = lived.2.made;
+      sound = lived.2.sound;
       works = λ _. let now = lived.2.works worked in (fits lived.1 now.0, keeps (m.book lived.1) now.1);
       failed = λ fails. absurd (let bad : true ≡ false = sym fails ∙ same ∙ worked in cc);
     },

@@ -1,7 +1,7 @@
 -- What happened to a router since it was opened: the events that it handled and the batches that were taken, in one order; and where its
 -- journal stands by them.
 use Rattle.std.specs.Prelude.{◌≡◌, ◌⊎◌, ℕ, true, false, List, [], ◌∷◌}
-use Rattle.book_model.specs.Made.{IsMade}
+use Rattle.book_model.specs.Sound.{IsSound}
 use Rattle.router_trace.specs.declared.event.ConnectionId.{ConnectionId}
 use Rattle.router_trace.specs.declared.event.Event.{Event}
 use Rattle.router_trace.specs.Trace.{Beginning, Trace}
@@ -26,12 +26,12 @@ tally (takes x ∷ ms) n = tally ms (with_batch n)
 abbrev pub IsCutOff : {M : Type 0} → Meaning M → M → Trace → Type 0
 IsCutOff m router t = m.keeps router (m.book t) ⊎ ((e : Event) × (declines t e ≡ false) × m.leaves router (BookAt m t e))
 
--- These moves, one after another, since the router was opened so on top of what was before: they give this trace, and each is counted once. While the
--- router works, its tables and its book are those of the trace, and its journal keeps that book.
+-- These moves, one after another, since the router was opened so, on a sound book, on top of what was before: they give this trace, and each is counted
+-- once. While the router works, its tables and its book are those of the trace, and its journal keeps that book.
 pub record IsHistory {M : Type 0} (m : Meaning M) (g : Beginning) (below : Trace) (router : M) (moves : List Move) (t : Trace) : Type 0 where
   pub goes : GoesInTurnBy (m.next (m.id router)) moves (opened g below) t
   pub counted : m.counts router ≡ tally moves uncounted
-  pub made : IsMade g.book
+  pub sound : IsSound g.book
   pub works : m.is_failed router ≡ false → m.fits router t × m.keeps router (m.book t)
   pub failed : m.is_failed router ≡ true → IsCutOff m router t
 

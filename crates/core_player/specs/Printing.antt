@@ -4,7 +4,7 @@ use Rattle.std.specs.Fmt.{digit_glyph}
 use Rattle.std.specs.List.{flat_map}
 use Rattle.core_machine.specs.Faults.{number_of}
 use Rattle.core_player.specs.declared.line.Line.{Line}
-use Rattle.core_player.specs.declared.line.Line.TheVariants.{Out, End, Failed, Book}
+use Rattle.core_player.specs.declared.line.Line.TheVariants.{Out, End, Failed, Run, Book}
 
 -- a byte, as two upper-case hexadecimal digits
 abbrev pub byte_text : ℕ → List ℕ
@@ -19,4 +19,5 @@ abbrev pub line_text : Line → List ℕ
 line_text (Out conn bytes) = codes "out " ++ (decimal conn.0 ++ (codes " " ++ hex_text bytes))
 line_text (End conn) = codes "end " ++ decimal conn.0
 line_text (Failed fault) = codes "failed " ++ decimal (number_of fault)
+line_text (Run number) = codes "run " ++ decimal number
 line_text (Book rows termini batches) = codes "book rows " ++ (decimal rows ++ (codes " termini " ++ (decimal termini ++ (codes " batches " ++ decimal batches))))

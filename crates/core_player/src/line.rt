@@ -21,6 +21,8 @@ pub enum Line {
     },
     /// The router answered an event with a fault: `failed C`.
     Failed(CoreFault),
+    /// The router was opened again after a stop, for the run of this number, from 2 on: `run K`.
+    Run(u64),
     /// The size of the book at the end: `book rows R termini T batches B`.
     Book {
         /// The rows.
@@ -76,6 +78,7 @@ impl Display for Line {
                 let number = fault.number();
                 write!(f, "failed {number}")
             }
+            Line::Run(number) => write!(f, "run {number}"),
             Line::Book {
                 rows,
                 termini,

@@ -1,6 +1,5 @@
 -- The acts of an event can be written.
 use Rattle.std.proofs.Common.{◌≡◌, ◌∙◌, sym, ap, refl, subst, ℕ, ◌≤◌, ◌+◌, ◌*◌, ◌&&◌, Bool, true, false, List, [], ◌∷◌, ◌++◌, length, Option, Some, None, arith, length-append, append-nil}
-use Rattle.std.proofs.Math.Logic.{∥∥₁_elim}
 use Rattle.std.specs.Prelude.{filter_map, is_none, is_some, nat_le, nat_lt, not, ◌==◌, count_by, if◌then◌else◌}
 use Rattle.std.specs.List.{cons_option, list_any}
 use Rattle.std.proofs.lemmas.Bool.Decides.{nat_tests}
@@ -17,18 +16,17 @@ use Rattle.book_model.specs.declared.row.RowNumber.{RowNumber}
 use Rattle.book_model.specs.declared.terminus.LinkRole.TheVariants.{Producer}
 use Rattle.book_model.specs.declared.terminus.Terminus.{Terminus}
 use Rattle.book_model.specs.declared.terminus.TerminusNumber.{TerminusNumber}
-use Rattle.book_model.specs.Book.{BookView, empty_book, refusal, first_fault, effects, make_refusal, drop_refusal, admit_refusal, terminus_at, is_undecided, unless, has_role, may_bind, has_tag, is_from, undecided_for}
+use Rattle.book_model.specs.Book.{BookView, refusal, first_fault, effects, make_refusal, drop_refusal, admit_refusal, terminus_at, is_undecided, unless, has_role, may_bind, has_tag, is_from, undecided_for}
 use Rattle.book_core.specs.Rising.{Rises}
 use Rattle.journal_codec.specs.Batches.{HaveOutcomes, HasOutcome}
 use Rattle.journal_codec.specs.Format.{act_bytes, acts_bytes, in_2, in_4, in_8, or_zero}
 use Rattle.journal_codec.proofs.Spelled.{length-in_2, length-in_4, length-in_8}
 use Rattle.journal_store.specs.declared.acting.TerminusAct.{TerminusAct}
 use Rattle.journal_store.specs.declared.acting.TerminusAct.TheVariants as terminus
-use Rattle.book_model.specs.Made.{IsMade}
 use Rattle.journal_store.specs.Writable.{Writable}
 use Rattle.journal_store.specs.Settling.{lets_go_after}
 use Rattle.journal_store.specs.Acting.{outcome_for, is_among, journal_outcome, decision, decide_row, forget_row, decides, forgets, settles, unless_refused, terminus_acts, event_acts, admission_acts}
-use Rattle.journal_store.proofs.Few.{few_acts, holds, next_holds}
+use Rattle.journal_store.proofs.Conditions.{holds, next_holds}
 use Rattle.journal_store.proofs.Makes.{applies_more}
 use Rattle.journal_store.proofs.Merging.{number_of_row}
 use Rattle.journal_store.proofs.Ones.{one_applies, make_short}
@@ -211,17 +209,6 @@ pub admission_writable : (b : BookView) (a : Admission) → length a.tag.items �
 admission_writable b a short =
     let fine = one_or_none b (admit_refusal b a) (Admit a) 65602 refl (admit_short b a short) tt in
     record { applies = fine.0; small = (let few = fine.1 in omega (arith, few)); outcomes = fine.2 }
-
--- a book that acts made has few rows
-made_few : (b : BookView) → IsMade b → length b.rows ≤ 4096
-made_few b made = subst (λ (x : BookView). length x.rows ≤ 4096) (sym made.2) (few_acts made.0 empty_book (omega arith) made.1)
-
-pub few_made : (b : BookView) → ∥ IsMade b ∥₁ → length b.rows ≤ 4096
-few_made b made = by_test (nat_le (length b.rows) 4096) refl
-  where
-    by_test : (v : Bool) → nat_le (length b.rows) 4096 ≡ v → length b.rows ≤ 4096
-    by_test true is = grind (arith, nat_tests)
-    by_test false is = absurd (∥∥₁_elim made (λ x y. absurd x) (λ m. let few = made_few b m in grind (arith, nat_tests)))
 
 -- What is asked for a terminus, by the book before the event.
 module _ (b : BookView) (ds : List Decision) (numbers : List RowNumber) (up : Rises number_of_row b.rows) where

@@ -1,5 +1,6 @@
 pub mod Makes
-pub mod Few
+pub mod Conditions
+pub mod Sound
 pub mod Opened
 pub mod Started
 pub mod Ones

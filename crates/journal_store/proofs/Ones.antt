@@ -14,7 +14,7 @@ use Rattle.gate_journal.specs.Reserve.{is_full}
 use Rattle.gate_journal.proofs.Fulls.{not_full_tested}
 use Rattle.gate_journal.proofs.Releases.{releases_fit}
 use Rattle.journal_codec.proofs.Spelled.{length-in_2, length-in_8}
-use Rattle.journal_store.proofs.Few.{holds, next_holds}
+use Rattle.journal_store.proofs.Conditions.{holds, next_holds}
 
 -- what a batch needs
 pub one_some : (act : Act) → act ∷ [] ≢ []

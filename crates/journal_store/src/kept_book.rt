@@ -1,11 +1,11 @@
 //! The book of a store, and what can be written to it.
 ghost use Rattle.std.specs.Prelude.{◌≡◌, ◌≤◌, None, length, OnOk, OnErr, IfOk};
 ghost use Rattle.book_model.specs.Book.{first_fault, effects};
+ghost use Rattle.book_model.specs.Sound.{IsSound};
 ghost use Rattle.journal_codec.specs.Batches.{HaveOutcomes};
 ghost use Rattle.journal_codec.specs.Format.{acts_bytes};
 ghost use Rattle.journal_store.specs.Acting.{admission_acts, event_acts};
 ghost use Rattle.journal_store.specs.Lost.{start_acts};
-ghost use Rattle.book_model.specs.Made.{IsMade};
 ghost use Rattle.journal_store.specs.Writable.{Writable};
 
 use crate::acting::{TerminusAct, admission_acts, event_acts};
@@ -14,26 +14,27 @@ use book_core::Book;
 use book_model::{Act, Admission, BookFault, Decision, RowNumber};
 use std::alloc::{AllocError, Global};
 
-/// A book that acts made of the empty one.
+/// The book of a store. It is sound, as each `Book` is: its numbers rise and no limit is passed, whether acts made it or it
+/// was read back. What can be written to it rests on that alone.
 #[derive(Drop)]
 pub struct KeptBook {
     book: Book,
-    ghost made: { ∥ IsMade book ∥₁ },
 }
 
 impl KeptBook {
-    /// Keeps a book that acts made.
+    /// Keeps a book.
     pub fn new(book: Book) -> KeptBook
-        requires made { ∥ IsMade book ∥₁ }
         ensures { result.book ≡ book }
     {
         KeptBook { book }
     }
 
-    /// The book.
+    /// The book, which is sound.
     pub fn book(&self) -> &Book
-        ensures { result.now ≡ self.now.book }
+        ensures same { result.now ≡ self.now.book }
+        ensures sound { IsSound result.now }
     {
+        self.book.is_sound();
         &self.book
     }
 
@@ -54,6 +55,7 @@ impl KeptBook {
         ensures small { IfOk result (λ acts. length (acts_bytes acts.items) ≤ 4194304) }
         ensures outcomes { IfOk result (λ acts. HaveOutcomes acts.items) }
     {
+        self.book.is_sound();
         start_acts(alloc, &self.book)
     }
 
@@ -80,7 +82,7 @@ impl KeptBook {
         ensures acts { IfOk result (λ acts. acts.items ≡ event_acts self.now.book decided.items forgotten.items terminus) }
         ensures writable { IfOk result (λ acts. Writable self.now.book acts.items) }
     {
-        self.book.rows_rise();
+        self.book.is_sound();
         event_acts(alloc, &self.book, decided, forgotten, terminus)
     }
 }

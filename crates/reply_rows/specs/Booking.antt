@@ -1,13 +1,16 @@
 -- Durable links and the book of durable deliveries: why a link, or a delivery on one, that its row would take is refused after all.
-use Rattle.std.specs.Prelude.{ℕ, Bool, false, not, ◌&&◌, ◌||◌, nat_lt, if◌then◌else◌, List, [], length, Option, Some, None, is_none, is_some, unwrap_or}
+use Rattle.std.specs.Prelude.{ℕ, Bool, false, not, ◌&&◌, ◌||◌, nat_lt, if◌then◌else◌, List, [], ◌∷◌, length, filter, Option, Some, None, is_none, is_some, unwrap_or}
 use Rattle.amqp_model.specs.declared.perf.Attach.{Attach as AnAttach}
 use Rattle.amqp_model.specs.declared.perf.Perf.{Perf}
 use Rattle.amqp_model.specs.declared.perf.Perf.TheVariants as perf
+use Rattle.amqp_model.specs.declared.perf.Role.{Role}
+use Rattle.amqp_model.specs.declared.perf.Role.TheVariants.{Sender, Receiver}
 use Rattle.amqp_model.specs.declared.perf.Transfer.{Transfer as ATransfer}
 use Rattle.amqp_model.specs.declared.item.Item.{Item}
 use Rattle.amqp_model.specs.declared.item.Item.TheVariants as item
+use Rattle.amqp_model.specs.declared.state.UnsettledDelivery.{UnsettledDelivery}
 use Rattle.amqp_conn.specs.declared.conn.Conn.{Conn}
-use Rattle.book_model.specs.Book.{BookView, same_bytes, terminus_of, has_short_texts, row_named}
+use Rattle.book_model.specs.Book.{BookView, same_bytes, terminus_of, has_short_texts, row_named, is_of}
 use Rattle.book_model.specs.declared.row.Row.{Row}
 use Rattle.book_model.specs.declared.terminus.LinkKey.{LinkKey}
 use Rattle.book_model.specs.declared.terminus.Terminus.{Terminus}
@@ -15,10 +18,11 @@ use Rattle.router_trace.specs.Trace.{Trace}
 use Rattle.router_trace.specs.Durable.{is_durable}
 use Rattle.router_trace.specs.LinkFrames.{other, plain_answer}
 use Rattle.router_trace.specs.Deliveries.{tag_in}
-use Rattle.router_trace.specs.Links.{address_by, key_at, link, link_place, free_handle, durable_key, holds_durable}
+use Rattle.router_trace.specs.Links.{address_by, key_at, link, link_place, free_handle, durable_key}
 use Rattle.router_trace.specs.Settling.{middle_on, uses_tag}
 use Rattle.router_trace.specs.declared.condition.Condition.{Condition}
 use Rattle.router_trace.specs.declared.condition.Condition.TheVariants.{NotAllowed, NotImplemented, ResourceLimitExceeded}
+use Rattle.resume_core.specs.Resuming.{entries_of, producer_map, consumer_map}
 use Rattle.reply_rows.specs.Finding.{finds}
 use Rattle.reply_rows.specs.Rows.{item_reply}
 use Rattle.reply_rows.specs.declared.answer.Answer.{Answer}
@@ -42,23 +46,34 @@ new_terminus b key address = record { number = record { 0 = b.next_terminus }; k
 abbrev pub has_room : Bool → BookView → Terminus → Bool
 has_room full b x = not full && (nat_lt (length b.termini) 1024 && has_short_texts x)
 
--- A durable link is refused if its terminus has another address, or if there is no room for one. That a link takes its terminus up again isn't
--- served yet.
-abbrev pub durable_refusal : Option Terminus → AnAttach → Bool → Option Condition
-durable_refusal (Some x) a room = if same_bytes x.address (wanted_address a) then Some NotImplemented else Some NotAllowed
-durable_refusal None a room = if room then None else Some ResourceLimitExceeded
+-- The rows of a terminus: those that came on its link, or are bound to it.
+abbrev pub rows_of : BookView → Terminus → List Row
+rows_of b x = filter (is_of x.number.0) b.rows
 
--- Another link is refused if it has the key of a durable link that is attached: that one isn't stolen yet.
-abbrev pub volatile_refusal : Bool → Option Condition
-volatile_refusal held = if held then Some NotImplemented else None
+-- The router's map, if a link takes its terminus up again: the deliveries of these rows that are unsettled then (2.6.13), by the peer's role and the peer's map.
+abbrev pub resumed_map : Role → Bool → List UnsettledDelivery → List Row → List UnsettledDelivery
+resumed_map Sender complete theirs rows = producer_map complete theirs rows
+resumed_map Receiver complete theirs rows = consumer_map theirs rows
 
-abbrev pub refusal_with : Bool → BookView → Trace → LinkKey → AnAttach → Option Condition
-refusal_with full b t key a =
-    if wants_durable a then durable_refusal (terminus_of key b.termini) a (has_room full b (new_terminus b key (wanted_address a)))
-    else volatile_refusal (holds_durable t key)
+abbrev pub map_for : List Row → AnAttach → List UnsettledDelivery
+map_for rows a = resumed_map a.role (not a.incomplete_unsettled) (entries_of a.unsettled) rows
+
+-- A durable link takes its terminus up again if nothing of it is unsettled then. That it resumes deliveries isn't served yet.
+abbrev pub unless_resumes : List UnsettledDelivery → Option Condition
+unless_resumes [] = None
+unless_resumes (d ∷ ds) = Some NotImplemented
+
+-- A durable link is refused if its terminus has another address, or if there is no room for one.
+abbrev pub durable_refusal : BookView → Option Terminus → AnAttach → Bool → Option Condition
+durable_refusal b (Some x) a room = if same_bytes x.address (wanted_address a) then unless_resumes (map_for (rows_of b x) a) else Some NotAllowed
+durable_refusal b None a room = if room then None else Some ResourceLimitExceeded
+
+abbrev pub refusal_with : Bool → BookView → LinkKey → AnAttach → Option Condition
+refusal_with full b key a =
+    if wants_durable a then durable_refusal b (terminus_of key b.termini) a (has_room full b (new_terminus b key (wanted_address a))) else None
 
 abbrev pub book_refusal : Bool → BookView → Trace → ℕ → AnAttach → Option Condition
-book_refusal full b t c a = refusal_with full b t (wanted_key t c a) a
+book_refusal full b t c a = refusal_with full b (wanted_key t c a) a
 
 -- an answer that takes a link, if the book stands in its way
 abbrev pub refuse_on : ℕ → Option ℕ → Condition → Answer

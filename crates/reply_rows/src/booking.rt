@@ -1,21 +1,23 @@
 //! Durable links and the book of durable deliveries: why a link, or a delivery on one, that its row would take is refused after all.
-ghost use Rattle.std.specs.Prelude.{◌≡◌, [], List, option_map, unwrap_or, IfOk};
+ghost use Rattle.std.specs.Prelude.{◌≡◌, [], List, not, option_map, unwrap_or, IfOk};
+ghost use Rattle.std.specs.Option.{option_copied};
 ghost use Rattle.router_trace.specs.Trace.{Entry};
 ghost use Rattle.router_trace.specs.LinkFrames.{other};
 ghost use Rattle.router_state.specs.Tables.{TablesFind};
-ghost use Rattle.reply_rows.specs.Booking.{wanted_key, wanted_address, wants_durable, new_terminus, has_room, durable_refusal, volatile_refusal, attach_unless, stands_from, repeats_tag, repeats, booked_transfer};
+ghost use Rattle.reply_rows.specs.Booking.{wanted_key, wanted_address, wants_durable, new_terminus, has_room, rows_of, map_for, unless_resumes, durable_refusal, attach_unless, stands_from, repeats_tag, repeats, booked_transfer};
 ghost use Rattle.router_trace.specs.Deliveries.{tag_in};
 ghost use Rattle.book_model.specs.Book.{terminus_of, same_bytes, is_short};
 
 use crate::answer::Answer;
 use crate::link_rows::LINK_TEXT;
-use amqp_model::{Attach, DeliveryTag, Role, Text, Transfer};
+use amqp_model::{Attach, DeliveryTag, Role, Text, Transfer, UnsettledDelivery};
 use book_core::Book;
 use book_model::{LinkKey, LinkRole, Terminus};
+use resume_core::{consumer_plan, producer_plan};
 use router_state::State;
 use router_trace::{Condition, is_durable};
 use state_links::address_by;
-use std::alloc::AllocError;
+use std::alloc::{AllocError, Global};
 
 /// The most termini that a book keeps.
 const TERMINI: usize = 1_024;
@@ -94,27 +96,63 @@ fn has_address(terminus: &Terminus, address: Option<&Text>) -> bool
     }
 }
 
-/// Why a durable link is refused, by the terminus that its key has in the book, if it is.
-pub fn durable_refusal(book: &Book, full: bool, key: &LinkKey, attach: &Attach) -> Option<Condition>
-    ensures { result ≡ durable_refusal (terminus_of key.now book.now.termini) attach.now (has_room full book.now (new_terminus book.now key.now (wanted_address attach.now))) }
+/// Why a link may not take up this terminus again, if it may not: deliveries would be unsettled on it.
+fn resumed_refusal(
+    alloc: Global,
+    book: &Book,
+    terminus: &Terminus,
+    attach: &Attach,
+) -> Result<Option<Condition>, AllocError>
+    ensures { IfOk result (λ refusal. refusal ≡ unless_resumes (map_for (rows_of book.now terminus.now) attach.now)) }
 {
-    let address = wanted_address(attach);
-    match book.terminus_of(key) {
-        Some(terminus) if has_address(terminus, address) => Some(Condition::NotImplemented),
-        Some(_) => Some(Condition::NotAllowed),
-        None if !has_room(full, book, key, address) => Some(Condition::ResourceLimitExceeded),
-        None => None,
+    let rows = book.rows_of(terminus.number);
+    let unsettled = attach.unsettled.as_ref();
+    let complete = !attach.incomplete_unsettled;
+    match attach.role {
+        Role::Sender => {
+            let plan = producer_plan(alloc, rows, unsettled, complete)?;
+            Ok(unless_resumes(&plan.map))
+        }
+        Role::Receiver => {
+            let plan = consumer_plan(alloc, rows, unsettled, complete)?;
+            Ok(unless_resumes(&plan.map))
+        }
     }
 }
 
-/// Why a link is refused as its key is that of a durable link that is attached, if it is.
-pub fn volatile_refusal(held: bool) -> Option<Condition>
-    ensures { result ≡ volatile_refusal held }
+/// Why a link whose router's map would be this one is refused, if it is.
+fn unless_resumes(map: &[UnsettledDelivery]) -> Option<Condition>
+    ensures { result ≡ unless_resumes map.now }
 {
-    if held {
-        Some(Condition::NotImplemented)
-    } else {
+    if map.is_empty() {
         None
+    } else {
+        Some(Condition::NotImplemented)
+    }
+}
+
+/// Why a durable link is refused, by the terminus that its key has in the book, if it is.
+///
+/// # Errors
+///
+/// `AllocError` if memory was refused.
+pub fn durable_refusal(
+    alloc: Global,
+    book: &Book,
+    full: bool,
+    key: &LinkKey,
+    attach: &Attach,
+) -> Result<Option<Condition>, AllocError>
+    ensures { IfOk result (λ refusal. refusal ≡ durable_refusal book.now (terminus_of key.now book.now.termini) attach.now (has_room full book.now (new_terminus book.now key.now (wanted_address attach.now)))) }
+{
+    let address = wanted_address(attach);
+    match book.terminus_of(key) {
+        Some(terminus) if has_address(terminus, address) => resumed_refusal(
+            alloc, book, terminus, attach,
+        ),
+        Some(_) => Ok(Some(Condition::NotAllowed)),
+        None if !has_room(full, book, key, address) => Ok(Some(Condition::ResourceLimitExceeded)),
+        None => Ok(None),
     }
 }
 

@@ -10,8 +10,7 @@ mod rows;
 
 pub use answer::Answer;
 pub use booking::{
-    attach_unless, booked_transfer, durable_refusal, volatile_refusal, wanted_address, wanted_key,
-    wants_durable,
+    attach_unless, booked_transfer, durable_refusal, wanted_address, wanted_key, wants_durable,
 };
 pub use deciding::item_reply;
 pub use link_rows::LINK_TEXT;

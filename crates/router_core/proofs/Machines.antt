@@ -3,11 +3,9 @@ use Rattle.std.proofs.Common.{◌≡◌, ◌∙◌, sym, ap, refl, subst, inl, i
 use Rattle.disk_core.specs.Disk.{LeavesOnly}
 use Rattle.book_model.specs.declared.act.Act.{Act}
 use Rattle.book_model.specs.Book.{BookView}
-use Rattle.book_model.specs.Made.{IsMade}
 use Rattle.gate_journal.specs.Journal.{batch_count}
-use Rattle.journal_store.specs.Store.{OpensTo, Stands, batches_after, disk_of, journal_of}
+use Rattle.journal_store.specs.Store.{Stands, batches_after, disk_of, journal_of}
 use Rattle.journal_store.specs.declared.store.Store.{Store}
-use Rattle.journal_store.proofs.Makes.{made_by}
 use Rattle.router_trace.specs.declared.event.Event.{Event}
 use Rattle.router_trace.specs.Trace.{Entry, Trace, step_of}
 use Rattle.router_reply.specs.Acts.{Journaled, acts_of, book_after_event, book_in, booked, journaled}
@@ -50,10 +48,6 @@ batches_next old new id t e before after =
     one_more (batch_count (journal_of (store_of old))) (batch_count (journal_of (store_of new))) (acts_of t e)
     (after.journal.batches ∙ ap (λ (j : Journaled). j.batches) (view_answered journaled (λ c i u. refl) (λ b u. refl) id (booked t e) e)
     ∙ ap (λ n. batches_after n (acts_of t e)) (sym before.journal.batches))
-
--- acts made the book to which a file opens
-pub made_of : (file : List ℕ) (b : BookView) → OpensTo file b → IsMade b
-made_of file b opens = subst IsMade (sym opens.leaves) (made_by opens.batches opens.holds.valid)
 
 module _ {D : Type 0} (seen : D → List ℕ) (may_leave : D → List ℕ → Type 0) where
   -- the disk keeps the next book

@@ -1,9 +1,9 @@
 -- The start of a router that knows no connection puts nothing out.
-use Rattle.std.proofs.Common.{◌≡◌, ◌∙◌, sym, ap, refl, subst, ℕ, List, [], ◌∷◌, true, false}
+use Rattle.std.proofs.Common.{◌≡◌, ◌∙◌, sym, ap, refl, subst, ℕ, List, [], ◌∷◌}
 use Rattle.std.specs.Prelude.{None}
 use Rattle.route_table.specs.Settings.{Settings}
 use Rattle.core_player.specs.Script as player
-use Rattle.router_play.specs.Script.{new_router, opening}
+use Rattle.router_play.specs.Script.{router_on, opening_on}
 use Rattle.router_trace.specs.Trace.{Beginning}
 use Rattle.router_trace.specs.Configuration.{beginning}
 use Rattle.router_trace.specs.declared.event.Event.TheVariants as event
@@ -14,7 +14,7 @@ use Rattle.state_messages.specs.Messages.{grants, grants_due, lowest_below}
 use Rattle.state_sessions.specs.Windows.{windows}
 use Rattle.router_after.specs.After.{sent, drained, granted}
 use Rattle.router_core.specs.Replies.{handled}
-use Rattle.router_reply.specs.Acts.{booked}
+use Rattle.router_reply.specs.Acts.{Journaled, booked}
 use Rattle.router_core.proofs.Following.{due_keeps}
 use Rattle.router_core.proofs.Moves.{Leads, leads_event}
 
@@ -56,7 +56,7 @@ start_is_silent id g =
 pub began : (id : List ℕ) (g : Beginning) → Leads id (beginning g) (begins g)
 began id g = subst (λ (u : List Entry). Leads id (beginning g) u) (start_is_silent id g) (leads_event id (beginning g) event.Start refl)
 
--- the scene in which a started router finds itself on a new journal
-pub opening_is : (config : Settings) → player.opening handled config (new_router config) ≡ opening config
-opening_is config =
-    ap (λ (t : List Entry). record { id = config.router_id; config = config; trace = t; last = None; sockets = λ (c : ℕ). None; lines = [] }) (start_is_silent config.router_id (new_router config))
+-- the scene in which a started router finds itself
+pub opening_is : (config : Settings) (j : Journaled) → player.opening handled config (router_on config j) ≡ opening_on config j
+opening_is config j =
+    ap (λ (t : List Entry). record { id = config.router_id; config = config; trace = t; last = None; sockets = λ (c : ℕ). None; lines = [] }) (start_is_silent config.router_id (router_on config j))

@@ -1,10 +1,9 @@
 -- Bytes are received on a connection of a script.
-use Rattle.std.proofs.Common.{◌≡◌, ◌∙◌, sym, ap, refl, subst, true≢false, ℕ, Bool, true, false, List, [], ◌++◌, append_assoc, append-nil}
+use Rattle.std.proofs.Common.{◌≡◌, ◌∙◌, sym, ap, refl, subst, true≢false, ℕ, Bool, true, false, List, ◌++◌, append_assoc}
 use Rattle.std.specs.Prelude.{◌==◌, Option, Some, None}
 use Rattle.amqp_model.specs.declared.item.Item.{Item}
 use Rattle.amqp_frames.specs.Cuts.{Cuts}
-use Rattle.amqp_frames.proofs.Fronts.{wrong_stays}
-use Rattle.amqp_frames.proofs.Streams.{HasCut, has_cut, cuts_append, leads_stays}
+use Rattle.amqp_frames.proofs.Streams.{cuts_append}
 use Rattle.router_trace.specs.declared.event.ConnectionId.{ConnectionId}
 use Rattle.core_door.specs.declared.door.Door.{Door as DoorState}
 use Rattle.core_player.specs.declared.socket.Socket.{Socket}

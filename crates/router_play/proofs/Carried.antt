@@ -1,5 +1,5 @@
 -- A script's lines carry each of its connections.
-use Rattle.std.proofs.Common.{◌≡◌, ◌∙◌, sym, ap, refl, subst, true≢false, ℕ, false, List, [], ◌∷◌, ◌++◌, append_assoc, append-nil}
+use Rattle.std.proofs.Common.{◌≡◌, ◌∙◌, ◌+◌, sym, ap, refl, subst, true≢false, ℕ, false, List, [], ◌∷◌, ◌++◌, append_assoc, append-nil}
 use Rattle.std.specs.Prelude.{◌==◌, Option, Some}
 use Rattle.std.proofs.lemmas.Bool.{eqb-true}
 use Rattle.amqp_frames.proofs.Steps.{front_nothing}
@@ -11,11 +11,10 @@ use Rattle.core_player.specs.declared.script.Step.{Step}
 use Rattle.core_player.specs.declared.script.Step.TheVariants as step
 use Rattle.router_trace.specs.Refusing.{rises}
 use Rattle.core_player.specs.Listening.{door_for}
-use Rattle.router_reply.specs.Acts.{journaled}
-use Rattle.router_play.specs.Script.{Scene, opening, book_line, say, refused, hand, made, lose, Takes, Flushes, Plays, PlaysAll}
+use Rattle.router_reply.specs.Acts.{Journaled, journaled}
+use Rattle.router_play.specs.Script.{Scene, router_on, opening_on, book_line, say, refused, hand, made, lose, Takes, Flushes, Plays, PlaysAll}
 use Rattle.router_play.specs.Carrying.{after_up, role_in, door_in, bytes_of, bytes_in, door_says, passed, Carries, RunsCarry}
 use Rattle.state_connections.proofs.Lists.{by_test}
-use Rattle.router_play.specs.Script.{new_router}
 use Rattle.router_play.proofs.Beginning.{began}
 use Rattle.router_play.proofs.PlayMoves.{play_is_trace, takes_onward, take_all_onward}
 use Rattle.router_play.proofs.Entering.{Quiet}
@@ -147,16 +146,16 @@ play_unmade (step.Fuse calls ∷ xs) s u c f h plays =
     from_as s.config plays.1.config s.last plays.1.last xs u c (same_config (step.Fuse calls) s plays.0 plays.1 plays.2 plays.3) (after_flush plays.0 plays.1 plays.3 ∙ ap (λ (w : Scene). w.last) plays.2)
     (play_unmade xs plays.1 u c plays.3.empty (unmade_flushed plays.0 plays.1 c plays.3 (subst (λ (w : Scene). Unmade w c) (sym plays.2) h)) plays.4)
 
-pub play_carries : (config : Settings) (steps : List Step) (u : Scene) (c : ℕ) → Plays steps (opening config) u → Carries (door_in config c steps) (bytes_in c steps) u.trace u.lines c
-play_carries config steps u c plays = play_unmade steps (opening config) u c (λ n. refl) (record {
-  entered = record { real = began config.router_id (new_router config); said = []; balance = refl; stands = (record { silent = λ m. refl; begins = λ m. ([], refl); whole = λ l m. absurd (true≢false (sym l)) }, refl) };
+pub play_carries : (config : Settings) (j : Journaled) (steps : List Step) (u : Scene) (c : ℕ) → Plays steps (opening_on config j) u → Carries (door_in config c steps) (bytes_in c steps) u.trace u.lines c
+play_carries config j steps u c plays = play_unmade steps (opening_on config j) u c (λ n. refl) (record {
+  entered = record { real = (router_on config j, began config.router_id (router_on config j)); said = []; balance = refl; stands = (record { silent = λ m. refl; begins = λ m. ([], refl); whole = λ l m. absurd (true≢false (sym l)) }, refl) };
   socket = refl;
   unknown = refl;
   silent = refl;
   kept = refl;
 }) plays
 
-pub runs_carry : (config : Settings) (runs : List (List Step)) (last : Line) (lines : List Line) → PlaysAll config runs last lines → RunsCarry config runs last lines
-runs_carry config [] last lines h = h
-runs_carry config (steps ∷ runs) last lines h =
-    (h.0.trace, h.0.lines, h.1, play_is_trace config steps h.0 h.2, λ c. play_carries config steps h.0 c h.2, runs_carry config runs (book_line (journaled h.0.trace)) h.1 h.3, h.4)
+pub runs_carry : (config : Settings) (n : ℕ) (j : Journaled) (runs : List (List Step)) (last : Line) (lines : List Line) → PlaysAll config n j runs last lines → RunsCarry config n j runs last lines
+runs_carry config n j [] last lines h = h
+runs_carry config n j (steps ∷ runs) last lines h =
+    (h.0.trace, h.0.lines, h.1, play_is_trace config j steps h.0 h.2, λ c. play_carries config j steps h.0 c h.2, runs_carry config (n + 1) (journaled h.0.trace) runs (book_line (journaled h.0.trace)) h.1 h.3, h.4)

@@ -3,7 +3,6 @@ use Rattle.std.proofs.Common.{◌≡◌, ◌∙◌, sym, ap, refl, subst, ℕ, B
 use Rattle.std.specs.Prelude.{◌==◌, map, Option, Some, None, is_some, if◌then◌else◌}
 use Rattle.amqp_model.specs.declared.item.Item.{Item}
 use Rattle.amqp_model.specs.ItemSpelling.{item_spelling}
-use Rattle.router_play.specs.Script.{new_router}
 use Rattle.router_trace.specs.declared.event.ConnectionId.{ConnectionId}
 use Rattle.router_trace.specs.declared.event.Peer.{Peer}
 use Rattle.router_trace.specs.declared.event.Event.{Event}
@@ -37,6 +36,7 @@ bytes_more c (line.Out d bytes ∷ ls) ks =
     (λ e. rw e (bytes_more c ls ks))
 bytes_more c (line.End d ∷ ls) ks = bytes_more c ls ks
 bytes_more c (line.Failed f ∷ ls) ks = bytes_more c ls ks
+bytes_more c (line.Run n ∷ ls) ks = bytes_more c ls ks
 bytes_more c (line.Book r t b ∷ ls) ks = bytes_more c ls ks
 
 pub spelled_more : (xs ys : List Item) → spelled (xs ++ ys) ≡ spelled xs ++ spelled ys
@@ -131,7 +131,7 @@ hand_quiet e s c still none =
       socket = refl;
       bytes = refl;
       onward = answered_onward e s r;
-      even = λ real. handled_even s.id (new_router s.config) s.trace e c real r still;
+      even = λ real. handled_even s.id real.0 s.trace e c real.1 r still;
       came = ins_handled s.id s.trace e c ∙ none (ins s.trace c);
       last = refl;
       kept = handled_kept s.id s.trace e c (still_kept e c still);

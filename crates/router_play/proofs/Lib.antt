@@ -1,5 +1,5 @@
 pub mod Scenes
-mod NewJournal
+pub mod Stops
 pub mod Beginning
 pub mod PlayMoves
 pub mod Levels

@@ -2,7 +2,6 @@
 use Rattle.std.proofs.Common.{◌≡◌, ◌∙◌, sym, ap, refl, subst, true≢false, ℕ, true, false, List, [], ◌∷◌, ◌++◌, append-nil}
 use Rattle.std.specs.Prelude.{◌==◌, Option, Some, None}
 use Rattle.amqp_model.specs.declared.item.Item.{Item}
-use Rattle.router_play.specs.Script.{new_router}
 use Rattle.router_trace.specs.declared.event.ConnectionId.{ConnectionId}
 use Rattle.router_trace.specs.declared.event.Event.TheVariants as event
 use Rattle.core_door.specs.declared.door.Door.{Door as DoorState}
@@ -53,9 +52,9 @@ told_lost d s real said D P ds ps spoken let_in none closed balance None h =
     in record {
       real = onward_real s (with_trace u s) (answered_onward (event.Down d) s r) real;
       said = said;
-      balance = level_balance said s.trace u d.0 (bytes_out d.0 s.lines) (down_level s.id (new_router s.config) s.trace d real r none) balance;
+      balance = level_balance said s.trace u d.0 (bytes_out d.0 s.lines) (down_level s.id real.0 s.trace d real.1 r none) balance;
       stands = subst (λ (o : Option Socket). Stands said u d.0 (λ m. ds) (λ m. ps) o) (sym closed)
-          (through_ends said s.trace u d.0 D P ds ps spoken let_in (handled_ins s.id s.trace (event.Down d) d.0) (ap is_live (down_dead s.id (new_router s.config) s.trace d real r)) h);
+          (through_ends said s.trace u d.0 D P ds ps spoken let_in (handled_ins s.id s.trace (event.Down d) d.0) (ap is_live (down_dead s.id real.0 s.trace d real.1 r)) h);
     })
 told_lost d s real said D P ds ps spoken let_in none closed balance (Some dd) h = record {
   real = real;

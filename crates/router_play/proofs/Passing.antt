@@ -3,7 +3,6 @@ use Rattle.std.proofs.Common.{◌≡◌, ◌∙◌, sym, ap, refl, subst, true�
 use Rattle.std.specs.Prelude.{◌==◌, map, Option, Some, None, is_some, is_none, option_and_then}
 use Rattle.std.proofs.lemmas.Bool.{eqb-true}
 use Rattle.amqp_model.specs.declared.item.Item.{Item}
-use Rattle.router_play.specs.Script.{new_router}
 use Rattle.router_trace.specs.declared.event.ConnectionId.{ConnectionId}
 use Rattle.router_trace.specs.declared.event.Peer.{Peer}
 use Rattle.router_trace.specs.declared.event.Event.TheVariants as event
@@ -59,7 +58,7 @@ item_past d i s D P h =
     in record {
       real = onward_real s (with_trace u s) (answered_onward (event.Item d i) s r) h.real;
       said = h.said;
-      balance = level_balance h.said t u d.0 (bytes_out d.0 s.lines) (handled_even s.id (new_router s.config) t (event.Item d i) d.0 h.real r refl).level h.balance;
+      balance = level_balance h.said t u d.0 (bytes_out d.0 s.lines) (handled_even s.id h.real.0 t (event.Item d i) d.0 h.real.1 r refl).level h.balance;
       through = record {
         silent = λ m. h.through.silent (i ∷ m);
         begins = λ m. (m, goes m);
@@ -82,7 +81,7 @@ up_past d p s said real unknown none balance =
     in record {
       real = onward_real s (with_trace u s) (answered_onward (event.Up d p) s r) real;
       said = said;
-      balance = level_balance said s.trace u d.0 (bytes_out d.0 s.lines) (up_level s.id (new_router s.config) s.trace d p real r unknown) balance;
+      balance = level_balance said s.trace u d.0 (bytes_out d.0 s.lines) (up_level s.id real.0 s.trace d p real.1 r unknown) balance;
       through = new u (handled_ins s.id s.trace (event.Up d p) d.0 ∙ none);
     })
   where

@@ -2,7 +2,8 @@
 use Rattle.std.proofs.Common.{◌≡◌, ◌∙◌, sym, ap, refl, subst, ℕ, Bool, true, false, List, [], ◌∷◌}
 use Rattle.std.specs.Prelude.{map, length, Option, Some, None, if◌then◌else◌}
 use Rattle.amqp_model.specs.declared.item.Item.{Item}
-use Rattle.router_play.specs.Script.{new_router}
+use Rattle.router_play.specs.Script.{router_on}
+use Rattle.router_reply.specs.Acts.{Journaled}
 use Rattle.router_trace.specs.Configuration.{beginning}
 use Rattle.router_trace.specs.declared.event.ConnectionId.{ConnectionId}
 use Rattle.router_trace.specs.declared.event.PeerRole.{PeerRole}
@@ -18,10 +19,10 @@ use Rattle.router_trace.specs.Refusing.{refuses, rises}
 use Rattle.router_core.specs.Replies.{handled}
 use Rattle.core_machine.specs.Moves.{Taking, items_of, took_one}
 use Rattle.core_door.specs.Door.{Verdict, says, passes, ends, door}
-use Rattle.router_play.specs.Script.{Scene, opening, refused, say, say_all, out_line, with_socket, with_trace, stream_of, hand, judged_by, enter_at, enter_by, enter, enter_all, Reads, BytesCome, made, make, told, lose_by, lose, Takes, is_last, close_if, take_one, take_all, Plays}
+use Rattle.router_play.specs.Script.{Scene, opening_on, refused, say, say_all, out_line, with_socket, with_trace, stream_of, hand, judged_by, enter_at, enter_by, enter, enter_all, Reads, BytesCome, made, make, told, lose_by, lose, Takes, is_last, close_if, take_one, take_all, Plays}
 use Rattle.router_core.specs.Moves.{IsTrace}
 use Rattle.router_core.proofs.Moves.{Leads, leads_on, leads_same, leads_event, leads_take}
-use Rattle.router_trace.specs.Trace.{step_of}
+use Rattle.router_trace.specs.Trace.{Beginning, step_of}
 use Rattle.router_play.proofs.Beginning.{began}
 
 -- a scene of the same router, to whose trace moves lead
@@ -52,15 +53,13 @@ answered_onward e s is = record { id = refl; config = refl; leads = leads_event 
 pub took_onward : (x : Taking) (s : Scene) → Onward s (with_trace (took_one x s.trace) s)
 took_onward x s = record { id = refl; config = refl; leads = leads_take s.id s.trace x }
 
--- its trace is one of the router
+-- its trace is one of the router, whatever it was opened with
 abbrev pub Real : Scene → Type 0
-Real s = IsTrace s.id (new_router s.config) s.trace
+Real s = (g : Beginning) × IsTrace s.id g s.trace
 
 pub onward_real : (s u : Scene) → Onward s u → Real s → Real u
 onward_real s u onward real =
-    subst (λ (id : List ℕ). IsTrace id (new_router u.config) u.trace) (sym onward.id)
-    (subst (λ (x : Settings). IsTrace s.id (new_router x) u.trace) (sym onward.config)
-    (leads_on s.id (beginning (new_router s.config)) s.trace u.trace real onward.leads))
+    (real.0, subst (λ (id : List ℕ). IsTrace id real.0 u.trace) (sym onward.id) (leads_on s.id (beginning real.0) s.trace u.trace real.1 onward.leads))
 
 pub hand_onward : (e : Event) (s : Scene) → Onward s (hand e s)
 hand_onward e s = by_answer (refuses s.trace e) refl
@@ -156,6 +155,6 @@ plays_onward (x ∷ xs) s u plays =
     let emptied : Onward plays.0 plays.1 = subst (λ (v : Scene). Onward plays.0 v) (sym plays.3.scene) (take_all_onward plays.3.takes plays.0)
     in onward_on s plays.0 u (takes_onward x s plays.0 plays.2) (onward_on plays.0 plays.1 u emptied (plays_onward xs plays.1 u plays.4))
 
-pub play_is_trace : (config : Settings) (steps : List Step) (u : Scene) → Plays steps (opening config) u → IsTrace config.router_id (new_router config) u.trace
-play_is_trace config steps u plays =
-    leads_on config.router_id (beginning (new_router config)) (opening config).trace u.trace (began config.router_id (new_router config)) (plays_onward steps (opening config) u plays).leads
+pub play_is_trace : (config : Settings) (j : Journaled) (steps : List Step) (u : Scene) → Plays steps (opening_on config j) u → IsTrace config.router_id (router_on config j) u.trace
+play_is_trace config j steps u plays =
+    leads_on config.router_id (beginning (router_on config j)) (opening_on config j).trace u.trace (began config.router_id (router_on config j)) (plays_onward steps (opening_on config j) u plays).leads

@@ -1,10 +1,10 @@
 -- From bytes to bytes: the bytes sent on each connection of a script, for the bytes received on it.
-use Rattle.std.specs.Prelude.{◌≡◌, ℕ, Bool, true, false, ◌||◌, ◌==◌, if◌then◌else◌, List, [], ◌∷◌, ◌++◌, Option, Some, None}
+use Rattle.std.specs.Prelude.{◌≡◌, ◌+◌, ℕ, Bool, true, false, ◌||◌, ◌==◌, if◌then◌else◌, List, [], ◌∷◌, ◌++◌, Option, Some, None}
 use Rattle.amqp_model.specs.declared.item.Item.{Item}
 use Rattle.amqp_frames.specs.Cuts.{Cuts}
 use Rattle.amqp_model.specs.ItemSpelling.{item_spelling}
 use Rattle.route_table.specs.Settings.{Settings}
-use Rattle.router_play.specs.Script.{new_router, book_line}
+use Rattle.router_play.specs.Script.{router_on, book_line, run_line}
 use Rattle.router_trace.specs.declared.event.PeerRole.{PeerRole}
 use Rattle.router_trace.specs.declared.event.PeerRole.TheVariants.{Normal}
 use Rattle.router_trace.specs.declared.event.Event.{Event}
@@ -17,7 +17,7 @@ use Rattle.core_player.specs.declared.script.Step.TheVariants as step
 use Rattle.router_trace.specs.Trace.{Trace, Did, Out, Took, Bound, Booked, Began}
 use Rattle.router_trace.specs.Connection.{conn, is_live}
 use Rattle.router_trace.specs.Refusing.{rises}
-use Rattle.router_reply.specs.Acts.{journaled}
+use Rattle.router_reply.specs.Acts.{Journaled, journaled}
 use Rattle.core_door.specs.Door.{Verdict, says, passes, ends, door, door_after}
 use Rattle.router_core.specs.Moves.{IsTrace, ins, outs}
 use Rattle.core_player.specs.Listening.{door_for}
@@ -115,10 +115,10 @@ pub record Carries (start : DoorState) (stream : List ℕ) (t : Trace) (lines : 
   -- the bytes sent are the canonical bytes of the door's answers, then of all that the router put out for it
   pub out : bytes_out c lines ≡ spelled (door_says start items) ++ spelled (outs t c)
 
--- runs, one after another: each has a trace of its own, of a router opened with the configuration, and its lines carry every connection;
--- after them is the line of the last run's book, or this one if there is no run
-abbrev pub RunsCarry : Settings → List (List Step) → Line → List Line → Type 0
-RunsCarry config [] last lines = lines ≡ last ∷ []
-RunsCarry config (steps ∷ runs) last lines = (t : Trace) × (mine : List Line) × (others : List Line)
-    × IsTrace config.router_id (new_router config) t × ((c : ℕ) → Carries (door_in config c steps) (bytes_in c steps) t mine c)
-    × RunsCarry config runs (book_line (journaled t)) others × (lines ≡ mine ++ others)
+-- runs, one after another, the first with this number: each has a trace of its own, of a router opened with the configuration on a journal that holds
+-- this, or what the run before it left; its lines carry every connection; after them is the line of the last run's book, or this one if there is no run
+abbrev pub RunsCarry : Settings → ℕ → Journaled → List (List Step) → Line → List Line → Type 0
+RunsCarry config n j [] last lines = lines ≡ last ∷ []
+RunsCarry config n j (steps ∷ runs) last lines = (t : Trace) × (mine : List Line) × (others : List Line)
+    × IsTrace config.router_id (router_on config j) t × ((c : ℕ) → Carries (door_in config c steps) (bytes_in c steps) t mine c)
+    × RunsCarry config (n + 1) (journaled t) runs (book_line (journaled t)) others × (lines ≡ run_line n ++ mine ++ others)

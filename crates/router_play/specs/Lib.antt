@@ -1,5 +1,7 @@
 pub mod Script
 pub mod Carrying
+pub mod Lives
+pub mod Stopping
 pub mod Ending
 pub use Rattle.router_trace.specs.Trace
 pub use Rattle.router_trace.specs.Connection

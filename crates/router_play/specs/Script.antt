@@ -1,5 +1,5 @@
 -- A script against the router: what its steps do to a scene, with what the router's events do to a trace (`handled`).
-use Rattle.std.specs.Prelude.{◌≡◌, ℕ, Bool, List, [], ◌∷◌, ◌++◌, length, Option, None}
+use Rattle.std.specs.Prelude.{◌≡◌, ◌==◌, ◌+◌, if◌then◌else◌, ℕ, Bool, List, [], ◌∷◌, ◌++◌, length, Option, None}
 use Rattle.amqp_model.specs.declared.item.Item.{Item}
 use Rattle.book_model.specs.Book.{empty_book}
 use Rattle.route_table.specs.Places.{routing_of}
@@ -8,8 +8,8 @@ use Rattle.router_trace.specs.declared.event.ConnectionId.{ConnectionId}
 use Rattle.router_trace.specs.declared.event.Event.{Event}
 use Rattle.router_trace.specs.declared.event.Event.TheVariants as event
 use Rattle.router_trace.specs.Configuration.{beginning}
-use Rattle.router_trace.specs.Trace.{Beginning, Booked, did}
-use Rattle.router_reply.specs.Acts.{Journaled, journaled}
+use Rattle.router_trace.specs.Trace.{Beginning, did}
+use Rattle.router_reply.specs.Acts.{Journaled, booked, journaled}
 use Rattle.router_core.specs.Replies.{handled}
 use Rattle.core_door.specs.declared.door.Door.{Door as DoorState}
 use Rattle.core_door.specs.Door.{Verdict}
@@ -20,13 +20,31 @@ use Rattle.core_player.specs.declared.script.Step.{Step}
 use Rattle.core_player.specs.Script as player
 pub use Rattle.core_player.specs.Script.{Scene, say_all, say, refused, out_line, with_socket, with_trace, stream_of, new_socket, made, make, is_last, close_if, take_one, take_all, AllInTurn, Flushes}
 
--- a router with this configuration and a new journal, which has no batch, and nine bytes
-abbrev pub new_router : Settings → Beginning
-new_router config = record { routing = routing_of config; book = empty_book; used = 9; batches = 0 }
+-- a router with this configuration, on a journal that holds this
+abbrev pub router_on : Settings → Journaled → Beginning
+router_on config j = record { routing = routing_of config; book = j.book; used = j.used; batches = j.batches }
 
--- before the first step: the router is started, which does nothing to an empty book and puts nothing out
+-- a new journal: it has no batch, and nine bytes
+abbrev pub new_journal : Journaled
+new_journal = record { book = empty_book; used = 9; batches = 0 }
+
+abbrev pub new_router : Settings → Beginning
+new_router config = router_on config new_journal
+
+-- before the first step: the router is started. It knows no connection, so it puts nothing out; what it does to a book that knows some is
+-- written
+abbrev pub opening_on : Settings → Journaled → Scene
+opening_on config j = record {
+  id = config.router_id;
+  config = config;
+  trace = did event.Start ∷ booked (beginning (router_on config j)) event.Start;
+  last = None;
+  sockets = λ c. None;
+  lines = [];
+}
+
 abbrev pub opening : Settings → Scene
-opening config = record { id = config.router_id; config = config; trace = did event.Start ∷ Booked [] [] ∷ beginning (new_router config); last = None; sockets = λ c. None; lines = [] }
+opening config = opening_on config new_journal
 
 -- an event is handed to the router: it is refused, or its replies come after it
 abbrev pub hand : Event → Scene → Scene
@@ -82,8 +100,15 @@ book_line j = line.Book (length j.book.rows) (length j.book.termini) j.batches
 abbrev pub no_book : Line
 no_book = line.Book 0 0 0
 
--- the lines of runs, each against a new router, and after them the line of the last run's book, or this one if there is no run
-abbrev pub PlaysAll : Settings → List (List Step) → Line → List Line → Type 0
-PlaysAll config [] last lines = lines ≡ last ∷ []
-PlaysAll config (steps ∷ runs) last lines =
-    (u : Scene) × (others : List Line) × Plays steps (opening config) u × PlaysAll config runs (book_line (journaled u.trace)) others × (lines ≡ u.lines ++ others)
+-- the line of a run's number: the first has none
+abbrev pub run_line : ℕ → List Line
+run_line n = if n == 1 then [] else line.Run n ∷ []
+
+-- The lines of runs, one after another, if no router fails. The first has this number, and its router is opened on a journal that holds this;
+-- each other one is opened on what the trace of the run before it leaves, whatever the stop between them. After them is the line of the last
+-- run's book, or this one if there is no run.
+abbrev pub PlaysAll : Settings → ℕ → Journaled → List (List Step) → Line → List Line → Type 0
+PlaysAll config n j [] last lines = lines ≡ last ∷ []
+PlaysAll config n j (steps ∷ runs) last lines =
+    (u : Scene) × (others : List Line) × Plays steps (opening_on config j) u
+    × PlaysAll config (n + 1) (journaled u.trace) runs (book_line (journaled u.trace)) others × (lines ≡ run_line n ++ u.lines ++ others)

@@ -16,12 +16,14 @@ pub struct Size {
 }
 
 /// How a run ended.
-#[derive(Clone, Copy)]
-pub struct Ended {
+#[derive(Drop)]
+pub struct Ended<C: Drop> {
     /// The fault with which its router failed.
     pub failed: Option<CoreFault>,
     /// What its router keeps.
     pub size: Size,
+    /// Its disk, which isn't stopped yet.
+    pub disk: C,
 }
 
 /// The fault with which routers failed, of those of two: want of memory if one had too little, else that of the first.

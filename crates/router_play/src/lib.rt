@@ -8,4 +8,4 @@ mod script;
 pub use core_player::{Line, Step};
 pub use router_core::{Config, ConnectionId, CoreFault, PeerRole};
 pub use runs::play_runs;
-pub use script::{Report, Run};
+pub use script::{Report, Run, Stop};

@@ -1,32 +1,43 @@
 //! Plays the runs of a script.
-ghost use Rattle.std.specs.Prelude.{◌≡◌, ◌∷◌, ◌++◌, List, [], length, None, map, false, OnOk, IfOk};
+ghost use Rattle.std.specs.Prelude.{◌≡◌, ◌+◌, ◌∷◌, ◌++◌, ℕ, List, [], length, None, map, OnOk, IfOk, IfSome};
 ghost use Rattle.core_machine.specs.Opened.{IsOpened};
-ghost use Rattle.journal_store.specs.Store.{count_of};
-ghost use Rattle.router_reply.specs.Acts.{journaled};
-ghost use Rattle.router_core.specs.Handling.{id_of, is_failed, store_of, kept_book};
 ghost use Rattle.core_player.specs.declared.line.Line.{Line as ALine};
-ghost use Rattle.router_play.specs.Script.{Scene, new_router, opening, Plays, PlaysAll, no_book, book_line};
+ghost use Rattle.core_player.specs.declared.line.Line.TheVariants as line;
+ghost use Rattle.journal_store.specs.Store.{OpensTo, count_of};
+ghost use Rattle.router_core.specs.Handling.{store_of, kept_book};
+ghost use Rattle.router_play.specs.Lives.{Life, Lives};
 ghost use Rattle.router_play.specs.Carrying.{RunsCarry};
 ghost use Rattle.router_play.specs.Ending.{TellsOf, size_line};
+ghost use Rattle.router_play.specs.Script.{Scene, opening_on, run_line, Plays, PlaysAll, no_book, book_line};
+ghost use Rattle.router_play.specs.Stopping.{EndsLives, HoldsJournal, IsLeft};
+ghost use Rattle.router_reply.specs.Acts.{Journaled, book_in, journaled};
+ghost use Rattle.router_trace.specs.Trace.{Trace};
 
 use crate::finish::{Ended, Size, graver};
-use crate::script::{Report, Run};
-use core_machine::Machine;
+use crate::script::{Report, Run, Stop};
+use core_machine::CoreFault;
 use core_player::{Line, play};
-use disk_core::{FuseDisk, MemDisk};
-use gate_journal::format;
+use disk_core::Crash;
+use gate_journal::OpenFault;
 use router_core::{Config, Core};
 use std::alloc::{AllocError, Global};
 
-/// Plays runs, one after another, each against a new router: after each step all outboxes are
-/// emptied, by connection. The last line has the size of the book, and the number of the journal's last batch, at the end of the
-/// last run. If memory is refused to the play itself, the lines end there.
-pub fn play_runs(alloc: Global, config: Config, runs: &[Run]) -> Report
-    ensures plays { result.out_of_memory ≡ false → result.failed ≡ None → PlaysAll config (map (λ r. r.steps.items) runs.now) no_book result.lines.items }
-    ensures carries { result.out_of_memory ≡ false → result.failed ≡ None → RunsCarry config (map (λ r. r.steps.items) runs.now) no_book result.lines.items }
+/// Plays runs, one after another. The first router is opened on the journal of this disk, each other one on what the stop of the run before it left:
+/// then a line has the run's number. After each step all outboxes are emptied, by connection. The last line has the size of the book, and the number
+/// of the journal's last batch, at the end of the last run; then its disk is stopped too. If memory is refused to the play itself, or a journal can't be
+/// opened, the lines end there.
+pub fn play_runs<C: Crash>(alloc: Global, disk: C, config: Config, runs: &[Run]) -> Report<C>
+    ensures plays { result.halted ≡ None → result.failed ≡ None → (j : Journaled) → HoldsJournal (C.Disk.seen disk) j
+        → PlaysAll config 1 j (map (λ r. r.steps.items) runs.now) no_book result.lines.items }
+    ensures carries { result.halted ≡ None → result.failed ≡ None → (j : Journaled) → HoldsJournal (C.Disk.seen disk) j
+        → RunsCarry config 1 j (map (λ r. r.steps.items) runs.now) no_book result.lines.items }
 
     // Where a router failed, a line says so.
-    ensures told { result.out_of_memory ≡ false → TellsOf result.failed result.lines.items }
+    ensures told { result.halted ≡ None → TellsOf result.failed result.lines.items }
+
+    // Whatever fails, and whatever the stops leave: the disk left opens to the book of a run for each, on top of the runs of whose book the disk was.
+    ensures lives { IfSome result.disk (λ left. (past : List Life) (t : Trace) → Lives config.router_id past t → OpensTo (C.Disk.seen disk) (book_in t)
+        → EndsLives config.router_id past (length runs.now) (C.Disk.seen left)) }
 {
     let mut lines = Vec::new(alloc);
     let mut failed = None;
@@ -35,57 +46,108 @@ pub fn play_runs(alloc: Global, config: Config, runs: &[Run]) -> Report
         termini: 0,
         batches: 0,
     };
+    let mut last = disk;
+    let mut stop = None;
+    let mut number = 0u64;
     for run in runs {
-        match play_run(alloc, &config, run, &mut lines) {
+        number += 1;
+        match play_run(alloc, last, stop, &config, number, run, &mut lines) {
             Ok(ended) => {
                 failed = graver(failed, ended.failed);
                 size = ended.size;
+                last = ended.disk;
+                stop = Some(run.stop);
             }
-            Err(AllocError) => {
-                return Report {
-                    lines,
-                    out_of_memory: true,
-                    failed,
-                };
-            }
+            Err(fault) => return halted(lines, failed, fault),
         }
     }
-    match say_size(&mut lines, size) {
-        Ok(()) => Report {
+    match close(last, stop, size, &mut lines) {
+        Ok(left) => Report {
             lines,
-            out_of_memory: false,
+            halted: None,
             failed,
+            disk: Some(left),
         },
-        Err(AllocError) => Report {
-            lines,
-            out_of_memory: true,
-            failed,
+        Err(fault) => halted(lines, failed, fault),
+    }
+}
+
+/// The report of a play that was halted.
+fn halted<C: Crash>(lines: Vec<Line>, failed: Option<CoreFault>, fault: OpenFault) -> Report<C>
+    ensures { result ≡ record { lines = lines; halted = Some fault; failed = failed; disk = None } }
+{
+    Report {
+        lines,
+        halted: Some(fault),
+        failed,
+        disk: None,
+    }
+}
+
+/// Appends the line of the book, and gives the disk after the last stop.
+fn close<C: Crash>(
+    disk: C,
+    stop: Option<Stop>,
+    size: Size,
+    lines: &mut Vec<Line>,
+) -> Result<C, OpenFault>
+    ensures said { OnOk result (lines.new.items ≡ lines.old.items ++ size_line size ∷ []) }
+    ensures left { IfOk result (λ left. IsLeft C.Disk.seen C.Disk.may_leave stop disk (C.Disk.seen left)) }
+{
+    say(lines, line_of(size))?;
+    stopped(disk, stop)
+}
+
+/// A disk after this stop; the same if there is none.
+fn stopped<C: Crash>(disk: C, stop: Option<Stop>) -> Result<C, OpenFault>
+    ensures left { IfOk result (λ left. IsLeft C.Disk.seen C.Disk.may_leave stop disk (C.Disk.seen left)) }
+{
+    match stop {
+        None => Ok(disk),
+        Some(stop) => match disk.crash(stop.how()) {
+            Ok(left) => Ok(left),
+            Err(AllocError) => Err(OpenFault::Memory),
         },
     }
 }
 
-/// Plays a run, and appends its lines.
-fn play_run(
+/// Opens a router on a disk after this stop, plays a run, and appends its lines.
+fn play_run<C: Crash>(
     alloc: Global,
+    disk: C,
+    stop: Option<Stop>,
     config: &Config,
+    number: u64,
     run: &Run,
     lines: &mut Vec<Line>,
-) -> Result<Ended, AllocError>
-    ensures plays { IfOk result (λ ended. ended.failed ≡ None → (u : Scene) × Plays run.now.steps.items (opening config.now) u
-        × (lines.new.items ≡ lines.old.items ++ u.lines) × (size_line ended.size ≡ book_line (journaled u.trace))) }
+) -> Result<Ended<C>, OpenFault>
+    // Whatever it finds, its lines are those of the steps from there.
+    ensures plays { IfOk result (λ ended. ended.failed ≡ None → (file : List ℕ) × IsLeft C.Disk.seen C.Disk.may_leave stop disk file × ((j : Journaled) → HoldsJournal file j
+        → (u : Scene) × Plays run.now.steps.items (opening_on config.now j) u × (lines.new.items ≡ lines.old.items ++ run_line number ++ u.lines)
+        × (size_line ended.size ≡ book_line (journaled u.trace)) × ((left : List ℕ) → C.Disk.may_leave ended.disk left → HoldsJournal left (journaled u.trace)))) }
     ensures told { IfOk result (λ ended. TellsOf ended.failed lines.new.items) }
     ensures more { OnOk result ((more : List ALine) × (lines.new.items ≡ lines.old.items ++ more)) }
+
+    // Whatever fails, a stop leaves the book of one more run.
+    ensures lives { IfOk result (λ ended. (file : List ℕ) × IsLeft C.Disk.seen C.Disk.may_leave stop disk file
+        × ((past : List Life) (t : Trace) → Lives config.now.router_id past t → OpensTo file (book_in t)
+        → (left : List ℕ) → C.Disk.may_leave ended.disk left → EndsLives config.now.router_id past 1 left)) }
 {
-    let core = opened(alloc, config)?;
-    let played = play(alloc, config, core, &run.steps, lines)?;
-    Ok(Ended {
-        failed: played.fault,
-        size: size_of(&played.core),
-    })
+    let begun = stopped(disk, stop)?;
+    let core = Core::open(alloc, begun, config)?;
+    say_run(lines, number)?;
+    match play(alloc, config, core, &run.steps, lines) {
+        Ok(played) => Ok(Ended {
+            failed: played.fault,
+            size: size_of(&played.core),
+            disk: played.core.into_disk(),
+        }),
+        Err(AllocError) => Err(OpenFault::Memory),
+    }
 }
 
 /// The size of a router's book, and the number of its journal's last batch.
-fn size_of(core: &Core<FuseDisk<MemDisk>>) -> Size
+fn size_of<C: Crash>(core: &Core<C>) -> Size
     ensures rows { result.rows ≡ length (kept_book core.now).rows }
     ensures termini { result.termini ≡ length (kept_book core.now).termini }
     ensures batches { result.batches ≡ count_of (store_of core.now) }
@@ -98,38 +160,38 @@ fn size_of(core: &Core<FuseDisk<MemDisk>>) -> Size
     }
 }
 
-/// A router in memory, with a new journal.
-fn opened(alloc: Global, config: &Config) -> Result<Core<FuseDisk<MemDisk>>, AllocError>
-    ensures opened { IfOk result (λ core. IsOpened ⟦<Core<FuseDisk<MemDisk>> as Machine>⟧.meaning (new_router config.now) core) }
-    ensures works { IfOk result (λ core. is_failed core ≡ false) }
-    ensures named { IfOk result (λ core. id_of core ≡ config.now.router_id) }
+/// Appends the line of a run's number, but for the first.
+fn say_run(lines: &mut Vec<Line>, number: u64) -> Result<(), OpenFault>
+    ensures { OnOk result (lines.new.items ≡ lines.old.items ++ run_line number) }
 {
-    let mut disk = FuseDisk::new(MemDisk::new(alloc));
-    let Ok(()) = format(&mut disk) else {
-        drop(disk);
-        return Err(AllocError);
-    };
-    match Core::open(alloc, disk, config) {
-        Ok(core) => Ok(core),
-        Err(_) => Err(AllocError),
+    if number == 1 {
+        return Ok(());
     }
+    say(lines, Line::Run(number))
 }
 
-/// Appends the line of the book, at the end.
-fn say_size(lines: &mut Vec<Line>, size: Size) -> Result<(), AllocError>
-    ensures { OnOk result (lines.new.items ≡ lines.old.items ++ size_line size ∷ []) }
+/// The line of the book.
+fn line_of(size: Size) -> Line
+    ensures { result ≡ size_line size }
 {
     let Size {
         rows,
         termini,
         batches,
     } = size;
-    match lines.push(Line::Book {
+    Line::Book {
         rows,
         termini,
         batches,
-    }) {
+    }
+}
+
+/// Appends a line.
+fn say(lines: &mut Vec<Line>, line: Line) -> Result<(), OpenFault>
+    ensures { OnOk result (lines.new.items ≡ lines.old.items ++ line ∷ []) }
+{
+    match lines.push(line) {
         Ok(()) => Ok(()),
-        Err(_) => Err(AllocError),
+        Err(_) => Err(OpenFault::Memory),
     }
 }

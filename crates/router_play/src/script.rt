@@ -1,22 +1,52 @@
 //! The runs of a script, and the result of playing them.
+ghost use Rattle.std.specs.Prelude.{◌≡◌};
+ghost use Rattle.router_play.specs.Stopping.{how_of};
+
 use core_machine::CoreFault;
 use core_player::{Line, Step};
+use gate_journal::OpenFault;
 
-/// A run of the router: the steps of a script between two stops.
+/// How a run ends: by a stop of the router, of which the disk keeps what was synced, and some of what was not.
+#[derive(Clone, Copy, Debug, PartialEq, Eq)]
+pub enum Stop {
+    /// It keeps none of the writes since the last sync.
+    Old,
+    /// It keeps all of them.
+    New,
+}
+
+impl Stop {
+    /// How the disk is crashed.
+    pub(crate) fn how(self) -> u8
+        ensures { result ≡ how_of self }
+    {
+        match self {
+            Stop::Old => 0,
+            Stop::New => 1,
+        }
+    }
+}
+
+/// A run of the router: the steps of a script up to a stop.
 #[derive(Debug, Drop)]
 pub struct Run {
     /// The steps, in order.
     pub steps: Vec<Step>,
+    /// The stop that ends it; a script's end is one too, which keeps none of the writes since the last sync.
+    pub stop: Stop,
 }
 
 /// The output of a play, and how it ended.
-#[derive(Debug, Drop)]
-pub struct Report {
+#[derive(Drop)]
+pub struct Report<C: Drop> {
     /// The lines, in order.
     pub lines: Vec<Line>,
-    /// Whether memory was refused to the play itself, which ended it there.
-    pub out_of_memory: bool,
+    /// What ended the play before its end: `Memory` where memory was refused to the play itself, to a stop or to an opening, or another
+    /// fault with which a journal couldn't be opened.
+    pub halted: Option<OpenFault>,
     /// The fault with which a router failed, of its disk or of memory, after which it answers nothing else. Where more than one
     /// failed: want of memory if one had too little, else the fault of the first.
     pub failed: Option<CoreFault>,
+    /// The disk after the last run's stop, with no fuse set; the one given where there is no run. None where the play was halted.
+    pub disk: Option<C>,
 }

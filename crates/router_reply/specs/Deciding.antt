@@ -82,7 +82,8 @@ as_kept d = record d { outcome = kept_outcome d.outcome }
 abbrev pub decided : Trace → Event → Answer → List Decision
 decided t e answer = map as_kept (decided_rows t (event_changes t e answer))
 
--- The rows that it forgets: those that their producer settles by a disposition, and those of a producer that closes its link for good.
+-- The rows that it forgets: those that their producer settles by a disposition; those of a producer that closes its link for good; and those of one that
+-- takes its link up again, which has settled them all, since nothing is unsettled on the link then.
 abbrev pub settled_on : Trace → ℕ → Option ℕ → Role → ADisposition → List RowNumber
 settled_on t c (Some own) Sender x = if x.settled then rows_from t c own x.first (last_of x) else []
 settled_on t c _ _ x = []
@@ -100,7 +101,13 @@ abbrev pub closed_terminus : BookView → Trace → ℕ → Answer → Option Te
 closed_terminus b t c (Detach own handle true None) = option_and_then (λ key. terminus_of key b.termini) (durable_key (link t c own handle))
 closed_terminus b t c _ = None
 
+-- the terminus of a durable link that is taken up again
+abbrev pub resumed_terminus : BookView → Trace → ℕ → AnAttach → Answer → Option Terminus
+resumed_terminus b t c a (Attach own) = if wants_durable a then terminus_of (wanted_key t c a) b.termini else None
+resumed_terminus b t c a _ = None
+
 abbrev pub forgotten_by : BookView → Trace → ℕ → Option ℕ → Perf → Answer → List RowNumber
+forgotten_by b t c own (perf.Attach a) answer = sent_from b (resumed_terminus b t c a answer)
 forgotten_by b t c own (perf.Disposition x) answer = settled_on t c own x.role x
 forgotten_by b t c own (perf.Detach x) answer = sent_from b (closed_terminus b t c answer)
 forgotten_by b t c own _ answer = []

@@ -8,13 +8,13 @@ ghost use Rattle.router_state.specs.Tables.{TablesFind};
 ghost use Rattle.router_trace.specs.Sessions.{session_on};
 ghost use Rattle.state_links.specs.Fits.{channel_of};
 ghost use Rattle.state_deliveries.specs.Hearing.{heard_change};
-ghost use Rattle.router_reply.specs.Deciding.{lost, listed, stolen_from, stolen_in, stolen_for, ended_by, event_changes, as_kept, decided, settled_on, sent_by, sent_from, closed_terminus, forgotten_by, forgotten_in, forgotten};
+ghost use Rattle.router_reply.specs.Deciding.{lost, listed, stolen_from, stolen_in, stolen_for, ended_by, event_changes, as_kept, decided, settled_on, sent_by, sent_from, closed_terminus, resumed_terminus, forgotten_by, forgotten_in, forgotten};
 
-use amqp_model::{Disposition, Item, Perf, Role};
+use amqp_model::{Attach, Disposition, Item, Perf, Role};
 use book_core::Book;
 use book_model::{Decision, LinkRole, RowNumber, Terminus, TerminusNumber};
 use reply_frames::kept_outcome;
-use reply_rows::{Answer, wanted_key};
+use reply_rows::{Answer, wanted_key, wants_durable};
 use router_state::{State, none_if_ended};
 use router_trace::{Attachment, Event};
 use state_deliveries::{Change, Gone};
@@ -302,6 +302,27 @@ pub fn closed_terminus<'a>(
     }
 }
 
+/// The terminus of a durable link that is taken up again, by the answer to the attach.
+fn resumed_terminus<'a>(
+    state: &State,
+    book: &'a Book,
+    conn: u64,
+    attach: &Attach,
+    answer: &Answer,
+) -> Result<Option<&'a Terminus>, AllocError>
+    ensures { IfOk result (λ terminus. (t : List Entry) → TablesFind state.now t → option_map (λ x. x.now) terminus ≡ resumed_terminus book.now t conn attach.now answer.now) }
+{
+    match answer {
+        Answer::Attach { own: _own } if wants_durable(attach) => {
+            let key = wanted_key(state, conn, attach)?;
+            let terminus = book.terminus_of(&key);
+            drop(key);
+            Ok(terminus)
+        }
+        _ => Ok(None),
+    }
+}
+
 /// The rows that a performative forgets.
 fn forgotten_by(
     state: &State,
@@ -314,6 +335,10 @@ fn forgotten_by(
     ensures { IfOk result (λ rows. (t : List Entry) → TablesFind state.now t → rows.items ≡ forgotten_by book.now t conn own perf.now answer.now) }
 {
     match perf {
+        Perf::Attach(attach) => {
+            let terminus = resumed_terminus(state, book, conn, attach.as_ref(), answer)?;
+            sent_from(state.alloc(), book, terminus)
+        }
         Perf::Disposition(disposition) => settled_on(state, conn, own, disposition),
         Perf::Detach(_) => {
             let terminus = closed_terminus(state, book, conn, answer);

@@ -16,8 +16,8 @@ use book_core::Book;
 use book_model::{Decision, LinkKey, RowNumber, Terminus};
 use journal_store::TerminusAct;
 use reply_rows::{
-    Answer, attach_unless, booked_transfer, durable_refusal, item_reply, volatile_refusal,
-    wanted_address, wanted_key, wants_durable,
+    Answer, attach_unless, booked_transfer, durable_refusal, item_reply, wanted_address,
+    wanted_key, wants_durable,
 };
 use router_state::State;
 use router_trace::Event;
@@ -147,14 +147,14 @@ fn durable_answer(
     attach: &Attach,
 ) -> Result<Answer, AllocError>
     ensures { IfOk result (λ answer. (t : List Entry) → TablesFind state.now t
-        → answer ≡ attach_unless own (free_handle t conn own) (durable_refusal (terminus_of (wanted_key t conn attach.now) book.now.termini) attach.now
+        → answer ≡ attach_unless own (free_handle t conn own) (durable_refusal book.now (terminus_of (wanted_key t conn attach.now) book.now.termini) attach.now
         (has_room full book.now (new_terminus book.now (wanted_key t conn attach.now) (wanted_address attach.now))))) }
 {
     let free = state.free_handle(conn, own);
     let key = wanted_key(state, conn, attach)?;
-    let refusal = durable_refusal(book, full, &key, attach);
+    let refusal = durable_refusal(state.alloc(), book, full, &key, attach);
     drop(key);
-    Ok(attach_unless(own, free, refusal))
+    Ok(attach_unless(own, free, refusal?))
 }
 
 /// The answer to an attach, which its row takes.
@@ -172,11 +172,7 @@ fn attach_answer(
     if wants_durable(attach) {
         return durable_answer(state, book, full, conn, own, attach);
     }
-    let free = state.free_handle(conn, own);
-    let key = wanted_key(state, conn, attach)?;
-    let refusal = volatile_refusal(state.holds_durable(&key));
-    drop(key);
-    Ok(attach_unless(own, free, refusal))
+    Ok(Answer::Attach { own })
 }
 
 /// The answer to a performative whose row gave this one, by the book.

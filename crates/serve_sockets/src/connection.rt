@@ -1,4 +1,5 @@
 //! The threads of one connection.
+use crate::links::Links;
 use crate::program::Program;
 use crate::socket::{LINGER, PATIENCE, swallow};
 use crate::spoken::Spoken;
@@ -129,6 +130,7 @@ fn enter<S: Service, R: Threads + Wait + Clock + Sync>(
         lines: &program.state.lines,
         peer,
         user: user.as_str(),
+        links: Mutex::new(Links::new(program.state.alloc)),
     };
     come_up(rt, program, stream, who, items, frames, &watch);
     drop(watch);

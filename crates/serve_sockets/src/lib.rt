@@ -3,9 +3,11 @@
 
 mod connection;
 mod lines;
+mod links;
 mod listening;
 mod moment;
 mod program;
+mod sentence;
 mod socket;
 mod spoken;
 mod state;

@@ -1,12 +1,14 @@
 //! What is reported of connections.
 use crate::lines::Lines;
-use amqp_model::{Fault, Item, Perf};
+use crate::links::{Link, Links, Lost};
+use crate::sentence::sentence;
+use amqp_model::{Boxed, Detach, Fault, Item, Perf};
 use core_machine::CoreFault;
 use router_trace::ConnectionId;
 use serve_streams::{Gate, ReadEnd, Side, WriteEnd};
 use std::alloc::Global;
 use std::net::SocketAddr;
-use std::sync::Wait;
+use std::sync::{Mutex, Wait};
 use std::time::Clock;
 
 /// Reports what a connection's threads see: who opened it, and what it is refused.
@@ -22,6 +24,8 @@ pub struct Watch<'a, R> {
     pub peer: SocketAddr,
     /// The user.
     pub user: &'a str,
+    /// The links that the peer asked for.
+    pub links: Mutex<Links>,
 }
 
 impl<'a, R: Wait + Clock> Watch<'a, R> {
@@ -35,12 +39,70 @@ impl<'a, R: Wait + Clock> Watch<'a, R> {
         }
     }
 
-    /// An error that the router sends.
+    /// An error by which the router ends a session or the connection, or a link of which nothing is known.
     fn refused(&self, conn: ConnectionId, error: &Fault) {
         let number = conn.0;
         let condition = error.condition.as_str();
-        if let Ok(line) = format!(in self.alloc; "connection {number} is told {condition}") {
+        let words = sentence(condition);
+        if let Ok(line) = format!(in self.alloc;
+            "connection {number} is told {condition}: {words}"
+        ) {
             self.lines.say(self.rt, &line);
+        }
+    }
+
+    /// An error by which the router refuses or detaches a link.
+    fn lost(&self, conn: ConnectionId, link: &Link, lost: Lost, error: &Fault) {
+        let (number, peer, user) = (conn.0, self.peer, self.user);
+        let condition = error.condition.as_str();
+        let (word, words) = (lost.word(), sentence(condition));
+        if let Ok(line) = format!(in self.alloc;
+            "connection {number} ({peer}, {user:?}): link {link} {word}: {condition}: {words}"
+        ) {
+            self.lines.say(self.rt, &line);
+        }
+    }
+
+    /// A detach of the router.
+    fn detached(&self, conn: ConnectionId, channel: u16, detach: &Detach) {
+        let known = self.links.lock(self.rt).detach(channel, detach.handle);
+        let Some(error) = &detach.error else {
+            drop(known);
+            return;
+        };
+        match known {
+            Some((link, lost)) => self.lost(conn, &link, lost, error.as_ref()),
+            None => self.refused(conn, error.as_ref()),
+        }
+    }
+
+    /// A performative of the peer.
+    fn heard(&self, conn: ConnectionId, perf: &Perf) {
+        match perf {
+            Perf::Open(open) => self.opened(conn, open.as_ref().container_id.as_str()),
+            Perf::Attach(attach) => self.links.lock(self.rt).ask(attach.as_ref()),
+            _ => {}
+        }
+    }
+
+    /// A performative of the router.
+    fn told(&self, conn: ConnectionId, channel: u16, perf: &Perf) {
+        match perf {
+            Perf::Attach(attach) => self.links.lock(self.rt).answer(channel, attach.as_ref()),
+            Perf::Detach(detach) => self.detached(conn, channel, detach),
+            Perf::End(end) => {
+                self.links.lock(self.rt).end(channel);
+                self.told_error(conn, &end.error);
+            }
+            Perf::Close(close) => self.told_error(conn, &close.error),
+            _ => {}
+        }
+    }
+
+    /// The error with which the router ends a session or the connection, if there is one.
+    fn told_error(&self, conn: ConnectionId, error: &Option<Boxed<Fault>>) {
+        if let Some(error) = error {
+            self.refused(conn, error.as_ref());
         }
     }
 }
@@ -57,32 +119,10 @@ impl<'a, R: Wait + Clock> Gate for Watch<'a, R> {
             return;
         }
         match (side, item) {
-            (Side::Reader, Item::Frame { perf, .. }) => {
-                if let Perf::Open(open) = perf {
-                    self.opened(conn, open.as_ref().container_id.as_str());
-                }
-            }
-            (Side::Writer, Item::Frame { perf, .. }) => {
-                if let Some(error) = error_in(perf) {
-                    self.refused(conn, error);
-                }
-            }
+            (Side::Reader, Item::Frame { perf, .. }) => self.heard(conn, perf),
+            (Side::Writer, Item::Frame { channel, perf, .. }) => self.told(conn, *channel, perf),
             _ => {}
         }
-    }
-}
-
-/// The error in a performative of the router, if there is one.
-fn error_in(perf: &Perf) -> Option<&Fault> {
-    let error = match perf {
-        Perf::Close(close) => close.error.as_ref(),
-        Perf::End(end) => end.error.as_ref(),
-        Perf::Detach(detach) => detach.error.as_ref(),
-        _ => None,
-    };
-    match error {
-        None => None,
-        Some(error) => Some(error.as_ref()),
     }
 }
 

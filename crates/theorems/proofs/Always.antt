@@ -1,7 +1,7 @@
 -- What holds in every trace of the router holds of lists of events and of scripts of bytes: they have such traces.
 use Rattle.router_trace.specs.Trace.{Trace, Beginning}
 use Rattle.router_core.proofs.Moves.{run_is_trace}
-use Rattle.router_play.specs.Script.{new_router}
+use Rattle.router_play.specs.Script.{new_journal, new_router}
 use Rattle.router_play.proofs.PlayMoves.{play_is_trace}
 use Rattle.theorems.specs.Always.{Always, AlwaysFrom, InOneRun, InTraces, InTracesFrom, InScripts}
 use Rattle.theorems.specs.Lives.{InLives}
@@ -17,4 +17,4 @@ holds_from P all = (all, λ id g events xs u run. all id g u (run_is_trace id g 
 
 pub holds_in_scripts : (P : Trace → Type 0) → InTraces P → InScripts P
 holds_in_scripts P all =
-    λ config steps u plays. all config.router_id (new_router config) u.trace (play_is_trace config steps u plays)
+    λ config steps u plays. all config.router_id (new_router config) u.trace (play_is_trace config new_journal steps u plays)

@@ -24,7 +24,7 @@ use Rattle.book_model.specs.declared.terminus.TerminusNumber.{TerminusNumber}
 use Rattle.book_model.specs.Book.{BookView, row_at, terminus_at, terminus_of, same_role, has_role, admitted, effect, effects}
 use Rattle.book_core.specs.Rising.{Rises, AllAbove, AllBelow}
 use Rattle.gate_journal.specs.Ordered.{IsOrdered, number_of_row, number_of_terminus}
-use Rattle.journal_store.proofs.Few.{holds}
+use Rattle.journal_store.proofs.Conditions.{holds}
 use Rattle.router_trace.specs.declared.binding.Binding.{Binding}
 use Rattle.router_trace.specs.declared.binding.Origin.{Origin}
 use Rattle.router_trace.specs.declared.condition.Condition.{Condition}

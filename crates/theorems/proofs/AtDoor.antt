@@ -9,7 +9,7 @@ use Rattle.router_trace.specs.declared.event.PeerRole.{PeerRole}
 use Rattle.router_trace.specs.declared.event.Event.{Event}
 use Rattle.router_trace.specs.declared.event.Event.TheVariants as event
 use Rattle.route_table.specs.Settings.{Settings}
-use Rattle.router_play.specs.Script.{new_router}
+use Rattle.router_play.specs.Script.{new_journal, new_router}
 use Rattle.core_door.specs.declared.door.Door.{Door as DoorState}
 use Rattle.core_player.specs.declared.line.Line.TheVariants as line
 use Rattle.core_player.specs.declared.socket.Socket.{Socket}
@@ -253,7 +253,7 @@ header_opens config steps u plays c =
       stands = λ c. tt;
       unmade = λ c r. (refl, refl);
     }
-    in let kept = trace_keeps_order config.router_id (new_router config) u.trace (play_is_trace config steps u plays)
+    in let kept = trace_keeps_order config.router_id (new_router config) u.trace (play_is_trace config new_journal steps u plays)
     in by_items (ins u.trace c) refl ((plays_doored steps (opening config) u plays was).first c) kept.header kept.silent
   where
     first_only : (is : List Item) → HeaderFirst is → NothingBeforeHeader is

@@ -3,6 +3,7 @@ use Rattle.std.proofs.Common.{◌≡◌, ◌∙◌, sym, ap, refl, subst, ℕ, �
 use Rattle.std.specs.Prelude.{Option, Some, None, map, is_some, is_none, option_map, if◌then◌else◌}
 use Rattle.std.specs.Option.{option_and_then}
 use Rattle.std.proofs.lemmas.Bool.{eqb-true, eq-eqb}
+use Rattle.amqp_model.specs.declared.perf.Attach.{Attach as AnAttach}
 use Rattle.amqp_model.specs.declared.perf.Perf.TheVariants as perf
 use Rattle.amqp_model.specs.declared.state.DeliveryState.{DeliveryState}
 use Rattle.amqp_model.specs.declared.item.Item.{Item}
@@ -31,7 +32,9 @@ use Rattle.router_trace.specs.declared.event.Event.TheVariants as event
 use Rattle.router_trace.specs.Connection.{due}
 use Rattle.router_trace.specs.DeliveryFrames.{kept_outcome}
 use Rattle.router_trace.specs.Deliveries.{Delivery, source, delivery, is_undecided}
-use Rattle.router_trace.specs.Links.{link, durable_key}
+use Rattle.router_trace.specs.Following.{link_of}
+use Rattle.router_trace.specs.Links.{link, holder, durable_key}
+use Rattle.router_trace.specs.declared.handle.Attachment.{Attachment}
 use Rattle.router_trace.specs.Trace.{Trace, Booked}
 use Rattle.state_deliveries.specs.declared.change.Change.{Change}
 use Rattle.state_deliveries.specs.declared.change.Change.TheVariants as change
@@ -40,17 +43,18 @@ use Rattle.state_deliveries.specs.Deciding.{changed_by}
 use Rattle.state_deliveries.specs.Hearing.{disposed_change}
 use Rattle.state_deliveries.specs.Stepping.{is_gone, changed}
 use Rattle.reply_rows.specs.declared.answer.Answer.{Answer}
-use Rattle.reply_rows.specs.declared.answer.Answer.TheVariants.{Detach}
+use Rattle.reply_rows.specs.declared.answer.Answer.TheVariants.{Attach, Detach}
+use Rattle.reply_rows.specs.Booking.{wanted_key, wants_durable}
 use Rattle.router_reply.specs.Acts.{event_answer, answer_acts, planned_acts, admitted_acts, or_admits, event_acts, finds_full, journaled, book_in, acts_of}
 use Rattle.router_reply.specs.Admitting.{event_admission, admits}
-use Rattle.router_reply.specs.Deciding.{lost, listed, ended_by, session_found, event_changes, decided as decided_in, sent_by, sent_from, closed_terminus, forgotten as forgotten_at, terminus_of_event}
+use Rattle.router_reply.specs.Deciding.{lost, listed, ended_by, stolen_from, session_found, event_changes, decided as decided_in, sent_by, sent_from, closed_terminus, resumed_terminus, forgotten as forgotten_at, terminus_of_event}
 use Rattle.theorems.proofs.Applying.{settled_apply, admission_applies, ordered_after}
 use Rattle.theorems.proofs.Changing.{Leaves, leaves_by}
 use Rattle.theorems.proofs.Decisions.{decided_of, settled_is_done, among_rows}
 use Rattle.theorems.proofs.Facts.{kept_form, IsHeld, Agrees, RowFact, Facts}
 use Rattle.theorems.proofs.Looking.{found_number}
 use Rattle.theorems.proofs.Settling.{settled, settled_row, found_at_number, found_key, Stays, stays_it, terminus_stays, admission_stays}
-use Rattle.theorems.proofs.Standing.{Standing, one_place}
+use Rattle.theorems.proofs.Standing.{Standing, one_place, holds_key}
 use Rattle.theorems.proofs.Tests.{some_same, none_not_some}
 use Rattle.theorems.proofs.Undecided.{ends_keep}
 
@@ -223,6 +227,20 @@ changed_more : (xs ys : List Change) (d : Delivery) → changed_by (xs ++ ys) d 
 changed_more [] ys d = refl
 changed_more (x ∷ xs) ys d = changed_more xs ys (changed x d)
 
+-- a producer that isn't done with a row of a terminus has a durable link with the terminus' key
+sent_by_key : (t : Trace) (b : BookView) (d : Delivery) (r : RowNumber) (key : LinkKey) (x : Terminus) → IsOrdered b → Agrees t b (row_at r.0 b.rows) d → terminus_of key b.termini ≡ Some x
+    → (role : LinkRole) → is_among r.0 (sent_by b role x.number.0) ≡ true → (p : Origin) → source d ≡ Some p → durable_key (link_of t p.link) ≡ Some key
+sent_by_key t b d r key x ordered agrees found Consumer among p from = absurd (clash among)
+sent_by_key t b d r key x ordered agrees found Producer among p from =
+    let rows = among_rows r.0 (is_from x.number.0) b.rows ordered.rows_rise among in
+    let held : IsHeld t b rows.0 d = subst (λ (v : Option ARow). Agrees t b v d) rows.1 agrees in
+    let at = held.from p from in
+    let same_number : at.at.number.0 ≡ x.number.0 = at.number ∙ eqb-true rows.0.producer.0 x.number.0 rows.2 in
+    let one : at.at ≡ x = some_same (sym (found_at_number at.key b.termini at.at ordered.termini_rise at.found)
+    ∙ ap (λ (m : ℕ). terminus_at m b.termini) same_number ∙ found_at_number key b.termini x ordered.termini_rise found) in
+    let keys : at.key ≡ key = sym (found_key at.key b.termini at.at at.found) ∙ ap (λ (y : Terminus). y.key) one ∙ found_key key b.termini x found in
+    at.durable ∙ ap (λ (k : LinkKey). Some k) keys
+
 closed_is_done : (t : Trace) (b : BookView) (n : ℕ) (d : Delivery) (r : RowNumber) (c : ℕ) (answer : Answer) (first : List Change) (i : Item) → Standing t → IsOrdered b → Agrees t b (row_at r.0 b.rows) d
     → is_among r.0 (sent_from b (closed_terminus b t c answer)) ≡ true → (p : Origin) → source (changed_by (first ++ ended_by t c i answer) d) ≡ Some p → ⊥
 closed_is_done t b n d r c (Detach own handle true None) first i standing ordered agrees among p from =
@@ -242,16 +260,9 @@ closed_is_done t b n d r c (Detach own handle true None) first i standing ordere
 
     of_terminus : (key : LinkKey) (x : Terminus) → durable_key (link t c own handle) ≡ Some key → terminus_of key b.termini ≡ Some x → (role : LinkRole)
         → is_among r.0 (sent_by b role x.number.0) ≡ true → ⊥
-    of_terminus key x durable found Consumer among = clash among
-    of_terminus key x durable found Producer among =
-        let rows = among_rows r.0 (is_from x.number.0) b.rows ordered.rows_rise among in
-        let held : IsHeld t b rows.0 d = subst (λ (v : Option ARow). Agrees t b v d) rows.1 agrees in
-        let at = held.from p before in
-        let same_number : at.at.number.0 ≡ x.number.0 = at.number ∙ eqb-true rows.0.producer.0 x.number.0 rows.2 in
-        let one : at.at ≡ x = some_same (sym (found_at_number at.key b.termini at.at ordered.termini_rise at.found)
-        ∙ ap (λ (m : ℕ). terminus_at m b.termini) same_number ∙ found_at_number key b.termini x ordered.termini_rise found) in
-        let keys : at.key ≡ key = sym (found_key at.key b.termini at.at at.found) ∙ ap (λ (y : Terminus). y.key) one ∙ found_key key b.termini x found in
-        let place = one_place t standing p.link (record { number = 0; conn = record { 0 = c }; channel = own; handle = handle }) key (at.durable ∙ ap (λ (k : LinkKey). Some k) keys) durable in
+    of_terminus key x durable found role among =
+        let place = one_place t standing p.link (record { number = 0; conn = record { 0 = c }; channel = own; handle = handle }) key
+        (sent_by_key t b d r key x ordered agrees found role among p before) durable in
         clash (sym spared ∙ ended own handle place.0 place.1 place.2)
 
     by_terminus : (key : LinkKey) (v : Option Terminus) → durable_key (link t c own handle) ≡ Some key → terminus_of key b.termini ≡ v → is_among r.0 (sent_from b v) ≡ true → ⊥
@@ -265,6 +276,40 @@ closed_is_done t b n d r c (Detach own handle true (Some x)) first i standing or
 closed_is_done t b n d r c (Detach own handle false x) first i standing ordered agrees among p from = clash among
 closed_is_done t b n d r c _ first i standing ordered agrees among p from = clash among
 
+-- nor is a producer whose link takes a terminus up again: it takes the place of the older link
+resumed_is_done : (t : Trace) (b : BookView) (d : Delivery) (r : RowNumber) (c channel : ℕ) (a : AnAttach) (payload : List ℕ) (answer : Answer) (first : List Change) → Standing t → IsOrdered b
+    → Agrees t b (row_at r.0 b.rows) d → is_among r.0 (sent_from b (resumed_terminus b t c a answer)) ≡ true
+    → (p : Origin) → source (changed_by (first ++ ended_by t c (item.Frame false channel (perf.Attach a) payload) answer) d) ≡ Some p → ⊥
+resumed_is_done t b d r c channel a payload (Attach own) first standing ordered agrees among p from = by_wish (wants_durable a) among
+  where
+    key : LinkKey
+    key = wanted_key t c a
+
+    ends : List Change
+    ends = stolen_from (holder t key)
+
+    before : source d ≡ Some p
+    before = (leaves_by (first ++ ends) d).comes p from
+
+    held : durable_key (link_of t p.link) ≡ Some key → ⊥
+    held durable =
+        let older = holds_key t standing p.link key durable in
+        let gone_link : Attachment → Bool = is_gone (gone.Link p.link.conn.0 p.link.channel p.link.handle) in
+        let only : Change = change.Ends (gone.Link p.link.conn.0 p.link.channel p.link.handle) false in
+        let last : source (changed only (changed_by first d)) ≡ Some p =
+        sym (ap source (changed_more first (only ∷ []) d)) ∙ sym (ap (λ (v : Option Attachment). source (changed_by (first ++ stolen_from v) d)) older.1) ∙ from in
+        let spared : gone_link p.link ≡ false = ends_keep false gone_link (changed_by first d) p last in
+        clash (sym spared ∙ rw (eq-eqb p.link.conn.0 p.link.conn.0 refl, eq-eqb p.link.channel p.link.channel refl, eq-eqb p.link.handle p.link.handle refl) refl)
+
+    by_terminus : (v : Option Terminus) → terminus_of key b.termini ≡ v → is_among r.0 (sent_from b v) ≡ true → ⊥
+    by_terminus None found among = clash among
+    by_terminus (Some x) found among = held (sent_by_key t b d r key x ordered agrees found x.key.role among p before)
+
+    by_wish : (w : Bool) → is_among r.0 (sent_from b (if w then terminus_of key b.termini else None)) ≡ true → ⊥
+    by_wish true among = by_terminus (terminus_of key b.termini) refl among
+    by_wish false among = clash among
+resumed_is_done t b d r c channel a payload _ first standing ordered agrees among p from = clash among
+
 forgotten_is_done : (t : Trace) (b : BookView) (n : ℕ) (d : Delivery) (r : RowNumber) (e : Event) (answer : Answer) → Standing t → IsOrdered b → Agrees t b (row_at r.0 b.rows) d
     → delivery t n ≡ Some d → d.name ≡ Row r → is_among r.0 (forgotten_at b t e answer) ≡ true → (p : Origin) → source (changed_by (event_changes t e answer) d) ≡ Some p → ⊥
 forgotten_is_done t b n d r (event.Item c (item.Frame false channel (perf.Disposition x) payload)) answer standing ordered agrees there name among p from =
@@ -275,6 +320,8 @@ forgotten_is_done t b n d r (event.Item c (item.Frame false channel (perf.Dispos
 forgotten_is_done t b n d r (event.Item c (item.Frame false channel (perf.Detach x) payload)) answer standing ordered agrees there name among p from =
     let i : Item = item.Frame false channel (perf.Detach x) payload in
     closed_is_done t b n d r c.0 answer (map lost (due t (event.Item c i))) i standing ordered agrees among p from
+forgotten_is_done t b n d r (event.Item c (item.Frame false channel (perf.Attach a) payload)) answer standing ordered agrees there name among p from =
+    resumed_is_done t b d r c.0 channel a payload answer (map lost (due t (event.Item c (item.Frame false channel (perf.Attach a) payload)))) standing ordered agrees among p from
 forgotten_is_done t b n d r (event.Item c (item.Frame false channel _ payload)) answer standing ordered agrees there name among p from = clash among
 forgotten_is_done t b n d r (event.Item c (item.Frame true channel body payload)) answer standing ordered agrees there name among p from = clash among
 forgotten_is_done t b n d r (event.Item c _) answer standing ordered agrees there name among p from = clash among

@@ -2,6 +2,7 @@
 use Rattle.std.proofs.Common.{◌≡◌, ◌∙◌, sym, ap, refl, subst, ℕ, Bool, true, false, not, List, [], ◌∷◌, ◌++◌, append-nil}
 use Rattle.std.specs.Prelude.{◌==◌, if◌then◌else◌, Option, Some, None, is_some, unwrap_or}
 use Rattle.std.proofs.lemmas.Bool.{eqb-true}
+use Rattle.std.proofs.lemmas.Slice.Eq.{bytes_eq-Decides}
 use Rattle.amqp_model.specs.declared.perf.Attach.{Attach as AnAttach}
 use Rattle.amqp_model.specs.declared.perf.Perf.{Perf}
 use Rattle.amqp_model.specs.declared.perf.Perf.TheVariants as perf
@@ -15,6 +16,8 @@ use Rattle.amqp_model.specs.declared.item.Item.{Item}
 use Rattle.amqp_model.specs.declared.item.Item.TheVariants as item
 use Rattle.amqp_conn.specs.declared.conn.Conn.{Conn}
 use Rattle.book_model.specs.declared.act.Act.{Act}
+use Rattle.book_model.specs.declared.act.Decision.{Decision}
+use Rattle.book_model.specs.declared.row.RowNumber.{RowNumber}
 use Rattle.book_model.specs.declared.terminus.LinkKey.{LinkKey}
 use Rattle.book_model.specs.declared.terminus.Terminus.{Terminus}
 use Rattle.book_model.specs.Book.{BookView, same_bytes, terminus_of, effects}
@@ -26,12 +29,12 @@ use Rattle.router_trace.specs.Connection.{conn, due, found, standing, has}
 use Rattle.router_trace.specs.Durable.{outlives, is_lasting_source, is_lasting_target, is_durable}
 use Rattle.router_trace.specs.Following.{tells, sends_due, drains_due}
 use Rattle.router_trace.specs.LinkFrames.{other, kept, source_answer, target_answer, plain_answer, lasting_source, lasting_target, lasting_by, answer_to, refused_source, refused_target, refusal_of, attach_item, detach_item, fits}
-use Rattle.router_trace.specs.Links.{source_address, target_address, address_by, key_of, key_at, holder, holds_durable, free_handle, first_free_below}
+use Rattle.router_trace.specs.Links.{source_address, target_address, address_by, key_of, key_at, holder, free_handle, first_free_below}
 use Rattle.router_trace.specs.Peers.{Container, user, user_at, container, container_at, largest_frame}
 use Rattle.router_trace.specs.Sessions.{free_channel}
 use Rattle.router_trace.specs.declared.binding.Binding.{Binding}
 use Rattle.router_trace.specs.declared.condition.Condition.{Condition}
-use Rattle.router_trace.specs.declared.condition.Condition.TheVariants.{NotAllowed, NotImplemented, ResourceLimitExceeded, Stolen, FrameSizeTooSmall}
+use Rattle.router_trace.specs.declared.condition.Condition.TheVariants.{NotAllowed, ResourceLimitExceeded, Stolen, FrameSizeTooSmall}
 use Rattle.router_trace.specs.declared.event.ConnectionId.{ConnectionId}
 use Rattle.router_trace.specs.declared.event.Event.{Event}
 use Rattle.router_trace.specs.declared.event.Event.TheVariants as event
@@ -40,7 +43,7 @@ use Rattle.state_sessions.specs.Windows.{windows}
 use Rattle.state_messages.specs.Messages.{grants_due, with_bound}
 use Rattle.reply_rows.specs.declared.answer.Answer.{Answer}
 use Rattle.reply_rows.specs.declared.answer.Answer.TheVariants.{Nothing, Header, Open, Close, CloseWith, Begin, End, Flow, Attach, Refuse, Detach, LinkFlow, Taken, Settle}
-use Rattle.reply_rows.specs.Booking.{wanted_key, wanted_address, wants_durable, new_terminus, has_room, durable_refusal, volatile_refusal, refuse_on, booked_attach, book_refusal, answer_at}
+use Rattle.reply_rows.specs.Booking.{wanted_key, wanted_address, wants_durable, new_terminus, has_room, rows_of, map_for, unless_resumes, durable_refusal, refuse_on, booked_attach, book_refusal, answer_at}
 use Rattle.reply_rows.specs.Finding.{finds}
 use Rattle.reply_rows.specs.Rows.{said, item_reply}
 use Rattle.router_reply.specs.Acts.{Journaled, live_answer, event_answer, answer_acts, admitted_acts, or_admits, finds_full, journaled, book_in, acts_of, book_after_event, booked, answer_of}
@@ -58,7 +61,7 @@ use Rattle.router_core.proofs.Following.{Steps, passed_on, passed_keeps}
 use Rattle.router_core.proofs.Replied.{FoundLive, found_live}
 use Rattle.theorems.specs.Each.{EachOut}
 use Rattle.theorems.specs.Keeping.{HasAddress, kept_if, perf_is_kept, IsKeptFirst}
-use Rattle.theorems.proofs.Made.{makes_terminus}
+use Rattle.theorems.proofs.Made.{makes_terminus, admitted_keep, stays_terminus}
 
 abbrev Kept : List Entry → Type 0
 Kept t = EachOut IsKeptFirst t
@@ -154,14 +157,14 @@ refused_kept t largest c own handle e a was = by (fits largest (attach_item own 
     by false = (tt, was)
 
 -- a terminus with the attach's address is what it asks for
-made_kept : (b : BookView) (key : LinkKey) (a : AnAttach) (v : Option Terminus) → v ≡ Some (new_terminus b key (wanted_address a)) → kept_if true (address_by (other a.role) a) v
-made_kept b key a v found = by (address_by (other a.role) a) refl
+made_kept : (a : AnAttach) (v : Option Terminus) (x : Terminus) → v ≡ Some x → x.address ≡ wanted_address a → kept_if true (address_by (other a.role) a) v
+made_kept a v x found same = by (address_by (other a.role) a) refl
   where
     by : (o : Option (List ℕ)) → address_by (other a.role) a ≡ o → kept_if true o v
     by None is = tt
-    by (Some address) is = subst (λ (y : Option Terminus). HasAddress y address) (sym found) (ap (λ (o : Option (List ℕ)). unwrap_or o []) is)
+    by (Some address) is = subst (λ (y : Option Terminus). HasAddress y address) (sym found) (same ∙ ap (λ (o : Option (List ℕ)). unwrap_or o []) is)
 
--- an answer that takes a link: the book doesn't stand in its way, and its terminus is made
+-- an answer that takes a link: the book doesn't stand in its way, and its terminus is made, or stands
 
 attach_only : (free : ℕ → Option ℕ) (refusal : Option Condition) (answer : Answer) (own : ℕ) → booked_attach free refusal answer ≡ Attach own
     → (refusal ≡ None) × (answer ≡ Attach own)
@@ -185,21 +188,17 @@ attach_only free refusal (LinkFlow o told at) own is = absurd cc
 attach_only free refusal (Taken o h) own is = absurd cc
 attach_only free refusal (Settle o) own is = absurd cc
 
-none_with : (o : Option Terminus) (a : AnAttach) (room : Bool) → durable_refusal o a room ≡ None → o ≡ None
-none_with None a room may = refl
-none_with (Some x) a room may = absurd (some (same_bytes x.address (wanted_address a)) may)
-  where
-    some : (b : Bool) → (if b then Some NotImplemented else Some NotAllowed) ≡ None → ⊥
-    some true is = absurd cc
-    some false is = absurd cc
+-- the book has room for a new terminus, and one that stands has the attach's address
+room_with : (b : BookView) (a : AnAttach) (room : Bool) → durable_refusal b None a room ≡ None → room ≡ true
+room_with b a true may = refl
+room_with b a false may = absurd cc
 
-room_with : (o : Option Terminus) (a : AnAttach) (room : Bool) → durable_refusal o a room ≡ None → room ≡ true
-room_with None a true may = refl
-room_with None a false may = absurd cc
-room_with (Some x) a room may = absurd (none_is (none_with (Some x) a room may))
+address_with : (b : BookView) (x : Terminus) (a : AnAttach) (room : Bool) → durable_refusal b (Some x) a room ≡ None → x.address ≡ wanted_address a
+address_with b x a room may = (bytes_eq-Decides x.address (wanted_address a)).0 (by (same_bytes x.address (wanted_address a)) may)
   where
-    none_is : {y : Terminus} → Some y ≡ None → ⊥
-    none_is e = cc
+    by : (q : Bool) → (if q then unless_resumes (map_for (rows_of b x) a) else Some NotAllowed) ≡ None → q ≡ true
+    by true may = refl
+    by false may = absurd cc
 
 -- the answer to an attach after the acts of its event
 answer_after : (acts : List Act) (full : List ℕ) (t : List Entry) (c : ℕ) (p : Conn) (sasl : Bool) (channel : ℕ) (a : AnAttach) (payload : List ℕ)
@@ -209,31 +208,69 @@ unfolding free_handle first_free_below free_channel
 answer_after acts full t c p sasl channel a payload = refl
 
 record Makes (t : List Entry) (e : Event) (c : ℕ) (a : AnAttach) : Type 0 where
-  made : terminus_of (wanted_key t c a) (book_after_event t e).termini ≡ Some (new_terminus (book_in t) (wanted_key t c a) (wanted_address a))
+  at : Terminus
+  there : terminus_of (wanted_key t c a) (book_after_event t e).termini ≡ Some at
+  address : at.address ≡ wanted_address a
 
 makes : (t : List Entry) (from : ConnectionId) (sasl : Bool) (channel : ℕ) (a : AnAttach) (payload : List ℕ) (p : Conn) (own : ℕ)
     → standing (found t (event.Item from (item.Frame sasl channel (perf.Attach a) payload)) from.0) ≡ Some p
     → answer_of (booked t (event.Item from (item.Frame sasl channel (perf.Attach a) payload))) from.0 p (item.Frame sasl channel (perf.Attach a) payload) ≡ Attach own
     → wants_durable a ≡ true → Makes t (event.Item from (item.Frame sasl channel (perf.Attach a) payload)) from.0 a
-makes t from sasl channel a payload p own stands answers wants =
-    let i : Item = item.Frame sasl channel (perf.Attach a) payload in
-    let e : Event = event.Item from i in
-    let b : BookView = book_in t in
-    let key : LinkKey = wanted_key t from.0 a in
-    let x : Terminus = new_terminus b key (wanted_address a) in
-    let full : Bool = finds_full (journaled t) t e in
-    let admitted : List Act = admitted_acts full b t e in
-    let at : answer_at full b t from.0 p i ≡ Attach own = sym (answer_after (acts_of t e) (due t e) t from.0 p sasl channel a payload) ∙ answers in
-    let answer : event_answer full b t e ≡ Attach own = ap (live_answer full b t from.0 i) stands ∙ at in
-    let only = attach_only (free_handle t from.0) (book_refusal full b t from.0 a) (item_reply p (finds t from.0) i) own at in
-    let refusal : durable_refusal (terminus_of key b.termini) a (has_room full b x) ≡ None =
-    ap (λ (d : Bool). if d then durable_refusal (terminus_of key b.termini) a (has_room full b x) else volatile_refusal (holds_durable t key)) (sym wants) ∙ only.0 in
-    record {
-      made =
-          ap (λ (y : Answer). terminus_of key (effects b (or_admits (answer_acts b t e y) admitted)).termini) answer
-          ∙ ap (λ (d : Bool). terminus_of key (effects b (or_admits (settled_acts b (decided t e (Attach own)) (forgotten b t e (Attach own)) (if d then Some (terminus.Make x) else None)) admitted)).termini) wants
-          ∙ makes_terminus full b (decided t e (Attach own)) (forgotten b t e (Attach own)) key (wanted_address a) admitted
-          (none_with (terminus_of key b.termini) a (has_room full b x) refusal) (room_with (terminus_of key b.termini) a (has_room full b x) refusal);
+makes t from sasl channel a payload p own stands answers wants = by (terminus_of key b.termini) refl refusal
+  where
+    i : Item
+    i = item.Frame sasl channel (perf.Attach a) payload
+
+    e : Event
+    e = event.Item from i
+
+    b : BookView
+    b = book_in t
+
+    key : LinkKey
+    key = wanted_key t from.0 a
+
+    x : Terminus
+    x = new_terminus b key (wanted_address a)
+
+    full : Bool
+    full = finds_full (journaled t) t e
+
+    admitted : List Act
+    admitted = admitted_acts full b t e
+
+    at : answer_at full b t from.0 p i ≡ Attach own
+    at = sym (answer_after (acts_of t e) (due t e) t from.0 p sasl channel a payload) ∙ answers
+
+    answer : event_answer full b t e ≡ Attach own
+    answer = ap (live_answer full b t from.0 i) stands ∙ at
+
+    refusal : durable_refusal b (terminus_of key b.termini) a (has_room full b x) ≡ None
+    refusal =
+        ap (λ (d : Bool). if d then durable_refusal b (terminus_of key b.termini) a (has_room full b x) else None) (sym wants)
+        ∙ (attach_only (free_handle t from.0) (book_refusal full b t from.0 a) (item_reply p (finds t from.0) i) own at).0
+
+    ds : List Decision
+    ds = decided t e (Attach own)
+
+    numbers : List RowNumber
+    numbers = forgotten b t e (Attach own)
+
+    acts : terminus_of key (book_after_event t e).termini ≡ terminus_of key (effects b (or_admits (settled_acts b ds numbers (Some (terminus.Make x))) admitted)).termini
+    acts =
+        ap (λ (y : Answer). terminus_of key (effects b (or_admits (answer_acts b t e y) admitted)).termini) answer
+        ∙ ap (λ (d : Bool). terminus_of key (effects b (or_admits (settled_acts b ds numbers (if d then Some (terminus.Make x) else None)) admitted)).termini) wants
+
+    by : (o : Option Terminus) → terminus_of key b.termini ≡ o → durable_refusal b o a (has_room full b x) ≡ None → Makes t e from.0 a
+    by None none may = record {
+      at = x;
+      there = acts ∙ makes_terminus full b ds numbers key (wanted_address a) admitted none (room_with b a (has_room full b x) may);
+      address = refl;
+    }
+    by (Some y) found may = record {
+      at = y;
+      there = acts ∙ stays_terminus b ds numbers key (wanted_address a) y admitted found (admitted_keep full b t e);
+      address = address_with b y a (has_room full b x) may;
     }
 
 -- the names that a connection's links have
@@ -330,7 +367,7 @@ asked_kept t w e c a h made stands =
 
     durable : wants_durable a ≡ true → Wanted (wants_durable a)
     durable wants =
-        subst Wanted (sym wants) (made_kept (book_in t) key a (terminus_of key (book_after_event t e).termini) (made wants).made)
+        subst Wanted (sym wants) (made_kept a (terminus_of key (book_after_event t e).termini) (made wants).at (made wants).there (made wants).address)
 
     other_link : wants_durable a ≡ false → Wanted (wants_durable a)
     other_link wants = subst Wanted (sym wants) tt

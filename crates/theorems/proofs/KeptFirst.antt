@@ -11,10 +11,11 @@ use Rattle.amqp_model.specs.declared.item.Item.TheVariants as item
 use Rattle.amqp_conn.specs.declared.conn.Conn.{Conn}
 use Rattle.amqp_link.specs.declared.part.Part.{Part}
 use Rattle.book_model.specs.declared.act.Act.{Act}
-use Rattle.book_model.specs.Book.{BookView, empty_book, first_fault, effects}
+use Rattle.book_model.specs.Book.{BookView, empty_book, effects}
+use Rattle.book_model.specs.Sound.{IsSound}
 use Rattle.gate_journal.specs.Ordered.{IsOrdered}
-use Rattle.gate_journal.proofs.Nexts.{made_ordered}
-use Rattle.book_model.specs.Made.{IsMade}
+use Rattle.gate_journal.proofs.Ordered.{empty_ordered}
+use Rattle.journal_store.proofs.Sound.{sound_is_ordered}
 use Rattle.router_trace.specs.Configuration.{beginning, opened}
 use Rattle.router_trace.specs.declared.binding.Binding.{Binding}
 use Rattle.router_trace.specs.declared.condition.Condition.TheVariants.{ResourceLimitExceeded}
@@ -263,23 +264,20 @@ unstarted t taken = by (is_started t) taken
     by true h = absurd (clash h)
     by false h = refl
 
-made_is_ordered : (b : BookView) → IsMade b → IsOrdered b
-made_is_ordered b made = subst IsOrdered (sym made.2) (made_ordered made.0 made.1)
-
 record All (t : Trace) : Type 0 where
   sound : Sound t
   kept : SmallKept t
   before : Unstarted t
 
-start_all : (g : Beginning) → IsMade g.book → All (beginning g)
-start_all g made = record {
+start_all : (g : Beginning) → IsSound g.book → All (beginning g)
+start_all g sound = record {
   sound = sound_start g;
   kept = λ small. record {
     law = tt;
     facts = λ n d r there name. absurd (none_not_some there);
     standing = began_standing g [];
     named = λ n id d there undecided has. absurd (none_not_some there);
-    ordered = made_is_ordered g.book made;
+    ordered = sound_is_ordered g.book sound;
   };
   before = λ not. refl;
 }
@@ -304,8 +302,7 @@ pub record Past (t : Trace) : Type 0 where
   pub ordered : IsOrdered (book_in t)
 
 pub no_past : Past []
-unfolding first_fault effects
-no_past = record { sound = none_sound; law = tt; ordered = made_is_ordered empty_book ([], refl, refl) }
+no_past = record { sound = none_sound; law = tt; ordered = empty_ordered }
 
 opened_all : (g : Beginning) (below : Trace) → g.book ≡ book_in below → Past below → All (opened g below)
 opened_all g below book was = record {
@@ -335,8 +332,8 @@ cut_past t e was = record {
   ordered = ordered_acts t e was.ordered;
 }
 
-pub outcomes_kept : (id : List ℕ) (g : Beginning) (u : Trace) (moves : List Move) → GoesInTurn id moves (beginning g) u → IsMade g.book → EachOutcomeIsKept g u
-outcomes_kept id g u moves went made small = ((moves_all id moves (beginning g) u (start_all g made) went).kept small).law
+pub outcomes_kept : (id : List ℕ) (g : Beginning) (u : Trace) (moves : List Move) → GoesInTurn id moves (beginning g) u → IsSound g.book → EachOutcomeIsKept g u
+outcomes_kept id g u moves went sound small = ((moves_all id moves (beginning g) u (start_all g sound) went).kept small).law
 
 -- each row is decided at most once
 
@@ -448,10 +445,10 @@ moves_once first id [] t u was went = subst (Once first) (sym went) was
 moves_once first id (handles s ∷ ms) t u was went = moves_once first id ms (handled id t s) u (handled_once first id t s was) went.1
 moves_once first id (takes x ∷ ms) t u was went = moves_once first id ms (took_one x t) u (took_once first _ _ t was) went
 
-pub rows_once : (id : List ℕ) (g : Beginning) (u : Trace) → IsTrace id g u → IsMade g.book → EachRowIsDecidedOnce g u
-rows_once id g u trace made =
+pub rows_once : (id : List ℕ) (g : Beginning) (u : Trace) → IsTrace id g u → IsSound g.book → EachRowIsDecidedOnce g u
+rows_once id g u trace sound =
     (moves_once g.book id trace.0 (beginning g) u (record {
-      ordered = made_is_ordered g.book made;
+      ordered = sound_is_ordered g.book sound;
       once = λ n. record { once = zero_one; waits = λ might. refl; before = λ shut. refl };
       stays = λ n shut. shut;
     }) trace.1).once
@@ -487,5 +484,5 @@ run_leads id place t (e ∷ es) xs u run =
     let emptied : LeadsInTurn id behind run.0 = subst (λ (w : Trace). LeadsInTurn id behind w) (sym run.3.emptied.trace) (leads_takes id run.3.emptied.takes behind) in
     leads_on id t run.0 u (leads_on id t behind run.0 (step_leads id t e behind run.3.event) emptied) (run_leads id (place + 1) run.0 es run.2 u run.4)
 
-pub run_outcomes : (id : List ℕ) (g : Beginning) (events : List Event) (xs : List Sent) (u : Trace) → Run id 0 (beginning g) events xs u → IsMade g.book → EachOutcomeIsKept g u
-run_outcomes id g events xs u run made = let led = run_leads id 0 (beginning g) events xs u run in outcomes_kept id g u led.0 led.1 made
+pub run_outcomes : (id : List ℕ) (g : Beginning) (events : List Event) (xs : List Sent) (u : Trace) → Run id 0 (beginning g) events xs u → IsSound g.book → EachOutcomeIsKept g u
+run_outcomes id g events xs u run sound = let led = run_leads id 0 (beginning g) events xs u run in outcomes_kept id g u led.0 led.1 sound

@@ -1,5 +1,5 @@
--- A durable link that is taken has its terminus made: what its event decides and forgets doesn't stand in the way of that.
-use Rattle.std.proofs.Common.{◌≡◌, ◌∙◌, sym, ap, refl, subst, ℕ, Bool, true, false, not, ◌&&◌, ◌||◌, cond, List, [], ◌∷◌, ◌++◌, length}
+-- A durable link that is taken has its terminus made, or has it already: what its event decides and forgets doesn't stand in the way of that.
+use Rattle.std.proofs.Common.{◌≡◌, ◌∙◌, sym, ap, refl, subst, ℕ, Bool, true, false, not, ◌&&◌, ◌||◌, cond, List, [], ◌∷◌, ◌++◌, append-nil, length}
 use Rattle.std.specs.Prelude.{◌==◌, nat_lt, if◌then◌else◌, Option, Some, None, is_none, filter_map}
 use Rattle.std.specs.List.{list_any, cons_option}
 use Rattle.std.specs.Option.{option_or}
@@ -9,6 +9,7 @@ use Rattle.std.proofs.lemmas.Slice.Eq.{bytes_eq-Decides}
 use Rattle.amqp_model.specs.declared.state.DeliveryState.{DeliveryState}
 use Rattle.book_model.specs.declared.act.Act.{Act}
 use Rattle.book_model.specs.declared.act.Act.TheVariants.{Make, Admit, Decide, Forget, Drop}
+use Rattle.book_model.specs.declared.act.Admission.{Admission}
 use Rattle.book_model.specs.declared.act.Decision.{Decision}
 use Rattle.book_model.specs.declared.row.Row.{Row}
 use Rattle.book_model.specs.declared.row.RowNumber.{RowNumber}
@@ -17,11 +18,15 @@ use Rattle.book_model.specs.declared.terminus.LinkRole.{LinkRole}
 use Rattle.book_model.specs.declared.terminus.LinkRole.TheVariants.{Producer, Consumer}
 use Rattle.book_model.specs.declared.terminus.Terminus.{Terminus}
 use Rattle.book_model.specs.declared.fault.BookFault.{BookFault}
-use Rattle.book_model.specs.Book.{BookView, same_key, same_role, terminus_of, has_short_texts, is_undecided, make_refusal, effect, effects}
+use Rattle.book_model.specs.declared.fault.BookFault.TheVariants.{NoTerminus}
+use Rattle.book_model.specs.Book.{BookView, same_key, same_role, terminus_of, has_short_texts, is_undecided, unless, make_refusal, admit_refusal, effect, effects}
 use Rattle.journal_store.specs.Acting.{outcome_for, is_among, decision, decide_row, forget_row, decides, forgets, settles, unless_refused, event_acts}
 use Rattle.journal_store.specs.declared.acting.TerminusAct.TheVariants as terminus
 use Rattle.reply_rows.specs.Booking.{new_terminus, has_room}
-use Rattle.router_reply.specs.Acts.{or_admits}
+use Rattle.router_trace.specs.declared.event.Event.{Event}
+use Rattle.router_trace.specs.Trace.{Trace}
+use Rattle.router_reply.specs.Acts.{event_answer, admitted_acts, or_admits}
+use Rattle.router_reply.specs.Admitting.{event_admission, admits}
 use Rattle.router_core.proofs.Due.{both_true}
 
 -- acts that change rows alone
@@ -162,3 +167,56 @@ makes_terminus full b ds numbers key address admitted none room =
     ap (λ (acts : List Act). terminus_of key (effects b acts).termini) acts
     ∙ ap (λ (c : BookView). terminus_of key c.termini) (effects_more settled (Make x ∷ []) b)
     ∙ found_made (effects b settled) x (ap (terminus_of key) same.termini ∙ none)
+
+-- A terminus that stands isn't made again.
+
+found_any : (key : LinkKey) (ts : List Terminus) (x : Terminus) → terminus_of key ts ≡ Some x → list_any (λ u. same_key u.key key) ts ≡ true
+found_any key [] x found = absurd cc
+found_any key (t ∷ ts) x found = by (same_key t.key key) found (found_any key ts x)
+  where
+    by : (b : Bool) → cond b (Some t) (terminus_of key ts) ≡ Some x → (terminus_of key ts ≡ Some x → list_any (λ u. same_key u.key key) ts ≡ true)
+        → (b || list_any (λ u. same_key u.key key) ts) ≡ true
+    by true found rest = refl
+    by false found rest = rest found
+
+refused_make : (c : BookView) (y : Terminus) → list_any (λ u. same_key u.key y.key) c.termini ≡ true → is_none (make_refusal c y) ≡ false
+refused_make c y there = rw there (by (y.number.0 == c.next_terminus))
+  where
+    by : (q : Bool) → is_none (unless q NoTerminus (Some NoTerminus)) ≡ false
+    by true = refl
+    by false = refl
+
+-- nor does an admission change the termini
+admits_keep : (b : BookView) (o : Option Admission) → SameTermini b (effects b (admits b o))
+unfolding effects
+admits_keep b None = record { termini = refl; next = refl }
+admits_keep b (Some x) = by (is_none (admit_refusal b x))
+  where
+    by : (q : Bool) → SameTermini b (effects b (unless_refused q (Admit x)))
+    by true = record { termini = refl; next = refl }
+    by false = record { termini = refl; next = refl }
+
+pub admitted_keep : (full : Bool) (b : BookView) (t : Trace) (e : Event) → SameTermini b (effects b (admitted_acts full b t e))
+unfolding effects
+admitted_keep true b t e = record { termini = refl; next = refl }
+admitted_keep false b t e = admits_keep b (event_admission b t e (event_answer false b t e))
+
+rows_or_admits : (b : BookView) (settled admitted : List Act) → AllOfRows settled → SameTermini b (effects b admitted) → SameTermini b (effects b (or_admits settled admitted))
+rows_or_admits b [] admitted all same = same
+rows_or_admits b (act ∷ acts) admitted all same = effects_of_rows (act ∷ acts) b all
+
+pub stays_terminus : (b : BookView) (ds : List Decision) (numbers : List RowNumber) (key : LinkKey) (address : List ℕ) (x : Terminus) (admitted : List Act)
+    → terminus_of key b.termini ≡ Some x → SameTermini b (effects b admitted)
+    → terminus_of key (effects b (or_admits (event_acts b ds numbers (Some (terminus.Make (new_terminus b key address)))) admitted)).termini ≡ Some x
+stays_terminus b ds numbers key address x admitted found stays =
+    let y : Terminus = new_terminus b key address in
+    let settled : List Act = settles b ds numbers in
+    let of_rows : AllOfRows settled = settled_of_rows b ds numbers in
+    let same : SameTermini b (effects b settled) = effects_of_rows settled b of_rows in
+    let refused : is_none (make_refusal (effects b settled) y) ≡ false =
+    refused_make (effects b settled) y (subst (λ (ts : List Terminus). list_any (λ u. same_key u.key key) ts ≡ true) (sym same.termini) (found_any key b.termini x found)) in
+    let acts : or_admits (event_acts b ds numbers (Some (terminus.Make y))) admitted ≡ or_admits settled admitted =
+    ap (λ (q : Bool). or_admits (settled ++ unless_refused q (Make y)) admitted) refused ∙ ap (λ (acts : List Act). or_admits acts admitted) (append-nil settled) in
+    ap (λ (acts : List Act). terminus_of key (effects b acts).termini) acts
+    ∙ ap (terminus_of key) (rows_or_admits b settled admitted of_rows stays).termini
+    ∙ found

@@ -14,7 +14,7 @@ use Rattle.book_model.specs.Book.{BookView, row_at, with_row, is_undecided, refu
 use Rattle.book_core.proofs.Steps.{admits_next}
 use Rattle.gate_journal.specs.Ordered.{IsOrdered}
 use Rattle.gate_journal.proofs.Ordered.{ordered_step}
-use Rattle.journal_store.proofs.Few.{holds, first_applies, rest_applies}
+use Rattle.journal_store.proofs.Conditions.{holds, first_applies, rest_applies}
 use Rattle.theorems.specs.Kept.{is_open_row, may_be_decided, decides_row, times_in}
 use Rattle.theorems.proofs.Looking.{by_case, decided_keeps, forgotten_keeps, found_below, found_with, found_before}
 

@@ -19,6 +19,7 @@ use Rattle.router_play.specs.Carrying.{after_up, role_in, door_in, bytes_of, byt
 use Rattle.theorems.specs.Pieces.{in_front, with_bytes, joined, SameHoweverCut}
 use Rattle.state_connections.proofs.Lists.{by_test}
 use Rattle.router_play.proofs.Carried.{play_carries}
+use Rattle.router_play.specs.Script.{new_journal}
 use Rattle.theorems.proofs.Calming.{room_calm}
 use Rattle.theorems.proofs.Courses.{Course, course}
 use Rattle.theorems.proofs.Joining.{same_id, joined_course}
@@ -126,7 +127,7 @@ pieces_alike config steps others u w plays too room room_too is =
     = λ c. sym (joined_in c others) ∙ ap (bytes_in c) (sym is) ∙ joined_in c steps
     in (
       told,
-      λ c. same_bytes (door_in config c steps) (bytes_in c steps) u.trace w.trace u.lines w.lines c (put c) (play_carries config steps u c plays)
+      λ c. same_bytes (door_in config c steps) (bytes_in c steps) u.trace w.trace u.lines w.lines c (put c) (play_carries config new_journal steps u c plays)
           (subst (λ (d : DoorState). Carries d (bytes_in c steps) w.trace w.lines c) (gate c)
-          (subst (λ (bs : List ℕ). Carries (door_in config c others) bs w.trace w.lines c) (stream c) (play_carries config others w c too))),
+          (subst (λ (bs : List ℕ). Carries (door_in config c others) bs w.trace w.lines c) (stream c) (play_carries config new_journal others w c too))),
     )

@@ -291,7 +291,7 @@ first config = record { id = config.router_id; config = config; trace = did even
 
 pub play_course : (config : Settings) (xs : List Step) (u : Scene) → Plays xs (opening config) u → Calm u.trace → untaken u.trace ≡ (course xs (first config)).trace
 play_course config xs u plays calm = (plays_shadows xs (opening config) (first config) u plays calm (record {
-  kin = record { id = refl; config = refl; last = refl; trace = refl; real = began config.router_id (new_router config) };
+  kin = record { id = refl; config = refl; last = refl; trace = refl; real = (new_router config, began config.router_id (new_router config)) };
   spots = λ c. tt;
   unmade = λ c r. (refl, refl);
 })).kin.trace

@@ -69,7 +69,7 @@ shades_even t u c even (Some k) (Some q) h = (h.0, h.1, unknown_even t u c even 
 -- an event
 
 pub hand_even : (e : Event) (s : Scene) (c : ℕ) → Real s → moves e c ≡ false → Even s.trace (hand e s).trace c
-hand_even e s c real still = hand_cases (λ u. Even s.trace u.trace c) e s (λ r. even_refl s.trace c) (λ r. handled_even s.id (new_router s.config) s.trace e c real r still)
+hand_even e s c real still = hand_cases (λ u. Even s.trace u.trace c) e s (λ r. even_refl s.trace c) (λ r. handled_even s.id real.0 s.trace e c real.1 r still)
 
 pub hand_kin : (e : Event) (s : Scene) (p : Course) → Calm (hand e s).trace → Kin s p → Kin (hand e s) (tell e p)
 hand_kin e s p calm kin =

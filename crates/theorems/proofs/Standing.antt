@@ -524,6 +524,16 @@ one_place t standing a b key first second =
     let same : standing_at a.conn.0 a.channel a.handle l.0 ≡ standing_at b.conn.0 b.channel b.handle m.0 = some_same (sym at ∙ there) in
     (ap (λ (x : Attachment). x.conn.0) same, ap (λ (x : Attachment). x.channel) same, ap (λ (x : Attachment). x.handle) same)
 
+-- a durable link holds its key
+pub holds_key : (t : List Entry) → Standing t → (a : Attachment) (key : LinkKey) → durable_key (link_of t a) ≡ Some key
+    → (l : Link) × (holder t key ≡ Some (standing_at a.conn.0 a.channel a.handle l))
+holds_key t standing a key durable =
+    let l = durable_is (link_of t a) key durable in
+    let at : Attachment = standing_at a.conn.0 a.channel a.handle l.0 in
+    let last : last_of_key t key ≡ Some at = ap (last_of_key t) (sym l.3) ∙ standing.keys a.conn.0 a.channel a.handle l.0 l.1 in
+    let attached_there : is_attached t at ≡ true = ap (has_number l.0.number) l.1 ∙ eq-eqb l.0.number l.0.number refl in
+    (l.0, ap (if_attached t) last ∙ ap (λ (there : Bool). if there then Some at else None) attached_there)
+
 -- a link after an entry was there before it, unless it is attached now
 
 pub record WasLink (t : List Entry) (c o h : ℕ) (m : Link) : Type 0 where

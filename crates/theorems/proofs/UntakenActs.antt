@@ -1,6 +1,7 @@
 -- What takes don't change: an event that ends no connection has the same acts in a trace without its takes, and so its item has the same answer.
 use Rattle.std.proofs.Common.{◌≡◌, ◌∙◌, ap, refl, ℕ, ◌+◌, Bool, true, false, List, [], ◌∷◌, ◌++◌, map}
 use Rattle.std.specs.Prelude.{Option, Some, None, ◌||◌, if◌then◌else◌, is_none, option_map, option_and_then}
+use Rattle.amqp_model.specs.declared.perf.Attach.{Attach as AnAttach}
 use Rattle.amqp_model.specs.declared.perf.Disposition.{Disposition as ADisposition}
 use Rattle.amqp_model.specs.declared.perf.Perf.{Perf}
 use Rattle.amqp_model.specs.declared.perf.Perf.TheVariants as perf
@@ -42,9 +43,9 @@ use Rattle.state_deliveries.specs.Hearing.{heard_change}
 use Rattle.state_messages.specs.Messages.{consumer_of}
 use Rattle.reply_rows.specs.declared.answer.Answer.{Answer}
 use Rattle.reply_rows.specs.declared.answer.Answer.TheVariants.{Nothing, Attach, Detach, Taken}
-use Rattle.reply_rows.specs.Booking.{answer_at}
+use Rattle.reply_rows.specs.Booking.{wants_durable, answer_at}
 use Rattle.router_reply.specs.Admitting.{without_acts, terminus_for, admission_of, admitted_to, whole_admission, part_admission, taken_admission, unless_ends, event_admission, admits}
-use Rattle.router_reply.specs.Deciding.{lost, stolen_from, stolen_for, ended_by, listed, event_changes, as_kept, decided, settled_on, sent_from, closed_terminus, forgotten_by, forgotten_in, forgotten, made_for, terminus_by, terminus_in, terminus_of_event}
+use Rattle.router_reply.specs.Deciding.{lost, stolen_from, stolen_for, ended_by, listed, event_changes, as_kept, decided, settled_on, sent_from, closed_terminus, resumed_terminus, forgotten_by, forgotten_in, forgotten, made_for, terminus_by, terminus_in, terminus_of_event}
 use Rattle.router_reply.specs.Acts.{Journaled, live_answer, event_answer, answer_acts, planned_acts, admitted_acts, or_admits, event_acts, finds_full, with_acts, journaled, book_in, acts_of, before_acts, found_journal, full_at, answer_of}
 use Rattle.theorems.specs.Takes.{untaken}
 use Rattle.theorems.proofs.Plain.{plain, Calm, stood_found}
@@ -156,8 +157,13 @@ same_closed b t c (Detach own handle true (Some e)) = refl
 same_closed b t c (Detach own handle false x) = refl
 same_closed b t c _ = refl
 
+same_resumed : (b : BookView) (t : List Entry) (c : ℕ) (x : AnAttach) (a : Answer) → resumed_terminus b t c x a ≡ resumed_terminus b (untaken t) c x a
+same_resumed b t c x (Attach own) = ap (λ (key : LinkKey). if wants_durable x then terminus_of key b.termini else None) (same_key_at t c (plain_answer x 0))
+same_resumed b t c x _ = refl
+
 same_forgotten_by : (b : BookView) (t : List Entry) (c : ℕ) (own : Option ℕ) (body : Perf) (a : Answer)
     → forgotten_by b t c own body a ≡ forgotten_by b (untaken t) c own body a
+same_forgotten_by b t c own (perf.Attach x) a = ap (sent_from b) (same_resumed b t c x a)
 same_forgotten_by b t c own (perf.Disposition x) a = same_settled t c own x.role x
 same_forgotten_by b t c own (perf.Detach x) a = ap (sent_from b) (same_closed b t c a)
 same_forgotten_by b t c own _ a = refl

@@ -35,14 +35,14 @@ use Rattle.reply_rows.specs.declared.answer.Answer.{Answer}
 use Rattle.reply_rows.specs.declared.answer.Answer.TheVariants.{Attach, Detach, Refuse, Taken, Settle}
 use Rattle.reply_rows.specs.Rows.{Finds, said, item_reply}
 use Rattle.reply_rows.specs.Finding.{finds}
-use Rattle.reply_rows.specs.Booking.{wants_durable, wanted_address, new_terminus, has_room, durable_refusal, volatile_refusal, book_refusal, booked_attach, stands_from, repeats, booked_transfer, booked, answer_at}
+use Rattle.reply_rows.specs.Booking.{wants_durable, wanted_address, new_terminus, has_room, durable_refusal, book_refusal, booked_attach, stands_from, repeats, booked_transfer, booked, answer_at}
 use Rattle.reply_transfers.specs.Transfers.{claimed_id, settled_answers, from_link, origin_of, lasts_on, may_pass, consumer_for, fresh_bound, whole_bound, let_go, unless_many, ignored_put, released_by, released, unbound_put, whole_put, part_put, part_bound}
 use Rattle.router_reply.specs.Replies.{stolen_by, attach_answer, taken_after, taken, refused, row_found, bound_for, links_put, item_put}
 use Rattle.theorems.specs.Takes.{untaken}
 use Rattle.theorems.proofs.Untaken.{untaken_goes, same_place, same_free}
 use Rattle.theorems.proofs.UntakenDeliveries.{same_named, same_delivery, same_claims, same_numbered}
 use Rattle.theorems.proofs.UntakenGrants.{same_distribution, same_choice}
-use Rattle.theorems.proofs.UntakenLinks.{same_key_at, same_holds_durable, same_largest, same_free_handle, same_link, same_link_place, same_holder}
+use Rattle.theorems.proofs.UntakenLinks.{same_key_at, same_largest, same_free_handle, same_link, same_link_place, same_holder}
 
 same_finds : (t : List Entry) (c : ℕ) → finds t c ≡ finds (untaken t) c
 same_finds t c = λ j. record {
@@ -58,8 +58,8 @@ same_finds t c = λ j. record {
 same_refusal : (full : Bool) (b : BookView) (t : List Entry) (c : ℕ) (a : AnAttach) → book_refusal full b t c a ≡ book_refusal full b (untaken t) c a
 same_refusal full b t c a = λ j.
     if wants_durable a then
-    durable_refusal (terminus_of (same_key_at t c (plain_answer a 0) j) b.termini) a (has_room full b (new_terminus b (same_key_at t c (plain_answer a 0) j) (wanted_address a)))
-    else volatile_refusal (same_holds_durable t c (plain_answer a 0) j)
+    durable_refusal b (terminus_of (same_key_at t c (plain_answer a 0) j) b.termini) a (has_room full b (new_terminus b (same_key_at t c (plain_answer a 0) j) (wanted_address a)))
+    else None
 
 same_tags : (t : List Entry) (c own handle : ℕ) (tag : List ℕ) → uses_tag t c own handle tag ≡ uses_tag (untaken t) c own handle tag
 same_tags t c own handle tag = λ j. is_some (first_below (2 ^ 32) (λ id. is_tagged_on handle tag (same_claims t c own id j)))

@@ -1,7 +1,7 @@
 -- What always holds: in every trace of the router, and so of every list of events, and of every script of bytes; and over runs that end by stops.
 use Rattle.std.specs.Prelude.{ℕ, List}
 use Rattle.route_table.specs.Settings.{Settings}
-use Rattle.book_model.specs.Made.{IsMade}
+use Rattle.book_model.specs.Sound.{IsSound}
 use Rattle.router_trace.specs.declared.event.Event.{Event}
 use Rattle.router_trace.specs.Trace.{Trace, Beginning}
 use Rattle.router_trace.specs.Configuration.{beginning}
@@ -55,6 +55,7 @@ InTracesInTurn P =
 abbrev pub AlwaysInTurn : (Beginning → Trace → Type 0) → Type 0
 AlwaysInTurn P = InTracesInTurn P × InRunsFrom P
 
--- where the router was opened on a book that acts made, as the book of a journal is
-abbrev pub OnMade : (Beginning → Trace → Type 0) → Beginning → Trace → Type 0
-OnMade P g u = IsMade g.book → P g u
+-- where the router was opened on a sound book: its numbers rise, no limit is passed, and the termini that rows keep
+-- stand, as in each book of a journal, whether acts made it or it was read back
+abbrev pub OnSound : (Beginning → Trace → Type 0) → Beginning → Trace → Type 0
+OnSound P g u = IsSound g.book → P g u

@@ -7,7 +7,7 @@ use Rattle.router_trace.specs.Trace.{Beginning}
 use Rattle.router_core.specs.declared.driving.Driven.{Driven}
 use Rattle.router_core.specs.declared.router.Core.{Core}
 use Rattle.theorems.specs.Alike.{AnsweredAlone, SameWheneverTaken, SameHoweverCut}
-use Rattle.theorems.specs.Always.{Always, AlwaysFrom, AlwaysInTurn, InOneRun, InScripts, OnMade}
+use Rattle.theorems.specs.Always.{Always, AlwaysFrom, AlwaysInTurn, InOneRun, InScripts, OnSound}
 use Rattle.theorems.specs.Credit.{WithinCredit}
 use Rattle.theorems.specs.Durable.{IsKeptFirst, RowIsAdmitted, EachRowIsBoundOnce, EachNewRowIsBound, OutcomeIsKept, EachOutcomeIsKept, EachRowIsDecidedOnce, RowsAreDecidedOnce}
 use Rattle.theorems.specs.Each.{EachOut, EachBound}
@@ -54,7 +54,7 @@ OutcomesAreToldOnce = ToldAtMostOnce × ToldAnew × Always (EachOut TellsAsGiven
 -- The outcome of a delivery with a row is in the journal's book before it is told, and no row is decided twice.
 abbrev pub DurableOutcomesAreKeptFirst : Type 0
 DurableOutcomesAreKeptFirst =
-    AlwaysInTurn (OnMade EachOutcomeIsKept) × AlwaysFrom (OnMade EachRowIsDecidedOnce)
+    AlwaysInTurn (OnSound EachOutcomeIsKept) × AlwaysFrom (OnSound EachRowIsDecidedOnce)
     × InSmallLives (EachOut OutcomeIsKept) × InLives RowsAreDecidedOnce
 
 -- Under the lock, whatever threads do and whatever runs were before: within credit, outcomes kept first, decided once.

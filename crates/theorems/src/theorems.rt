@@ -100,11 +100,11 @@ pub fn outcomes_are_told_once()
     ensures { OutcomesAreToldOnce }
 {}
 
-/// In every trace of the router in which no event is declined (Start comes first, and once), opened on a book that
-/// acts made: where a producer is told the outcome of a delivery with a row, the book has that row, decided, with
-/// that outcome. `Core::handle` has the book on the disk before it puts anything out, so no crash loses an outcome
-/// that was told. Each row is decided at most once, whatever happens (AMQP 1.0 part 2, section 2.6.12, and part 3,
-/// section 3.4). Lists of events have such traces.
+/// In every trace of the router in which no event is declined (Start comes first, and once), opened on a sound book
+/// (its numbers rise, no limit is passed, and the termini that rows keep stand): where a producer is told the outcome
+/// of a delivery with a row, the book has that row, decided, with that outcome. `Core::handle` has the book on the
+/// disk before it puts anything out, so no crash loses an outcome that was told. Each row is decided at most once,
+/// whatever happens (AMQP 1.0 part 2, section 2.6.12, and part 3, section 3.4). Lists of events have such traces.
 pub fn durable_outcomes_are_kept_first()
     ensures { DurableOutcomesAreKeptFirst }
 {}

@@ -1,10 +1,10 @@
 //! What one line of a script means.
 ghost use Rattle.std.specs.Prelude.{◌≡◌, ◌==◌, ◌||◌, IfOk, Some, OnErr};
-ghost use Rattle.amqr_commands.specs.Lines.{Says, saying_of, is_blank, is_comment, step_by, with_number, with_word, with_role, with_bytes};
+ghost use Rattle.amqr_commands.specs.Lines.{Says, saying_of, stop_in, is_blank, is_comment, step_by, with_number, with_word, with_role, with_bytes};
 ghost use Rattle.amqr_commands.specs.Words.{cut_at, number_of, bytes_of};
 
 use crate::script::word::{bytes, cut, number};
-use router_play::{ConnectionId, PeerRole, Step};
+use router_play::{ConnectionId, PeerRole, Step, Stop};
 use std::alloc::{AllocError, Global};
 
 /// Why a line gives no step.
@@ -16,16 +16,28 @@ pub(crate) enum LineFault {
     Memory,
 }
 
-/// What a line says: a step, or none where it is blank or a comment.
+/// What a line of a script asks for.
+#[derive(Debug, Drop)]
+pub(crate) enum Instruction {
+    /// A step.
+    Play(Step),
+    /// A stop of the router, after which the next run begins.
+    Stop(Stop),
+}
+
+/// What a line says: an instruction, or none where it is blank or a comment.
 #[tactic(auto, unfolding(crate::specs::Lines::saying_of))]
-pub(crate) fn read_line(alloc: Global, line: &str) -> Result<Option<Step>, LineFault>
+pub(crate) fn read_line(alloc: Global, line: &str) -> Result<Option<Instruction>, LineFault>
     ensures { Says result (saying_of line.now) }
 {
     if is_comment(line) || is_blank(line) {
         return Ok(None);
     }
+    if let Some(stop) = stop_in(line) {
+        return Ok(Some(Instruction::Stop(stop)));
+    }
     match read_step(alloc, line) {
-        Ok(Some(step)) => Ok(Some(step)),
+        Ok(Some(step)) => Ok(Some(Instruction::Play(step))),
         Ok(None) => Err(LineFault::Wrong),
         Err(_) => Err(LineFault::Memory),
     }
@@ -43,6 +55,17 @@ fn is_blank(line: &str) -> bool
     ensures { result ≡ is_blank line.now }
 {
     line.bytes().all(|byte| byte == b' ' || byte == b'\t')
+}
+
+/// The stop that a line says, if it says one.
+fn stop_in(line: &str) -> Option<Stop>
+    ensures { result ≡ stop_in line.now }
+{
+    match line {
+        "stop old" => Some(Stop::Old),
+        "stop new" => Some(Stop::New),
+        _ => None,
+    }
 }
 
 /// The step that the words of a line say, if they say one.

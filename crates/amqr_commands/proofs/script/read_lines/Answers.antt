@@ -1,7 +1,7 @@
 use Rattle.std.proofs.Common.{rules, ◌≡◌, ◌<◌, length, ◌^◌, [], ◌∷◌, ◌++◌}
 use Rattle.amqr_commands.specs.Cut.{behind}
 use Rattle.amqr_commands.specs.Script.{lines_of}
-use Rattle.amqr_commands.proofs.Reading.{read_nothing, read_silent, read_step, line_fits}
+use Rattle.amqr_commands.proofs.Reading.{read_nothing, read_silent, read_instruction, line_fits}
 use Rattle.amqr_commands.proofs.script.read_lines.Goals as goal
 
 pub loop-rest-init : goal.loop-rest-init
@@ -23,4 +23,4 @@ pub loop-rest-preserved : goal.loop-rest-preserved
 loop-rest-preserved c =
     let cut : behind 10 c.loop-rest.rest ≡ c.cut.result.0.now ∷ behind 10 c.cut.result.1 = search rules in
     let pushed : c.push.new.self.items ≡ c.loop-rest.steps.items ++ c.in-Ok-Some.step ∷ [] = search rules in
-    rw pushed (read_step (lines_of c.args.text.now) (behind 10 c.loop-rest.rest) (behind 10 c.cut.result.1) c.loop-rest.line c.loop-rest.steps.items c.cut.result.0.now c.in-Ok-Some.step c.loop-rest.invariant cut (search rules))
+    rw pushed (read_instruction (lines_of c.args.text.now) (behind 10 c.loop-rest.rest) (behind 10 c.cut.result.1) c.loop-rest.line c.loop-rest.steps.items c.cut.result.0.now c.in-Ok-Some.step c.loop-rest.invariant cut (search rules))

@@ -1,7 +1,7 @@
 use Rattle.std.proofs.Common.{refl}
 use Rattle.route_table.specs.Places.{routing_of}
 use Rattle.journal_store.specs.Store.{used_of, count_of}
-use Rattle.router_core.proofs.Machines.{made_of}
+use Rattle.journal_store.proofs.Sound.{opened_sound}
 use Rattle.router_core.proofs.router.Core.open.Goals as goal
 
 pub returns-clause-fits : goal.returns-clause-fits
@@ -15,7 +15,7 @@ pub returns-clause-opened : goal.returns-clause-opened
 returns-clause-opened g c = record {
   fits = returns-clause-fits g c;
   keeps = λ below. (c.in_ok-store.ensures.stands, refl);
-  made = made_of (g.D.Disk.seen c.args.disk) c.in_ok-store.store.kept.book c.in_ok-store.ensures.book;
+  sound = opened_sound (g.D.Disk.seen c.args.disk) c.in_ok-store.store.kept.book c.in_ok-store.ensures.book;
   works = refl;
   counts = c.none.ensures;
 }
