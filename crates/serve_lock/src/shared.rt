@@ -21,14 +21,14 @@ use std::sync::atomic::{AtomicBool, AtomicU64, Ordering};
 use std::sync::{Condvar, Mutex, MutexGuard, Wait};
 use std::time::Duration;
 
-/// How many seconds a writer sleeps at its bell at most, before it looks again.
+/// How many seconds a thread sleeps at a bell at most, before it looks again.
 const LONG: u64 = 60;
 
 /// The bell of a connection.
 #[derive(Drop)]
 struct Bell {
     rung: Condvar,
-    // whether the items that its connection handed in last wrote to the journal
+    // whether an item that its connection handed in wrote to the journal
     writes: AtomicBool,
 }
 
@@ -40,6 +40,8 @@ pub struct Shared<M: Machine, L: Log, G: Ledgers> {
     state: Mutex<Locked<M, L, G>>,
     // how many threads wait for the lock that count as waiting
     waiting: AtomicU64,
+    // rung by each of them once it has the lock
+    turn: Condvar,
     bells: Vec<Bell>,
     ghost all_bells: { vec_len bells ≡ 256 },
 }
@@ -72,6 +74,7 @@ impl<M: Machine, L: Log, G: Ledgers> Shared<M, L, G> {
         Ok(Shared {
             state: Mutex::new(locked),
             waiting: AtomicU64::new(0),
+            turn: Condvar::new(),
             bells,
         })
     }
@@ -94,6 +97,9 @@ impl<M: Machine, L: Log, G: Ledgers> Shared<M, L, G> {
         ensures counted { OnOk result (seat.new ≡ with_event event seat.old) }
         ensures uncounted { OnErr result (seat.new ≡ seat.old) }
     {
+        if let Event::Up(conn, _) = &event {
+            self.writes(*conn, false);
+        }
         let lost = lost_by(&event);
         let mut locked = self.lock(rt);
         let done = locked.handle(seat, event);
@@ -106,7 +112,8 @@ impl<M: Machine, L: Log, G: Ledgers> Shared<M, L, G> {
 
     /// Submits the items at the front of a queue, in order, each as an event of its own, while the lock is taken once: up to 64 of them, and
     /// none after one that is refused or the eighth that wrote to the journal, nor after the first if others wait for the lock. Then it wakes
-    /// the writers that have something to take. The seat counts exactly the items that left the queue, but for one that is refused, which is dropped.
+    /// the writers that have something to take, and lets one of those others have its turn. The seat counts exactly the items that left the
+    /// queue, but for one that is refused, which is dropped.
     pub fn submit_items<R: Wait>(
         &self,
         rt: &R,
@@ -121,10 +128,16 @@ impl<M: Machine, L: Log, G: Ledgers> Shared<M, L, G> {
         let mut locked = self.lock_for(rt, conn);
         let done = locked.handle_items(seat, conn, items, &self.waiting);
         let woken = locked.wake(None);
+        let others = self.waiting.load(Ordering::SeqCst) > 0;
+        let turn = self.turn.notifications();
         drop(locked);
         self.ring(woken);
-        let wrote = done?;
-        self.bells[bell_of(conn)].writes.store(wrote, Ordering::SeqCst);
+        if done? {
+            self.writes(conn, true);
+            if others {
+                self.turn.sleep(rt, turn, Duration::from_secs(LONG));
+            }
+        }
         Ok(())
     }
 
@@ -179,9 +192,17 @@ impl<M: Machine, L: Log, G: Ledgers> Shared<M, L, G> {
         let Shared {
             state,
             waiting: _,
+            turn: _,
             bells: _,
         } = self;
         state.into_inner().close(seats, receipts)
+    }
+
+    /// Notes whether what a connection handed in wrote to the journal.
+    fn writes(&self, conn: ConnectionId, writes: bool) {
+        self.bells[bell_of(conn)]
+            .writes
+            .store(writes, Ordering::SeqCst);
     }
 
     /// Takes the lock. A thread that waits for it counts as waiting.
@@ -192,15 +213,12 @@ impl<M: Machine, L: Log, G: Ledgers> Shared<M, L, G> {
         self.waiting.fetch_add(1, Ordering::SeqCst);
         let locked = self.state.lock(rt);
         self.waiting.fetch_sub(1, Ordering::SeqCst);
+        self.turn.notify_all();
         locked
     }
 
-    /// Takes the lock for a connection, whose threads don't count as waiting if what it handed in last wrote to the journal.
-    fn lock_for<R: Wait>(
-        &self,
-        rt: &R,
-        conn: ConnectionId,
-    ) -> MutexGuard<'_, Locked<M, L, G>> {
+    /// Takes the lock for a connection, whose threads don't count as waiting once an item that it handed in wrote to the journal.
+    fn lock_for<R: Wait>(&self, rt: &R, conn: ConnectionId) -> MutexGuard<'_, Locked<M, L, G>> {
         if self.bells[bell_of(conn)].writes.load(Ordering::SeqCst) {
             self.state.lock(rt)
         } else {
