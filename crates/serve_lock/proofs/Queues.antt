@@ -1,6 +1,6 @@
 -- How far a queue of items was handed in while the lock is held.
 use Rattle.std.proofs.Common.{◌≡◌, ◌∙◌, sym, ap, refl, subst, ℕ, ◌+◌, ◌-◌, ◌<◌, ◌≤◌, inl, inr, Bool, true, false, if◌then◌else◌, List, [], ◌∷◌, ◌++◌, length, take, drop, Result, Ok, Err, OnErr, IfErr, arith}
-use Rattle.std.specs.Prelude.{◌≢◌, zero, suc}
+use Rattle.std.specs.Prelude.{zero, suc}
 use Rattle.std.proofs.Math.Seq.{drop-append_seam, take-append_seam}
 use Rattle.std.proofs.lemmas.List.{append_assoc, length-append}
 use Rattle.amqp_model.specs.declared.item.Item.{Item}
@@ -22,14 +22,6 @@ handed_more : (next : List Entry → Step → List Entry) (conn : ConnectionId) 
 handed_more next conn [] item t = refl
 handed_more next conn (i ∷ is) item t = handed_more next conn is item (next t (step_of (event.Item conn i)))
 
-one_at_most : (wrote : Bool) → (if wrote then 1 else 0) ≤ 1
-one_at_most true = omega arith
-one_at_most false = omega arith
-
-pub more_than_none : (n : ℕ) → n ≢ 0 → 0 < n
-more_than_none zero some = absurd (some refl)
-more_than_none (suc n) some = omega arith
-
 -- what is left behind a fault that is handed on
 pub on_fault : {T E : Type 0} (r : Result T E) (P : Type 0) → P → OnErr r P
 on_fault (Ok x) P is = tt
@@ -50,7 +42,8 @@ pub record IsFar {M : Type 0} (m : Meaning M) (conn : ConnectionId) (before behi
   pub queue : before ≡ items ++ behind
   pub turns : length items ≡ turn
   pub counted : has ≡ with_items turn had
-  pub room : 8 ≤ writes + turn
+  pub some : writes < 8 → 0 < turn
+  pub most : writes ≤ 8
   pub named : m.id new ≡ m.id old
   pub fits : (t : List Entry) → m.fits old t → m.fits new (handed (m.next (m.id old)) conn items t)
   pub batches : (t : List Entry) → m.fits old t → m.batches new + writes ≡ m.batches old + 8
@@ -66,7 +59,8 @@ at_first m conn before had core = record {
   queue = refl;
   turns = refl;
   counted = ap (λ (i : ℕ). record had { items = i }) (let same : had.items ≡ had.items + 0 = omega arith in same);
-  room = omega arith;
+  some = λ wrote. absurd (omega (arith, wrote));
+  most = omega arith;
   named = refl;
   fits = λ t fits. fits;
   batches = λ t fits. refl;
@@ -100,7 +94,8 @@ module _ {M : Type 0} (m : Meaning M) (conn : ConnectionId) (before behind : Lis
     turns = length-append far.items (item ∷ []) ∙ ap (λ n. n + 1) far.turns;
     counted = counted ∙ ap (with_event (event.Item conn item)) far.counted
         ∙ ap (λ (i : ℕ). record had { items = i }) (let same : (had.items + turn) + 1 ≡ had.items + (turn + 1) = omega arith in same);
-    room = let most : (if wrote then 1 else 0) ≤ 1 = one_at_most wrote in omega (arith, far.room, fewer, most);
+    some = λ _. omega arith;
+    most = omega (arith, far.most, fewer);
     named = named ∙ far.named;
     fits = λ t f. subst (λ (u : List Entry). m.fits new u)
         (ap (λ i. m.next i (handed (m.next (m.id old)) conn far.items t) (step_of (event.Item conn item))) far.named ∙ sym (handed_more (m.next (m.id old)) conn far.items item t))
@@ -178,15 +173,20 @@ module _ {M : Type 0} (m : Meaning M) (conn : ConnectionId) (before behind : Lis
   pub few_batches : (t : List Entry) → m.fits old t → m.batches core ≤ m.batches old + 8
   few_batches t f = omega (arith, far.batches t f)
 
-  -- eight wrote, or 64 were handed in
-  pub enough_written : writes ≡ 0 → Enough before behind
-  enough_written none = inr (omega (arith, lengths, far.room, none))
+  -- whether one wrote
+  pub writes_told : (told : Bool) → (told ≡ true → writes < 8) → (told ≡ false → 8 ≤ writes) → (t : List Entry) → m.fits old t
+      → (told ≡ true → m.batches old < m.batches core) × (told ≡ false → m.batches core ≡ m.batches old)
+  writes_told told some none t f = (λ is. omega (arith, far.batches t f, some is), λ is. omega (arith, far.batches t f, none is, far.most))
+
+  -- one to eight wrote, or 64 were handed in
+  pub enough_written : writes < 8 → Enough before behind
+  enough_written wrote = inr (omega (arith, lengths, far.some wrote))
 
   pub enough_turns : 64 ≤ turn → Enough before behind
   enough_turns most = inr (omega (arith, lengths, most))
 
-  pub stopped_written : writes ≡ 0 → (t : List Entry) → m.fits old t → Stopped before behind (m.batches old) (m.batches core)
-  stopped_written none t f = inr (inr (omega (arith, far.batches t f, none)))
+  pub stopped_written : writes < 8 → (t : List Entry) → m.fits old t → Stopped before behind (m.batches old) (m.batches core)
+  stopped_written wrote t f = inr (inr (omega (arith, far.batches t f, wrote), omega (arith, far.batches t f)))
 
   pub stopped_turns : turn ≡ 64 → Stopped before behind (m.batches old) (m.batches core)
   stopped_turns all = inr (inl (omega (arith, lengths, all)))

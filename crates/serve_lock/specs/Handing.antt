@@ -13,13 +13,13 @@ use Rattle.core_machine.specs.Turns.{declines}
 abbrev pub gone : List Item → List Item → List Item
 gone before behind = take (length before - length behind) before
 
--- at least eight of them left it, or all
+-- at least one of them left it, or all
 abbrev pub Enough : List Item → List Item → Type 0
-Enough before behind = (behind ≡ []) ⊎ (length behind + 8 ≤ length before)
+Enough before behind = (behind ≡ []) ⊎ (length behind < length before)
 
--- why no more of them left it: none is left, 64 left, or eight wrote to the journal, which had so many batches and has so many now
+-- why no more of them left it: none is left, 64 left, or one to eight wrote to the journal, which had so many batches and has so many now
 abbrev pub Stopped : List Item → List Item → ℕ → ℕ → Type 0
-Stopped before behind had has = (behind ≡ []) ⊎ (length behind + 64 ≡ length before) ⊎ (has ≡ had + 8)
+Stopped before behind had has = (behind ≡ []) ⊎ (length behind + 64 ≡ length before) ⊎ ((had < has) × (has ≤ had + 8))
 
 -- the trace after items of a connection were handled, each as an event of its own; the trace after an event is that of `next`
 abbrev pub handed : (Trace → Step → Trace) → ConnectionId → List Item → Trace → Trace

@@ -23,6 +23,7 @@ use amqp_model::Item;
 use core_machine::{Batch, CoreFault, Counts, Machine, take};
 use router_trace::{ConnectionId, Event};
 use std::collections::VecDeque;
+use std::sync::atomic::{AtomicU64, Ordering};
 
 /// The most items that are taken at a time, and that are handed in while the lock is taken once.
 const MOST: usize = 64;
@@ -135,13 +136,15 @@ impl<M: Machine, L: Log, G: Ledgers> Locked<M, L, G> {
     }
 
     /// Handles the items at the front of a queue, in order, each as an event of its own: all of them, but at most 64, and none after
-    /// one that is refused or the eighth that wrote to the journal. One that is refused is dropped.
+    /// one that is refused or the eighth that wrote to the journal; nor after the first that wrote, if threads wait for the lock, of
+    /// which `waiting` has the number. One that is refused is dropped. Returns whether one wrote.
     pub fn handle_items(
         &mut self,
         seat: &mut Seat<G>,
         conn: ConnectionId,
         items: &mut VecDeque<Item>,
-    ) -> Result<(), CoreFault>
+        waiting: &AtomicU64,
+    ) -> Result<bool, CoreFault>
         ensures handled { OnOk result (Handled 0 seat.old seat.new items.old.items items.new.items) }
         ensures refused { OnErr result (Handled 1 seat.old seat.new items.old.items items.new.items) }
         ensures enough { OnOk result (Enough items.old.items items.new.items) }
@@ -149,6 +152,7 @@ impl<M: Machine, L: Log, G: Ledgers> Locked<M, L, G> {
         // Exactly the items that left the queue were handled; and none is left without a reason.
         ensures fits { OnOk result ((t : Trace) → M.meaning.fits self.old.router t → M.meaning.fits self.new.router (handed (M.meaning.next (M.meaning.id self.old.router)) conn (gone items.old.items items.new.items) t)) }
         ensures stopped { OnOk result ((t : Trace) → M.meaning.fits self.old.router t → Stopped items.old.items items.new.items (M.meaning.batches self.old.router) (M.meaning.batches self.new.router)) }
+        ensures wrote { IfOk result (λ wrote. (t : Trace) → M.meaning.fits self.old.router t → (wrote ≡ true → M.meaning.batches self.old.router < M.meaning.batches self.new.router) × (wrote ≡ false → M.meaning.batches self.new.router ≡ M.meaning.batches self.old.router)) }
         ensures writes { OnOk result ((t : Trace) → M.meaning.fits self.old.router t → M.meaning.batches self.new.router ≤ M.meaning.batches self.old.router + 8) }
 
         // Which fault occurs, to the last item that left the queue, and what it leaves.
@@ -157,16 +161,16 @@ impl<M: Machine, L: Log, G: Ledgers> Locked<M, L, G> {
     {
         let mut writes = WRITES;
         for _turn in 0..MOST {
-            if writes == 0 {
-                return Ok(());
+            if gives_way(writes, waiting) {
+                return Ok(true);
             }
             let Some(item) = items.pop_front() else {
-                return Ok(());
+                return Ok(is_some_written(writes));
             };
             let wrote = self.handle(seat, Event::Item(conn, item))?;
             writes = left_of(writes, wrote);
         }
-        Ok(())
+        Ok(is_some_written(writes))
     }
 
     /// Handles one take.
@@ -254,6 +258,22 @@ impl<M: Machine, L: Log, G: Ledgers> Locked<M, L, G> {
             log,
         }
     }
+}
+
+/// Whether the lock is to be released, where so many more items may write to the journal, and so many threads wait for the lock.
+fn gives_way(writes: usize, waiting: &AtomicU64) -> bool
+    ensures wrote { result ≡ true → writes < 8 }
+    ensures left { result ≡ false → 0 < writes }
+{
+    writes == 0 || (writes < WRITES && waiting.load(Ordering::SeqCst) > 0)
+}
+
+/// Whether an item wrote to the journal, where so many more may.
+fn is_some_written(writes: usize) -> bool
+    ensures some { result ≡ true → writes < 8 }
+    ensures none { result ≡ false → 8 ≤ writes }
+{
+    writes < WRITES
 }
 
 /// How many more items may write to the journal, after one that wrote, or didn't.

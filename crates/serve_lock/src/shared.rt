@@ -17,7 +17,20 @@ use core_machine::{Batch, CoreFault, Machine};
 use router_trace::{ConnectionId, Event};
 use std::alloc::{AllocError, Global};
 use std::collections::VecDeque;
-use std::sync::{Condvar, Mutex, Wait};
+use std::sync::atomic::{AtomicBool, AtomicU64, Ordering};
+use std::sync::{Condvar, Mutex, MutexGuard, Wait};
+use std::time::Duration;
+
+/// How many seconds a thread sleeps at a bell at most, before it looks again.
+const LONG: u64 = 60;
+
+/// The bell of a connection.
+#[derive(Drop)]
+struct Bell {
+    rung: Condvar,
+    // whether an item that its connection handed in wrote to the journal
+    writes: AtomicBool,
+}
 
 /// The router under one lock, for threads that each have a seat. Whenever the lock is taken, the data under it is a router that
 /// failed, or one whose tables agree with one order of events and takes that contains each submit and each batch of a seat
@@ -25,7 +38,11 @@ use std::sync::{Condvar, Mutex, Wait};
 #[derive(Drop)]
 pub struct Shared<M: Machine, L: Log, G: Ledgers> {
     state: Mutex<Locked<M, L, G>>,
-    bells: Vec<Condvar>,
+    // how many threads wait for the lock that count as waiting
+    waiting: AtomicU64,
+    // rung by each of them once it has the lock
+    turn: Condvar,
+    bells: Vec<Bell>,
     ghost all_bells: { vec_len bells ≡ 256 },
 }
 
@@ -56,6 +73,8 @@ impl<M: Machine, L: Log, G: Ledgers> Shared<M, L, G> {
         let locked = Locked::new(core, Totals::new(blanks, seats), log);
         Ok(Shared {
             state: Mutex::new(locked),
+            waiting: AtomicU64::new(0),
+            turn: Condvar::new(),
             bells,
         })
     }
@@ -64,7 +83,7 @@ impl<M: Machine, L: Log, G: Ledgers> Shared<M, L, G> {
     pub fn seat<R: Wait>(&self, rt: &R) -> Option<Seat<G>>
         ensures { IfSome result (λ seat. seat ≡ uncounted) }
     {
-        self.state.lock(rt).seat()
+        self.lock(rt).seat()
     }
 
     /// Submits one event to the router, and wakes the writers that then have something to take. The seat counts the event exactly if
@@ -78,8 +97,11 @@ impl<M: Machine, L: Log, G: Ledgers> Shared<M, L, G> {
         ensures counted { OnOk result (seat.new ≡ with_event event seat.old) }
         ensures uncounted { OnErr result (seat.new ≡ seat.old) }
     {
+        if let Event::Up(conn, _) = &event {
+            self.writes(*conn, false);
+        }
         let lost = lost_by(&event);
-        let mut locked = self.state.lock(rt);
+        let mut locked = self.lock(rt);
         let done = locked.handle(seat, event);
         let woken = locked.wake(lost);
         drop(locked);
@@ -89,8 +111,9 @@ impl<M: Machine, L: Log, G: Ledgers> Shared<M, L, G> {
     }
 
     /// Submits the items at the front of a queue, in order, each as an event of its own, while the lock is taken once: up to 64 of them, and
-    /// none after one that is refused or the eighth that wrote to the journal. Then it wakes the writers that have something to take.
-    /// The seat counts exactly the items that left the queue, but for one that is refused, which is dropped.
+    /// none after one that is refused or the eighth that wrote to the journal, nor after the first if others wait for the lock. Then it wakes
+    /// the writers that have something to take, and lets one of those others have its turn. The seat counts exactly the items that left the
+    /// queue, but for one that is refused, which is dropped.
     pub fn submit_items<R: Wait>(
         &self,
         rt: &R,
@@ -102,12 +125,20 @@ impl<M: Machine, L: Log, G: Ledgers> Shared<M, L, G> {
         ensures refused { OnErr result (Handled 1 seat.old seat.new items.old.items items.new.items) }
         ensures enough { OnOk result (Enough items.old.items items.new.items) }
     {
-        let mut locked = self.state.lock(rt);
-        let done = locked.handle_items(seat, conn, items);
+        let mut locked = self.lock_for(rt, conn);
+        let done = locked.handle_items(seat, conn, items, &self.waiting);
         let woken = locked.wake(None);
+        let others = self.waiting.load(Ordering::SeqCst) > 0;
+        let turn = self.turn.notifications();
         drop(locked);
         self.ring(woken);
-        done
+        if done? {
+            self.writes(conn, true);
+            if others {
+                self.turn.sleep(rt, turn, Duration::from_secs(LONG));
+            }
+        }
+        Ok(())
     }
 
     /// Waits until a connection is ready, and takes up to 64 items from its outbox. The seat counts exactly the batches that it
@@ -129,19 +160,24 @@ impl<M: Machine, L: Log, G: Ledgers> Shared<M, L, G> {
         ensures uncounted { OnErr result (seat.new ≡ seat.old) }
         ensures no_disk { IfErr result (λ f. f ≡ DiskFailed → ⊥) }
     {
-        let bell = &self.bells[bell_of(conn)];
-        let mut locked = bell.wait_while(rt, self.state.lock(rt), |locked| locked.sleeps(conn));
-        locked.take(seat, conn)
+        let mut locked = self.lock_for(rt, conn);
+        for _turn in rt.forever() {
+            if !locked.sleeps(conn) {
+                return locked.take(seat, conn);
+            }
+            locked = self.sleep(rt, conn, locked);
+        }
+        unreachable!()
     }
 
     /// Whether a connection is up and the router didn't end it.
     pub fn is_live<R: Wait>(&self, rt: &R, conn: ConnectionId) -> bool {
-        self.state.lock(rt).is_live(conn)
+        self.lock(rt).is_live(conn)
     }
 
     /// Whether the router failed.
     pub fn is_failed<R: Wait>(&self, rt: &R) -> bool {
-        self.state.lock(rt).is_failed()
+        self.lock(rt).is_failed()
     }
 
     /// Adds up the counts of the seats that come back, beside the router's: if all seats came back, the sums equal these, number by number.
@@ -153,8 +189,55 @@ impl<M: Machine, L: Log, G: Ledgers> Shared<M, L, G> {
         ensures opened { ∥ IsFirstBatch M.meaning G.opening result.opened ∥₁ }
         ensures history { ∥ HasHistory M.meaning G.opening result.core ∥₁ }
     {
-        let Shared { state, bells: _ } = self;
+        let Shared {
+            state,
+            waiting: _,
+            turn: _,
+            bells: _,
+        } = self;
         state.into_inner().close(seats, receipts)
+    }
+
+    /// Notes whether what a connection handed in wrote to the journal.
+    fn writes(&self, conn: ConnectionId, writes: bool) {
+        self.bells[bell_of(conn)]
+            .writes
+            .store(writes, Ordering::SeqCst);
+    }
+
+    /// Takes the lock. A thread that waits for it counts as waiting.
+    fn lock<R: Wait>(&self, rt: &R) -> MutexGuard<'_, Locked<M, L, G>> {
+        if let Some(locked) = self.state.try_lock() {
+            return locked;
+        }
+        self.waiting.fetch_add(1, Ordering::SeqCst);
+        let locked = self.state.lock(rt);
+        self.waiting.fetch_sub(1, Ordering::SeqCst);
+        self.turn.notify_all();
+        locked
+    }
+
+    /// Takes the lock for a connection, whose threads don't count as waiting once an item that it handed in wrote to the journal.
+    fn lock_for<R: Wait>(&self, rt: &R, conn: ConnectionId) -> MutexGuard<'_, Locked<M, L, G>> {
+        if self.bells[bell_of(conn)].writes.load(Ordering::SeqCst) {
+            self.state.lock(rt)
+        } else {
+            self.lock(rt)
+        }
+    }
+
+    /// Releases the lock, sleeps until the bell of a connection is rung, and takes the lock again.
+    fn sleep<'b, R: Wait>(
+        &'b self,
+        rt: &R,
+        conn: ConnectionId,
+        locked: MutexGuard<'b, Locked<M, L, G>>,
+    ) -> MutexGuard<'b, Locked<M, L, G>> {
+        let bell = &self.bells[bell_of(conn)].rung;
+        let seen = bell.notifications();
+        drop(locked);
+        bell.sleep(rt, seen, Duration::from_secs(LONG));
+        self.lock_for(rt, conn)
     }
 
     /// Rings these bells.
@@ -163,19 +246,22 @@ impl<M: Machine, L: Log, G: Ledgers> Shared<M, L, G> {
         for _turn in 0..BELLS {
             match woken.pop() {
                 None => return,
-                Some(bell) => self.bells[bell].notify_all(),
+                Some(bell) => self.bells[bell].rung.notify_all(),
             }
         }
     }
 }
 
 /// One bell for each place.
-fn bells(alloc: Global) -> Result<Vec<Condvar>, AllocError>
+fn bells(alloc: Global) -> Result<Vec<Bell>, AllocError>
     ensures { IfOk result (λ bells. vec_len bells ≡ 256) }
 {
     let mut bells = Vec::with_capacity(alloc, BELLS)?;
     for _place in 0..BELLS {
-        bells.push(Condvar::new())?;
+        bells.push(Bell {
+            rung: Condvar::new(),
+            writes: AtomicBool::new(false),
+        })?;
     }
     Ok(bells)
 }
