@@ -1,5 +1,5 @@
 -- What a scan of a file finds on the way.
-use Rattle.std.specs.Prelude.{◌≡◌, ◌≢◌, ℕ, List, [], ◌∷◌, ◌++◌, length}
+use Rattle.std.specs.Prelude.{◌≡◌, ◌≢◌, ℕ, List, [], ◌++◌, length}
 use Rattle.book_model.specs.declared.act.Act.{Act}
 use Rattle.book_model.specs.declared.fault.BookFault.{BookFault}
 use Rattle.book_model.specs.declared.fault.BookFault.TheVariants as books
