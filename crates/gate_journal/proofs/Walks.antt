@@ -10,8 +10,8 @@ use Rattle.std.specs.Cmp.Lexicographic.{pointwise, bytes_decides}
 use Rattle.book_model.specs.Book.{BookView, empty_book, first_fault, effects}
 use Rattle.journal_codec.specs.Format.{magic, batch, front_from}
 use Rattle.journal_codec.specs.Batches.{IsBatch, NoneBegins, AllApply, book_after}
-use Rattle.gate_journal.specs.Opening.{NoBatch, IsDamagedFrom, IsDamagedAt, IsFoundFrom, Explains}
-use Rattle.gate_journal.specs.Scanning.{WalkedFrom, Walked, IsNoNext, refused_as}
+use Rattle.gate_journal.specs.Opening.{NoBatch, IsDamagedFrom, IsFoundFrom, Explains}
+use Rattle.gate_journal.specs.Scanning.{WalkedFrom, StopsFrom, IsNoNext, refused_as}
 use Rattle.gate_journal.proofs.Fronts.{front_none, front_more, all_more, book_more}
 use Rattle.journal_codec.proofs.Unique.{batch_unique}
 
@@ -109,13 +109,20 @@ refused_next inside behind book at acts books.AlreadyDecided first e is = (refl,
 refused_next inside behind book at acts books.TagInUse first e is = (refl, none_applies book inside behind acts books.TagInUse e is (first (λ m. absurd cc)))
 refused_next inside behind book at acts books.Limit first e is = (refl, none_applies book inside behind acts books.Limit e is (first (λ m. absurd cc)))
 
-pub next_explains : (file rest inside : List ℕ) (book : BookView) (count : ℕ) (fault : OpenFault) → Walked file rest book count → rest ≡ 1 ∷ inside
-    → IsNoNext book inside (length file - length rest) fault → Explains file fault
-next_explains file rest inside book count opening.Memory w e none = tt
-next_explains file rest inside book count (opening.Damaged place) w e none =
-    let P : ℕ → Type 0 = λ n. IsDamagedAt file n in subst P (sym none.0) (walk_damaged magic empty_book file rest inside book count w e none.1)
-next_explains file rest inside book count opening.NotAJournal w e none = absurd none
-next_explains file rest inside book count opening.Disk w e none = absurd none
+pub next_stops : (head : List ℕ) (start : BookView) (file rest inside : List ℕ) (book : BookView) (count : ℕ) (fault : OpenFault) → WalkedFrom head start file rest book count → rest ≡ 1 ∷ inside
+    → IsNoNext book inside (length file - length rest) fault → StopsFrom head start file fault
+next_stops head start file rest inside book count opening.Memory w e none = tt
+next_stops head start file rest inside book count (opening.Damaged place) w e none =
+    let P : ℕ → Type 0 = λ n. IsDamagedFrom head start file n in subst P (sym none.0) (walk_damaged head start file rest inside book count w e none.1)
+next_stops head start file rest inside book count opening.NotAJournal w e none = none
+next_stops head start file rest inside book count opening.Disk w e none = none
+
+-- why a journal's file gives no batches
+pub stops_explain : (file : List ℕ) (fault : OpenFault) → StopsFrom magic empty_book file fault → Explains file fault
+stops_explain file opening.Memory stops = tt
+stops_explain file (opening.Damaged place) stops = stops
+stops_explain file opening.NotAJournal stops = absurd stops
+stops_explain file opening.Disk stops = absurd stops
 
 pub next_never_disk : (book : BookView) (inside : List ℕ) (at : ℕ) (fault : OpenFault) → IsNoNext book inside at fault → fault ≡ opening.Disk → ⊥
 next_never_disk book inside at opening.Memory none e = absurd cc

@@ -7,7 +7,7 @@ use Rattle.gate_journal.specs.declared.fault.OpenFault.{OpenFault}
 use Rattle.gate_journal.specs.declared.fault.OpenFault.TheVariants as opening
 use Rattle.book_model.specs.Book.{BookView, empty_book}
 use Rattle.journal_codec.specs.Format.{magic, front_from}
-use Rattle.gate_journal.specs.Opening.{NoBatch}
+use Rattle.gate_journal.specs.Opening.{NoBatch, IsDamagedFrom}
 use Rattle.journal_codec.specs.Batches.{AllApply, book_after}
 
 -- In a file with this head, good batches above this book come before the rest, and give another book.
@@ -22,6 +22,17 @@ pub record WalkedFrom (head : List ℕ) (start : BookView) (bytes rest : List �
 -- In a journal they do.
 abbrev pub Walked : List ℕ → List ℕ → BookView → ℕ → Type 0
 Walked bytes rest book count = WalkedFrom magic empty_book bytes rest book count
+
+-- A file begins with this head, and something follows it: at least a gate.
+pub record BeginsWith (head file behind : List ℕ) : Type 0 where
+  pub is : file ≡ head ++ behind
+  pub some : behind ≢ []
+
+-- why a walk over a file with this head, above this book, gives no batches
+abbrev pub StopsFrom : List ℕ → BookView → List ℕ → OpenFault → Type 0
+StopsFrom head start file opening.Memory = Unit {0}
+StopsFrom head start file (opening.Damaged place) = IsDamagedFrom head start file place
+StopsFrom head start file _ = ⊥
 
 -- the fault of a file whose book refuses a batch
 abbrev pub refused_as : BookFault → ℕ → OpenFault

@@ -1,4 +1,4 @@
-use Rattle.gate_journal.proofs.Walks.{next_explains}
+use Rattle.gate_journal.proofs.Walks.{next_stops, stops_explain}
 use Rattle.gate_journal.proofs.Lists.{list_none, list_more, list_ends}
 use Rattle.gate_journal.proofs.listing.list_file.Goals as goal
 
@@ -6,7 +6,8 @@ pub loop-inside-init : goal.loop-inside-init
 loop-inside-init c = rw (c.empty-book.ensures, c.new-entries.ensures.items) (list_none _ _ _ _ c.in-Some.ensures.head c.in-Some.ensures.behind)
 
 pub returns-in-Err-clause-fault : goal.returns-in-Err-clause-fault
-returns-in-Err-clause-fault c = next_explains _ _ _ _ _ c.in-Err.fault c.loop-inside.invariant.walked c.in-Some-behind_gate.ensures.open_gate c.in-Err.ensures.fault
+returns-in-Err-clause-fault c = stops_explain _ c.in-Err.fault
+    (next_stops _ _ _ _ _ _ _ c.in-Err.fault c.loop-inside.invariant.walked c.in-Some-behind_gate.ensures.open_gate c.in-Err.ensures.fault)
 
 pub loop-inside-preserved : goal.loop-inside-preserved
 loop-inside-preserved c =

@@ -1,16 +1,16 @@
-use Rattle.gate_journal.proofs.Walks.{walk_none, walk_more, walk_ends, next_explains}
+use Rattle.std.proofs.Common.{Result, Ok, Err}
+use Rattle.std.specs.Prelude.{IfErr}
+use Rattle.book_model.specs.Book.{empty_book}
+use Rattle.journal_codec.specs.Format.{magic}
+use Rattle.gate_journal.specs.Scanning.{BeginsWith}
+use Rattle.gate_journal.proofs.Walks.{stops_explain}
 use Rattle.gate_journal.proofs.scan.scan.Goals as goal
 
-pub loop-inside-init : goal.loop-inside-init
-loop-inside-init c = rw c.empty-book.ensures (walk_none _ _ _ _ c.in-Some.ensures.head c.in-Some.ensures.behind)
+if_err : {T E : Type 0} (P Q : E → Type 0) (r : Result T E) → ((e : E) → P e → Q e) → IfErr r P → IfErr r Q
+if_err P Q (Ok x) f p = p
+if_err P Q (Err e) f p = f e p
 
-pub returns-in-Err-clause-fault : goal.returns-in-Err-clause-fault
-returns-in-Err-clause-fault c = next_explains _ _ _ _ _ c.in-Err.fault c.loop-inside.invariant c.in-Some-behind_gate.ensures.open_gate c.in-Err.ensures.fault
-
-pub loop-inside-preserved : goal.loop-inside-preserved
-loop-inside-preserved c =
-    walk_more _ _ _ _ _ _ _ _ _ _ c.in-Ok._acts.items c.loop-inside.invariant c.in-Some-behind_gate.ensures.open_gate c.in-Ok.ensures.spelled c.in-Ok.ensures.is_batch c.in-Ok.ensures.behind
-    c.in-Ok.ensures.applies c.in-Ok.ensures.applied c.in-Some-checked_add.ensures.1
-
-pub returns-clause-found : goal.returns-clause-found
-returns-clause-found c = walk_ends _ _ _ _ _ _ c.loop-inside.invariant c.in_default-behind_gate.ensures.shut_gate
+pub returns-clause-fault : goal.returns-clause-fault
+returns-clause-fault c =
+    let begins : BeginsWith magic c.args.bytes.now c.in-Some.behind.now = record { is = c.in-Some.ensures.head; some = c.in-Some.ensures.behind } in
+    if_err _ _ c.walk.result (λ fault stops. stops_explain c.args.bytes.now fault (rw c.empty.ensures at (stops magic begins))) c.walk.ensures.fault
