@@ -1,11 +1,11 @@
 -- The walk over the batches of a file.
-use Rattle.std.proofs.Common.{◌≡◌, ◌≢◌, ℕ, ◌+◌, ◌-◌, ◌≤◌, Bool, true, false, List, [], ◌∷◌, ◌++◌, length, None, Some, refl, sym, ap, ◌∙◌, subst, arith, append_assoc, length-append}
+use Rattle.std.proofs.Common.{◌≡◌, ◌≢◌, ℕ, ◌+◌, ◌-◌, ◌≤◌, Bool, true, false, List, [], ◌∷◌, ◌++◌, length, None, Some, Result, Ok, Err, refl, sym, ap, ◌∙◌, subst, arith, append_assoc, length-append}
 use Rattle.book_model.specs.declared.act.Act.{Act}
 use Rattle.book_model.specs.declared.fault.BookFault.{BookFault}
 use Rattle.book_model.specs.declared.fault.BookFault.TheVariants as books
 use Rattle.gate_journal.specs.declared.fault.OpenFault.{OpenFault}
 use Rattle.gate_journal.specs.declared.fault.OpenFault.TheVariants as opening
-use Rattle.std.specs.Prelude.{not, ◌==◌}
+use Rattle.std.specs.Prelude.{not, ◌==◌, IfErr}
 use Rattle.std.specs.Cmp.Lexicographic.{pointwise, bytes_decides}
 use Rattle.book_model.specs.Book.{BookView, empty_book, first_fault, effects}
 use Rattle.journal_codec.specs.Format.{magic, batch, front_from}
@@ -116,6 +116,10 @@ next_stops head start file rest inside book count (opening.Damaged place) w e no
     let P : ℕ → Type 0 = λ n. IsDamagedFrom head start file n in subst P (sym none.0) (walk_damaged head start file rest inside book count w e none.1)
 next_stops head start file rest inside book count opening.NotAJournal w e none = none
 next_stops head start file rest inside book count opening.Disk w e none = none
+
+pub if_err : {T E : Type 0} (P Q : E → Type 0) (r : Result T E) → ((e : E) → P e → Q e) → IfErr r P → IfErr r Q
+if_err P Q (Ok x) f p = p
+if_err P Q (Err e) f p = f e p
 
 -- why a journal's file gives no batches
 pub stops_explain : (file : List ℕ) (fault : OpenFault) → StopsFrom magic empty_book file fault → Explains file fault

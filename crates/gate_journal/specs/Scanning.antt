@@ -5,8 +5,8 @@ use Rattle.book_model.specs.declared.fault.BookFault.{BookFault}
 use Rattle.book_model.specs.declared.fault.BookFault.TheVariants as books
 use Rattle.gate_journal.specs.declared.fault.OpenFault.{OpenFault}
 use Rattle.gate_journal.specs.declared.fault.OpenFault.TheVariants as opening
-use Rattle.book_model.specs.Book.{BookView, empty_book}
-use Rattle.journal_codec.specs.Format.{magic, front_from}
+use Rattle.book_model.specs.Book.{BookView}
+use Rattle.journal_codec.specs.Format.{front_from}
 use Rattle.gate_journal.specs.Opening.{NoBatch, IsDamagedFrom}
 use Rattle.journal_codec.specs.Batches.{AllApply, book_after}
 
@@ -18,10 +18,6 @@ pub record WalkedFrom (head : List ℕ) (start : BookView) (bytes rest : List �
   pub valid : AllApply start batches
   pub book_is : book ≡ book_after start batches
   pub count_is : count ≡ length batches
-
--- In a journal they do.
-abbrev pub Walked : List ℕ → List ℕ → BookView → ℕ → Type 0
-Walked bytes rest book count = WalkedFrom magic empty_book bytes rest book count
 
 -- A file begins with this head, and something follows it: at least a gate.
 pub record BeginsWith (head file behind : List ℕ) : Type 0 where

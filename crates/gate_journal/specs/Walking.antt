@@ -1,17 +1,11 @@
--- What a walk that lists acts has listed so far.
+-- What a walk that lists acts has listed so far of a file with this head, above this book.
 use Rattle.std.specs.Prelude.{◌≡◌, ℕ, List, length}
-use Rattle.book_model.specs.Book.{BookView, empty_book}
+use Rattle.book_model.specs.Book.{BookView}
 use Rattle.gate_journal.specs.declared.listing.Entry.{Entry}
-use Rattle.journal_codec.specs.Format.{magic}
 use Rattle.gate_journal.specs.Listing.{entries_from}
 use Rattle.gate_journal.specs.Scanning.{WalkedFrom}
 
--- in a file with this head, above this book
 pub record ListedFrom (head : List ℕ) (start : BookView) (bytes rest : List ℕ) (book : BookView) (entries : List Entry) : Type 0 where
   pub count : ℕ
   pub walked : WalkedFrom head start bytes rest book count
   pub entries_are : entries ≡ entries_from (length head) walked.batches
-
--- in a journal
-abbrev pub Listed : List ℕ → List ℕ → BookView → List Entry → Type 0
-Listed bytes rest book entries = ListedFrom magic empty_book bytes rest book entries
