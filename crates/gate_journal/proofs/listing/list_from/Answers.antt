@@ -21,8 +21,8 @@ loop-inside-preserved c = (
     length-append (batch c.in-Ok.acts.items) c.in-Ok.behind.now,
   ),
   λ head begins.
-  list_more head _ _ _ _ _ _ _ _ _ c.in-Ok.acts.items (c.loop-inside.invariant.1 head begins) c.in-Some.ensures.open_gate c.in-Ok.ensures.spelled c.in-Ok.ensures.is_batch c.in-Ok.ensures.behind
-  c.in-Ok.ensures.applies c.in-Ok.ensures.applied c.in_ok-add-in-Ok.ensures,
+      list_more head _ _ _ _ _ _ _ _ _ c.in-Ok.acts.items (c.loop-inside.invariant.1 head begins) c.in-Some.ensures.open_gate c.in-Ok.ensures.spelled c.in-Ok.ensures.is_batch c.in-Ok.ensures.behind
+      c.in-Ok.ensures.applies c.in-Ok.ensures.applied c.in_ok-add-in-Ok.ensures,
 )
 
 pub returns-clause-listed : goal.returns-clause-listed

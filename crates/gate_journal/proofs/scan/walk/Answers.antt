@@ -20,8 +20,8 @@ loop-inside-preserved c = (
     length-append (batch c.in-Ok._acts.items) c.in-Ok.behind.now,
   ),
   λ head begins.
-  walk_more head _ _ _ _ _ _ _ _ _ c.in-Ok._acts.items (c.loop-inside.invariant.1 head begins) c.in-Some.ensures.open_gate c.in-Ok.ensures.spelled c.in-Ok.ensures.is_batch c.in-Ok.ensures.behind
-  c.in-Ok.ensures.applies c.in-Ok.ensures.applied c.in-Some-checked_add.ensures.1,
+      walk_more head _ _ _ _ _ _ _ _ _ c.in-Ok._acts.items (c.loop-inside.invariant.1 head begins) c.in-Some.ensures.open_gate c.in-Ok.ensures.spelled c.in-Ok.ensures.is_batch c.in-Ok.ensures.behind
+      c.in-Ok.ensures.applies c.in-Ok.ensures.applied c.in-Some-checked_add.ensures.1,
 )
 
 pub returns-clause-found : goal.returns-clause-found
