@@ -9,11 +9,11 @@ use Rattle.book_model.specs.declared.fault.BookFault.{BookFault}
 use Rattle.book_model.specs.Book.{BookView, empty_book, first_fault, effects}
 use Rattle.gate_journal.specs.declared.fault.OpenFault.TheVariants.{NotAJournal}
 use Rattle.journal_codec.specs.declared.read.ReadFault.{ReadFault}
-use Rattle.journal_codec.specs.Format.{magic, in_4, acts_bytes, batch, front}
-use Rattle.journal_codec.specs.Batches.{AreWritable, IsBatch, NoActs, Holds}
-use Rattle.gate_journal.specs.Opening.{NoBatch, IsDamagedAt, Explains}
+use Rattle.journal_codec.specs.Format.{magic, in_4, acts_bytes, batch, front_from}
+use Rattle.journal_codec.specs.Batches.{AreWritable, IsBatch, NoActs, HoldsFrom, Holds}
+use Rattle.gate_journal.specs.Opening.{NoBatch, IsDamagedFrom, IsDamagedAt, Explains}
 use Rattle.journal_codec.specs.Reading.{act_at, inside_at}
-use Rattle.gate_journal.specs.Scanning.{Walked}
+use Rattle.gate_journal.specs.Scanning.{WalkedFrom}
 use Rattle.journal_codec.proofs.Tools.{AreBytes, bytes_behind, bytes_take, by_test, is_less, is_not_less}
 use Rattle.journal_codec.proofs.Scans.{no_more, none_fails, read_more, read_shorter, none_of_acts, inside_forth, batch_is, is_batch}
 use Rattle.gate_journal.proofs.Walks.{walk_none, walk_more, walk_damaged, walk_ends, none_reads, none_applies, by_rest}
@@ -88,33 +88,40 @@ decide_batch b bytes are =
     (decide_acts (length inside) inside [] inside are_inside (omega arith) refl tt))
     (λ fault read. inr (none_reads b bytes (none_fails bytes fault read)))
 
--- Batches up to a closed gate, or up to no batch.
-abbrev pub IsJudged : List ℕ → Type 0
-IsJudged file = ((bs : List (List Act)) × Holds file bs) ⊎ ((place : ℕ) × IsDamagedAt file place)
+-- A file with a head, above a book.
+module _ (head : List ℕ) (start : BookView) where
+  -- Batches up to a closed gate, or up to no batch.
+  abbrev pub IsJudged : List ℕ → Type 0
+  IsJudged file = ((bs : List (List Act)) × HoldsFrom head start file bs) ⊎ ((place : ℕ) × IsDamagedFrom head start file place)
 
-decide_rest : (fuel : ℕ) (file rest : List ℕ) (b : BookView) (count : ℕ) → AreBytes file → length rest ≤ fuel → Walked file rest b count → IsJudged file
-decide_rest zero file rest b count are short w = by_list rest (λ none. absurd (w.some none)) (λ some. absurd (omega (arith, some, short)))
-decide_rest (suc fuel) file rest b count are short w =
-    let parts = by_rest rest w.some in
-    let gate = parts.0 in
-    let behind = parts.1 in
-    by_number gate 1
-    (λ is_open.
-    let e : rest ≡ 1 ∷ behind = parts.2 ∙ ap (λ (g : ℕ). g ∷ behind) is_open in
-    let are_behind = are_back rest (1 ∷ []) behind e (are_back file (front w.batches) rest w.is are) in
-    ⊎_elim
-    (λ next.
-    decide_rest fuel file next.behind (effects b next.acts) (count + 1) are
-    (omega (arith, short, ap length e, ap length next.is, length-append (batch next.acts) next.behind))
-    (walk_more file rest behind next.behind b (effects b next.acts) count (count + 1) next.acts w e next.is next.is_batch next.some next.applies refl refl))
-    (λ none. inr (length file - length rest, walk_damaged file rest behind b count w e none))
-    (decide_batch b behind are_behind))
-    (λ is_shut.
-    let found = walk_ends file rest b count w (λ g r e. let same : gate ≡ g = gates gate g behind r (sym parts.2 ∙ e) in (λ one. is_shut (same ∙ one))) in
-    inl (found.batches, found.holds))
-  where
-    gates : (a b : ℕ) (r s : List ℕ) → a ∷ r ≡ b ∷ s → a ≡ b
-    gates a b r s e = cc
+  decide_rest : (fuel : ℕ) (file rest : List ℕ) (b : BookView) (count : ℕ) → AreBytes file → length rest ≤ fuel → WalkedFrom head start file rest b count → IsJudged file
+  decide_rest zero file rest b count are short w = by_list rest (λ none. absurd (w.some none)) (λ some. absurd (omega (arith, some, short)))
+  decide_rest (suc fuel) file rest b count are short w =
+      let parts = by_rest rest w.some in
+      let gate = parts.0 in
+      let behind = parts.1 in
+      by_number gate 1
+      (λ is_open.
+      let e : rest ≡ 1 ∷ behind = parts.2 ∙ ap (λ (g : ℕ). g ∷ behind) is_open in
+      let are_behind = are_back rest (1 ∷ []) behind e (are_back file (front_from head w.batches) rest w.is are) in
+      ⊎_elim
+      (λ next.
+      decide_rest fuel file next.behind (effects b next.acts) (count + 1) are
+      (omega (arith, short, ap length e, ap length next.is, length-append (batch next.acts) next.behind))
+      (walk_more head start file rest behind next.behind b (effects b next.acts) count (count + 1) next.acts w e next.is next.is_batch next.some next.applies refl refl))
+      (λ none. inr (length file - length rest, walk_damaged head start file rest behind b count w e none))
+      (decide_batch b behind are_behind))
+      (λ is_shut.
+      let found = walk_ends head start file rest b count w (λ g r e. let same : gate ≡ g = gates gate g behind r (sym parts.2 ∙ e) in (λ one. is_shut (same ∙ one))) in
+      inl (found.batches, found.holds))
+    where
+      gates : (a b : ℕ) (r s : List ℕ) → a ∷ r ≡ b ∷ s → a ≡ b
+      gates a b r s e = cc
+
+  -- a file with that head, and a gate at least
+  pub judged_from : (file behind : List ℕ) → ((place : ℕ) → get_or file place 0 < 256) → file ≡ head ++ behind → behind ≢ [] → IsJudged file
+  judged_from file behind are e some =
+      decide_rest (length behind) file behind start 0 (record { each = are }) (omega arith) (walk_none head start file behind e some)
 
 pub judged : (file : List ℕ) → ((place : ℕ) → get_or file place 0 < 256) → ((bs : List (List Act)) × Holds file bs) ⊎ (((place : ℕ) × IsDamagedAt file place) ⊎ Explains file NotAJournal)
 judged file are =
@@ -126,6 +133,6 @@ judged file are =
     (λ u.
     let head : take 8 file ≡ magic = (bytes_decides (take 8 file) magic).0 u in
     let e : file ≡ magic ++ drop 8 file = sym (take-append-drop 8 file) ∙ ap (λ (l : List ℕ). l ++ drop 8 file) head in
-    let w = walk_none file (drop 8 file) e (λ none. absurd (omega (arith, long, ap length none, length-drop 8 file))) in
-    ⊎_elim (λ holds. inl holds) (λ damaged. inr (inl damaged)) (decide_rest (length (drop 8 file)) file (drop 8 file) empty_book 0 (record { each = are }) (omega arith) w))
+    let some : drop 8 file ≢ [] = λ none. absurd (omega (arith, long, ap length none, length-drop 8 file)) in
+    ⊎_elim (λ holds. inl holds) (λ damaged. inr (inl damaged)) (judged_from magic empty_book file (drop 8 file) are e some))
     (λ u. inr (inr (inr (λ head. absurd (let yes = (bytes_decides (take 8 file) magic).1 head in cc))))))

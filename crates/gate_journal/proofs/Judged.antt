@@ -4,9 +4,9 @@ use Rattle.std.proofs.lemmas.List.{append_cancel_left}
 use Rattle.book_model.specs.declared.act.Act.{Act}
 use Rattle.book_model.specs.Book.{BookView, empty_book, effects}
 use Rattle.gate_journal.specs.declared.fault.OpenFault.TheVariants.{NotAJournal}
-use Rattle.journal_codec.specs.Format.{magic, batch, blocks, front}
-use Rattle.journal_codec.specs.Batches.{AllApply, Holds, book_after}
-use Rattle.gate_journal.specs.Opening.{Begins, NoBatch, IsDamagedAt, Explains}
+use Rattle.journal_codec.specs.Format.{magic, batch, blocks, front_from, front}
+use Rattle.journal_codec.specs.Batches.{AllApply, HoldsFrom, Holds, book_after}
+use Rattle.gate_journal.specs.Opening.{Begins, NoBatch, IsDamagedFrom, IsDamagedAt, Explains}
 use Rattle.journal_codec.proofs.Unique.{batch_unique}
 
 byte_same : (a b : ℕ) (r s : List ℕ) → a ∷ r ≡ b ∷ s → a ≡ b
@@ -73,19 +73,28 @@ breaks_once b (x ∷ xs) (y ∷ ys) r s all all' none none' e =
     let rest = breaks_once (effects b y) xs ys r s (subst P same.acts all.2) all'.2 (subst Q same.acts none) none' same.rests in
     ap (λ (l : List (List Act)). x ∷ l) rest ∙ ap (λ (z : List Act). z ∷ ys) same.acts
 
-behind_magic : (xs ys : List (List Act)) (g h : ℕ) (r s file : List ℕ) → file ≡ front xs ++ g ∷ r → file ≡ front ys ++ h ∷ s → blocks xs ++ g ∷ r ≡ blocks ys ++ h ∷ s
-behind_magic xs ys g h r s file e f =
-    append_cancel_left magic (blocks xs ++ g ∷ r) (blocks ys ++ h ∷ s)
-    (sym (append_assoc magic (blocks xs) (g ∷ r)) ∙ sym e ∙ f ∙ append_assoc magic (blocks ys) (h ∷ s))
+behind_head : (head : List ℕ) (xs ys : List (List Act)) (g h : ℕ) (r s file : List ℕ) → file ≡ front_from head xs ++ g ∷ r → file ≡ front_from head ys ++ h ∷ s → blocks xs ++ g ∷ r ≡ blocks ys ++ h ∷ s
+behind_head head xs ys g h r s file e f =
+    append_cancel_left head (blocks xs ++ g ∷ r) (blocks ys ++ h ∷ s)
+    (sym (append_assoc head (blocks xs) (g ∷ r)) ∙ sym e ∙ f ∙ append_assoc head (blocks ys) (h ∷ s))
 
+-- A file with a head, above a book.
+module _ (head : List ℕ) (start : BookView) where
+  pub whole_or_damaged : (file : List ℕ) (bs : List (List Act)) (place : ℕ) → HoldsFrom head start file bs → IsDamagedFrom head start file place → ⊥
+  whole_or_damaged file bs place h d =
+      ends_or_breaks start bs d.batches h.gate h.rest d.rest h.shut h.valid d.valid d.no_batch (behind_head head bs d.batches h.gate 1 h.rest d.rest file h.is d.is)
+
+  pub one_damage : (file : List ℕ) (first second : ℕ) → IsDamagedFrom head start file first → IsDamagedFrom head start file second → first ≡ second
+  one_damage file first second d e =
+      let same = breaks_once start d.batches e.batches d.rest e.rest d.valid e.valid d.no_batch e.no_batch (behind_head head d.batches e.batches 1 1 d.rest e.rest file d.is e.is) in
+      d.is_place ∙ ap (λ (bs : List (List Act)). length (front_from head bs)) same ∙ sym e.is_place
+
+-- a journal
 pub holds_or_damaged : (file : List ℕ) (bs : List (List Act)) (place : ℕ) → Holds file bs → IsDamagedAt file place → ⊥
-holds_or_damaged file bs place h d =
-    ends_or_breaks empty_book bs d.batches h.gate h.rest d.rest h.shut h.valid d.valid d.no_batch (behind_magic bs d.batches h.gate 1 h.rest d.rest file h.is d.is)
+holds_or_damaged = whole_or_damaged magic empty_book
 
 pub one_place : (file : List ℕ) (first second : ℕ) → IsDamagedAt file first → IsDamagedAt file second → first ≡ second
-one_place file first second d e =
-    let same = breaks_once empty_book d.batches e.batches d.rest e.rest d.valid e.valid d.no_batch e.no_batch (behind_magic d.batches e.batches 1 1 d.rest e.rest file d.is e.is) in
-    d.is_place ∙ ap (λ (bs : List (List Act)). length (front bs)) same ∙ sym e.is_place
+one_place = one_damage magic empty_book
 
 has_magic : (file : List ℕ) (bs : List (List Act)) (gate : ℕ) (rest : List ℕ) → file ≡ front bs ++ gate ∷ rest → (length file < 9) ⊎ (take 8 file ≢ magic) → ⊥
 has_magic file bs gate rest e none =

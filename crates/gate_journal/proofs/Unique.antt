@@ -3,9 +3,9 @@ use Rattle.std.proofs.Common.{◌≡◌, ◌≢◌, ℕ, ◌+◌, List, [], ◌�
 use Rattle.std.proofs.lemmas.List.{append_cancel_left}
 use Rattle.book_model.specs.declared.act.Act.{Act}
 use Rattle.book_model.specs.Book.{BookView, empty_book, effects}
-use Rattle.journal_codec.specs.Format.{magic, batch, blocks, front}
-use Rattle.journal_codec.specs.Batches.{AllApply, Holds}
-use Rattle.gate_journal.specs.Opening.{IsFound}
+use Rattle.journal_codec.specs.Format.{magic, batch, blocks, front_from}
+use Rattle.journal_codec.specs.Batches.{AllApply, HoldsFrom, Holds}
+use Rattle.gate_journal.specs.Opening.{IsFoundFrom}
 use Rattle.journal_codec.proofs.Unique.{batch_unique}
 
 -- Batches up to a gate that isn't open.
@@ -21,15 +21,21 @@ blocks_unique b (x ∷ xs) (y ∷ ys) g h r s shut shut' all all' e =
     let rest = blocks_unique (effects b x) xs ys g h r s shut shut' all.2 (subst P (sym same.acts) all'.2) same.rests in
     ap (λ (l : List (List Act)). x ∷ l) rest ∙ ap (λ (z : List Act). z ∷ ys) same.acts
 
-pub holds_unique : (file : List ℕ) (xs ys : List (List Act)) → Holds file xs → Holds file ys → xs ≡ ys
-holds_unique file xs ys h i =
-    blocks_unique empty_book xs ys h.gate i.gate h.rest i.rest h.shut i.shut h.valid i.valid
-    (append_cancel_left magic (blocks xs ++ h.gate ∷ h.rest) (blocks ys ++ i.gate ∷ i.rest)
-    (sym (append_assoc magic (blocks xs) (h.gate ∷ h.rest)) ∙ sym h.is ∙ i.is ∙ append_assoc magic (blocks ys) (i.gate ∷ i.rest)))
+-- A file with a head, above a book.
+module _ (head : List ℕ) (start : BookView) where
+  pub one_list_from : (file : List ℕ) (xs ys : List (List Act)) → HoldsFrom head start file xs → HoldsFrom head start file ys → xs ≡ ys
+  one_list_from file xs ys h i =
+      blocks_unique start xs ys h.gate i.gate h.rest i.rest h.shut i.shut h.valid i.valid
+      (append_cancel_left head (blocks xs ++ h.gate ∷ h.rest) (blocks ys ++ i.gate ∷ i.rest)
+      (sym (append_assoc head (blocks xs) (h.gate ∷ h.rest)) ∙ sym h.is ∙ i.is ∙ append_assoc head (blocks ys) (i.gate ∷ i.rest)))
 
--- the length of what was found in a file, by whichever batches it holds
-pub found_length : (bytes file : List ℕ) (book : BookView) (place count : ℕ) (bs : List (List Act)) → IsFound bytes book place count → bytes ≡ file → Holds file bs
-    → place + 1 ≡ length (front bs) + 1
-found_length bytes file book place count bs found same holds =
-    let one = holds_unique file found.batches bs (subst (λ (f : List ℕ). Holds f found.batches) same found.holds) holds in
-    ap (λ (n : ℕ). n + 1) (found.is_place ∙ ap (λ (b : List (List Act)). length (front b)) one)
+  -- the length of what was found in a file, by whichever batches it holds
+  pub found_length : (bytes file : List ℕ) (book : BookView) (place count : ℕ) (bs : List (List Act)) → IsFoundFrom head start bytes book place count → bytes ≡ file → HoldsFrom head start file bs
+      → place + 1 ≡ length (front_from head bs) + 1
+  found_length bytes file book place count bs found same holds =
+      let one = one_list_from file found.batches bs (subst (λ (f : List ℕ). HoldsFrom head start f found.batches) same found.holds) holds in
+      ap (λ (n : ℕ). n + 1) (found.is_place ∙ ap (λ (b : List (List Act)). length (front_from head b)) one)
+
+-- a journal
+pub holds_unique : (file : List ℕ) (xs ys : List (List Act)) → Holds file xs → Holds file ys → xs ≡ ys
+holds_unique = one_list_from magic empty_book

@@ -11,7 +11,3 @@ placed place acts = map (λ act. record { place = place; act = act }) acts
 unfoldable pub entries_from : ℕ → List (List Act) → List Entry
 entries_from place [] = []
 entries_from place (acts ∷ bs) = placed place acts ++ entries_from (place + 1 + length (batch acts)) bs
-
--- those of a whole journal
-abbrev pub entries_of : List (List Act) → List Entry
-entries_of bs = entries_from 8 bs

@@ -1,9 +1,10 @@
 //! The acts of a journal, one by one.
-ghost use Rattle.std.specs.Prelude.{◌≡◌, ◌<◌, ◌++◌, OnOk, IfOk, IfErr, IsErrOf};
+ghost use Rattle.std.specs.Prelude.{◌≡◌, ◌<◌, ◌≤◌, ◌++◌, List, ℕ, length, OnOk, IfOk, IfErr, IsErrOf};
 ghost use Rattle.disk_core.specs.Disk.{NoMore, Only, LeavesOnly};
 ghost use Rattle.gate_journal.specs.Opening.{Explains};
 ghost use Rattle.gate_journal.specs.Listing.{placed};
-ghost use Rattle.gate_journal.specs.Listed.{IsListed};
+ghost use Rattle.gate_journal.specs.Listed.{IsListedFrom, IsListed};
+ghost use Rattle.gate_journal.specs.Scanning.{BeginsWith, StopsFrom};
 
 use crate::fault::OpenFault;
 use crate::scan::{behind_gate, behind_head, next_batch};
@@ -43,16 +44,22 @@ fn add(entries: &mut Vec<Entry>, place: usize, acts: Vec<Act>) -> Result<(), All
     Ok(())
 }
 
-/// The acts of a file.
-fn list_file(alloc: Global, bytes: &[u8]) -> Result<Listing, OpenFault>
-    ensures listed { IfOk result (λ l. IsListed bytes.now l.entries.items l.place l.book) }
-    ensures fault { IfErr result (Explains bytes.now) }
+/// The acts of a file's batches above a book, from the gate behind its head.
+fn list_from(
+    alloc: Global,
+    start: Book,
+    bytes: &[u8],
+    from_gate: &[u8],
+) -> Result<Listing, OpenFault>
+    requires within { length from_gate.now ≤ length bytes.now }
+    ensures listed { IfOk result (λ l. (head : List ℕ) → BeginsWith head bytes.now from_gate.now
+        → IsListedFrom head start bytes.now l.entries.items l.place l.book) }
+    ensures fault { IfErr result (λ f. (head : List ℕ) → BeginsWith head bytes.now from_gate.now
+        → StopsFrom head start bytes.now f) }
     ensures never_disk { IsErrOf result OpenFault.Disk → ⊥ }
 {
-    let Some(mut rest) = behind_head(bytes) else {
-        return Err(OpenFault::NotAJournal);
-    };
-    let mut book = Book::empty(alloc);
+    let mut book = start;
+    let mut rest = from_gate;
     let mut entries = Vec::new(alloc);
     while let Some(inside) = behind_gate(rest) {
         let at = bytes.len() - rest.len();
@@ -70,6 +77,18 @@ fn list_file(alloc: Global, bytes: &[u8]) -> Result<Listing, OpenFault>
         place,
         book,
     })
+}
+
+/// The acts of a journal's file.
+fn list_file(alloc: Global, bytes: &[u8]) -> Result<Listing, OpenFault>
+    ensures listed { IfOk result (λ l. IsListed bytes.now l.entries.items l.place l.book) }
+    ensures fault { IfErr result (Explains bytes.now) }
+    ensures never_disk { IsErrOf result OpenFault.Disk → ⊥ }
+{
+    let Some(behind) = behind_head(bytes) else {
+        return Err(OpenFault::NotAJournal);
+    };
+    list_from(alloc, Book::empty(alloc), bytes, behind)
 }
 
 /// Lists a journal: each act with the place of its batch's gate. It begins with a sync, as opening does, and changes nothing.

@@ -1,11 +1,11 @@
 //! The batches of a file, one after another.
-ghost use Rattle.std.specs.Prelude.{◌≡◌, ◌≢◌, ◌++◌, [], ◌∷◌, List, ℕ, ◌<◌, ◌⊎◌, length, take, None, IfNone, IfSome, IfOk, IfErr, IsErrOf};
+ghost use Rattle.std.specs.Prelude.{◌≡◌, ◌≢◌, ◌++◌, [], ◌∷◌, List, ℕ, ◌<◌, ◌≤◌, ◌⊎◌, length, take, None, IfNone, IfSome, IfOk, IfErr, IsErrOf};
 ghost use Rattle.book_model.specs.declared.act.Act.{Act};
 ghost use Rattle.book_model.specs.Book.{first_fault, effects};
 ghost use Rattle.journal_codec.specs.Format.{magic, batch};
 ghost use Rattle.journal_codec.specs.Batches.{IsBatch};
-ghost use Rattle.gate_journal.specs.Opening.{Explains, IsFound};
-ghost use Rattle.gate_journal.specs.Scanning.{IsNoNext, refused_as};
+ghost use Rattle.gate_journal.specs.Opening.{Explains, IsFoundFrom, IsFound};
+ghost use Rattle.gate_journal.specs.Scanning.{BeginsWith, StopsFrom, IsNoNext, refused_as};
 
 use crate::fault::OpenFault;
 use book_core::Book;
@@ -88,16 +88,22 @@ pub(crate) struct Found {
     pub(crate) count: u64,
 }
 
-/// The batches of a file: up to the first gate that isn't open.
-pub(crate) fn scan(alloc: Global, bytes: &[u8]) -> Result<Found, OpenFault>
-    ensures found { IfOk result (λ f. IsFound bytes.now f.book f.place f.count) }
-    ensures fault { IfErr result (Explains bytes.now) }
+/// The batches of a file above a book, from the gate behind its head: up to the first gate that isn't open.
+pub(crate) fn walk(
+    alloc: Global,
+    start: Book,
+    bytes: &[u8],
+    from_gate: &[u8],
+) -> Result<Found, OpenFault>
+    requires within { length from_gate.now ≤ length bytes.now }
+    ensures found { IfOk result (λ f. (head : List ℕ) → BeginsWith head bytes.now from_gate.now
+        → IsFoundFrom head start bytes.now f.book f.place f.count) }
+    ensures fault { IfErr result (λ f. (head : List ℕ) → BeginsWith head bytes.now from_gate.now
+        → StopsFrom head start bytes.now f) }
     ensures never_disk { IsErrOf result OpenFault.Disk → ⊥ }
 {
-    let Some(mut rest) = behind_head(bytes) else {
-        return Err(OpenFault::NotAJournal);
-    };
-    let mut book = Book::empty(alloc);
+    let mut book = start;
+    let mut rest = from_gate;
     let mut count = 0u64;
     while let Some(inside) = behind_gate(rest) {
         let at = bytes.len() - rest.len();
@@ -114,4 +120,16 @@ pub(crate) fn scan(alloc: Global, bytes: &[u8]) -> Result<Found, OpenFault>
     }
     let place = bytes.len() - rest.len();
     Ok(Found { book, place, count })
+}
+
+/// The batches of a journal's file.
+pub(crate) fn scan(alloc: Global, bytes: &[u8]) -> Result<Found, OpenFault>
+    ensures found { IfOk result (λ f. IsFound bytes.now f.book f.place f.count) }
+    ensures fault { IfErr result (Explains bytes.now) }
+    ensures never_disk { IsErrOf result OpenFault.Disk → ⊥ }
+{
+    let Some(behind) = behind_head(bytes) else {
+        return Err(OpenFault::NotAJournal);
+    };
+    walk(alloc, Book::empty(alloc), bytes, behind)
 }

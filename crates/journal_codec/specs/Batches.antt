@@ -11,7 +11,7 @@ use Rattle.book_model.specs.declared.act.Admission.{Admission}
 use Rattle.book_model.specs.declared.terminus.Terminus.{Terminus}
 use Rattle.book_model.specs.declared.terminus.TerminusNumber.{TerminusNumber}
 use Rattle.book_model.specs.Book.{BookView, empty_book, first_fault, effects}
-use Rattle.journal_codec.specs.Format.{acts_bytes, batch, front, or_zero}
+use Rattle.journal_codec.specs.Format.{magic, acts_bytes, batch, front_from, or_zero}
 
 -- a text whose length fits into two bytes
 pub record IsText (text : List ℕ) : Type 0 where
@@ -90,13 +90,17 @@ unfoldable pub book_after : BookView → List (List Act) → BookView
 book_after b [] = b
 book_after b (acts ∷ bs) = book_after (effects b acts) bs
 
--- A file holds batches: open gates with them, then a gate that isn't open (1 is open), then anything.
-pub record Holds (file : List ℕ) (bs : List (List Act)) : Type 0 where
+-- A file with this head holds batches above this book: open gates with them, then a gate that isn't open (1 is open), then anything.
+pub record HoldsFrom (head : List ℕ) (start : BookView) (file : List ℕ) (bs : List (List Act)) : Type 0 where
   pub gate : ℕ
   pub rest : List ℕ
   pub shut : gate ≢ 1
-  pub is : file ≡ front bs ++ gate ∷ rest
-  pub valid : AllApply empty_book bs
+  pub is : file ≡ front_from head bs ++ gate ∷ rest
+  pub valid : AllApply start bs
+
+-- A journal does: its head is the magic, and it begins with the empty book.
+abbrev pub Holds : List ℕ → List (List Act) → Type 0
+Holds file bs = HoldsFrom magic empty_book file bs
 
 -- Of what a batch needs, the part that the acts' numbers and lengths don't show: that an outcome is one, and that a
 -- terminus has a number above 0.
@@ -118,9 +122,13 @@ abbrev pub HaveTermini : List Act → Type 0
 HaveTermini [] = Unit {0}
 HaveTermini (act ∷ acts) = HasTerminus act × HaveTermini acts
 
--- a batch that applies after these batches
-pub record IsNext (bs : List (List Act)) (acts : List Act) : Type 0 where
+-- a batch that applies after these batches above a book
+pub record IsNextFrom (start : BookView) (bs : List (List Act)) (acts : List Act) : Type 0 where
   pub some : acts ≢ []
   pub small : length (acts_bytes acts) ≤ 4194304
   pub outcomes : HaveOutcomes acts
-  pub applies : first_fault (book_after empty_book bs) acts ≡ None
+  pub applies : first_fault (book_after start bs) acts ≡ None
+
+-- one that does in a journal
+abbrev pub IsNext : List (List Act) → List Act → Type 0
+IsNext bs acts = IsNextFrom empty_book bs acts

@@ -68,9 +68,13 @@ unfoldable pub blocks : List (List Act) → List ℕ
 blocks [] = []
 blocks (acts ∷ bs) = 1 ∷ (batch acts ++ blocks bs)
 
--- all of a journal's bytes before the gate that ends it
+-- all of the bytes before the gate that ends a file with this head
+abbrev pub front_from : List ℕ → List (List Act) → List ℕ
+front_from head bs = head ++ blocks bs
+
+-- those of a journal, whose head is the magic
 abbrev pub front : List (List Act) → List ℕ
-front bs = magic ++ blocks bs
+front bs = front_from magic bs
 
 -- a journal of no batches, as it is made: nine bytes
 abbrev pub fresh : List ℕ

@@ -1,16 +1,9 @@
-use Rattle.gate_journal.proofs.Walks.{walk_none, walk_more, walk_ends, next_explains}
+use Rattle.journal_codec.specs.Format.{magic}
+use Rattle.gate_journal.specs.Scanning.{BeginsWith}
+use Rattle.gate_journal.proofs.Walks.{if_err, stops_explain}
 use Rattle.gate_journal.proofs.scan.scan.Goals as goal
 
-pub loop-inside-init : goal.loop-inside-init
-loop-inside-init c = rw c.empty-book.ensures (walk_none _ _ c.in-Some.ensures.head c.in-Some.ensures.behind)
-
-pub returns-in-Err-clause-fault : goal.returns-in-Err-clause-fault
-returns-in-Err-clause-fault c = next_explains _ _ _ _ _ c.in-Err.fault c.loop-inside.invariant c.in-Some-behind_gate.ensures.open_gate c.in-Err.ensures.fault
-
-pub loop-inside-preserved : goal.loop-inside-preserved
-loop-inside-preserved c =
-    walk_more _ _ _ _ _ _ _ _ c.in-Ok._acts.items c.loop-inside.invariant c.in-Some-behind_gate.ensures.open_gate c.in-Ok.ensures.spelled c.in-Ok.ensures.is_batch c.in-Ok.ensures.behind
-    c.in-Ok.ensures.applies c.in-Ok.ensures.applied c.in-Some-checked_add.ensures.1
-
-pub returns-clause-found : goal.returns-clause-found
-returns-clause-found c = walk_ends _ _ _ _ c.loop-inside.invariant c.in_default-behind_gate.ensures.shut_gate
+pub returns-clause-fault : goal.returns-clause-fault
+returns-clause-fault c =
+    let begins : BeginsWith magic c.args.bytes.now c.in-Some.behind.now = record { is = c.in-Some.ensures.head; some = c.in-Some.ensures.behind } in
+    if_err _ _ c.walk.result (λ fault stops. stops_explain c.args.bytes.now fault (rw c.empty.ensures at (stops magic begins))) c.walk.ensures.fault

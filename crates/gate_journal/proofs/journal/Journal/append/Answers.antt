@@ -1,6 +1,7 @@
 use Rattle.std.proofs.Common.{◌≡◌, None, ◌∷◌, [], sym, subst, arith, length-append}
-use Rattle.book_model.specs.Book.{BookView, first_fault}
+use Rattle.book_model.specs.Book.{BookView, empty_book, first_fault}
 use Rattle.journal_codec.specs.Batches.{IsNext}
+use Rattle.gate_journal.proofs.Ordered.{empty_ordered}
 use Rattle.gate_journal.proofs.Nexts.{next_reserve, reserve_behind}
 use Rattle.gate_journal.proofs.journal.Journal.append.Goals as goal
 
@@ -10,7 +11,7 @@ returns-in-Ok-clause-done g c bs keeps is_book =
     let next : IsNext bs c.args.acts.now = record { some = c.requires.some; small = c.requires.small; outcomes = c.requires.outcomes; applies = subst P (sym is_book) c.requires.applies } in
     record {
       at = c.in-Ok.ensures.done bs keeps.at next;
-      kept = next_reserve bs c.args.acts.now _ _ keeps.at.file.valid next keeps.kept c.in-Ok.ensures.reserve;
+      kept = next_reserve empty_book empty_ordered bs c.args.acts.now keeps.at.file.valid next _ _ keeps.kept c.in-Ok.ensures.reserve;
       count = omega (arith, c.in-Ok.ensures.count, keeps.count, length-append bs (c.args.acts.now ∷ []));
     }
 
