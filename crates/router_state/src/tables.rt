@@ -12,9 +12,9 @@ ghost use Rattle.router_trace.specs.Deliveries.{delivery, ended_first, is_to_tel
 ghost use Rattle.router_trace.specs.Following.{link_of, first_delivery, is_unsent_on, is_wide, is_busy, is_used, takes_more};
 ghost use Rattle.state_deliveries.specs.Calling.{Knows};
 ghost use Rattle.state_deliveries.specs.Finding.{IsFirst, is_above};
-ghost use Rattle.state_messages.specs.Messages.{attachment_at, consumer_of, binding_for, with_bound, grants_due, grant_flow};
+ghost use Rattle.state_messages.specs.Messages.{attachment_at, consumer_of, binding_for, taken_up_by, with_bound, grants_due, grant_flow};
 ghost use Rattle.state_messages.specs.Asking.{has_unsent, goes_on, owes_drain, drained_state};
-ghost use Rattle.router_trace.specs.Trace.{Entry, Out, Took, did, newest, goes, puts_of};
+ghost use Rattle.router_trace.specs.Trace.{Bound as BoundTo, Entry, Out, Took, did, newest, goes, puts_of};
 ghost use Rattle.router_trace.specs.Sessions.{place, free_channel};
 ghost use Rattle.router_trace.specs.Clocks.{terms, channel_max_of};
 ghost use Rattle.router_trace.specs.Peers.{user, container, largest_frame};
@@ -420,6 +420,20 @@ impl State {
     {
         let chosen = self.messages.pass(from, origin, row, format, payload)?;
         Ok(chosen)
+    }
+
+    /// Binds a row to the consumer's link that takes it up again; its producer's delivery is that of the delivery which it had until now.
+    pub fn take_up(
+        &mut self,
+        consumer: Attachment,
+        row: RowNumber,
+        format: u32,
+        payload: Bytes,
+    ) -> Result<(), AllocError>
+        ensures { OnOk result ((t : List Entry) → TablesFit self.old t → TablesFit self.new (BoundTo (taken_up_by t row format payload consumer) ∷ t)) }
+    {
+        self.messages.take_up(consumer, row, format, payload)?;
+        Ok(())
     }
 
     /// The lowest number, above another, of a delivery that is decided and whose outcome must be reported to its producer.

@@ -119,7 +119,7 @@ bound name b = record {
   name = name;
   link = b.consumer;
   origin = b.origin;
-  presettled = is_none b.origin;
+  presettled = is_none b.origin && not b.taken_up;
   format = b.format;
   payload = b.payload;
   id = None;
@@ -381,6 +381,14 @@ delivery (Took c k ∷ t) n = delivery t n
 delivery (Bound b ∷ t) n = if bindings t + 1 == n then Some (bound (name_in t b) b) else unless_called (name_in t b) (delivery t n)
 delivery (Booked acts full ∷ t) n = delivery t n
 delivery (Began g ∷ t) n = None
+
+-- the delivery that has a name now, and the producer's delivery of one
+abbrev pub called : Trace → DeliveryName → Option Delivery
+called t name = option_and_then (delivery t) (number_named t name)
+
+abbrev pub origin_in : Option Delivery → Option Origin
+origin_in None = None
+origin_in (Some d) = d.origin
 
 -- Tests of a delivery: it waits to start on a link, it is undecided there, its outcome must be reported to its producer.
 abbrev pub waits_on : ℕ → Option Delivery → Bool

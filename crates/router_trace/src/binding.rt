@@ -41,7 +41,8 @@ impl DeliveryName {
 pub struct Binding {
     /// The consumer's link.
     pub consumer: Attachment,
-    /// The producer's delivery; none if the producer had settled it.
+    /// The producer's delivery; none if the producer had settled it, or, for a row that is taken up again, if the producer's link isn't
+    /// attached.
     pub origin: Option<Origin>,
     /// Its row in the book, if it is durable.
     pub row: Option<RowNumber>,
@@ -51,4 +52,7 @@ pub struct Binding {
     pub format: u32,
     /// The message.
     pub payload: Bytes,
+    /// Whether it was bound before, and the consumer's link takes its row up again: no consumer is chosen then, and the origin is that of
+    /// the delivery which the row had until now.
+    pub taken_up: bool,
 }

@@ -19,7 +19,7 @@ use Rattle.router_trace.specs.declared.event.Event.TheVariants as event
 use Rattle.router_trace.specs.declared.channel.PeerChannel.{PeerChannel}
 use Rattle.router_trace.specs.declared.handle.Attachment.{Attachment}
 use Rattle.router_trace.specs.Trace.{Trace, Did, Out, Took, Bound, Booked, Began}
-use Rattle.router_trace.specs.Deliveries.{Delivery, source, delivery, bindings, bound, same_name, name_in, number_named, unless_over, unless_called, is_over, untold, unsettled, ended, decided_at_end, suspended_at_end, closes, after_ends, is_gone_with, after_frame, put_in, after_put, told, decided, is_undecided, is_meant, is_named, is_number, carried, tag_in, disposed, is_on, is_settled_at, heard_in, heard, after_event, ended_by, lost_with, origin_id, sending, named, decision, terminal, sender, forsaken, channels_found}
+use Rattle.router_trace.specs.Deliveries.{Delivery, called, source, delivery, bindings, bound, same_name, name_in, number_named, unless_over, unless_called, is_over, untold, unsettled, ended, decided_at_end, suspended_at_end, closes, after_ends, is_gone_with, after_frame, put_in, after_put, told, decided, is_undecided, is_meant, is_named, is_number, carried, tag_in, disposed, is_on, is_settled_at, heard_in, heard, after_event, ended_by, lost_with, origin_id, sending, named, decision, terminal, sender, forsaken, channels_found}
 use Rattle.state_deliveries.specs.declared.by_name.ByName.{ByName}
 use Rattle.state_deliveries.specs.declared.change.Change.{Change}
 use Rattle.state_deliveries.specs.declared.change.Change.TheVariants as change
@@ -227,6 +227,16 @@ numbers_fit s t called name = by_number (at_name s name) refl
 -- how a table of names follows the deliveries
 pub called_same : (s : ByName) (f g : ℕ → Option Delivery) → ((n : ℕ) → f n ≡ g n) → AreCalled s f → AreCalled s g
 called_same s f g same called = λ name n. called name n ∙ ap (is_called name) (same n)
+
+-- the delivery that has a name now
+pub called_fits : (s : ByName) (known : ℕ → Option Delivery) (t : Trace) (name : DeliveryName) → ((n : ℕ) → known n ≡ delivery t n) → AreCalled s known
+    → option_and_then known (at_name s name) ≡ called t name
+called_fits s known t name same names = by (at_name s name) (number_named t name) (numbers_fit s t (called_same s known (delivery t) same names) name)
+  where
+    by : (v w : Option ℕ) → Knows (delivery t) v w → option_and_then known v ≡ option_and_then (delivery t) w
+    by (Some n) w is = same n ∙ sym (ap (option_and_then (delivery t)) is)
+    by None None gone = refl
+    by None (Some n) gone = sym gone
 
 -- a delivery was changed in its place, under the same name, and removed if it is over
 pub called_at : (s next : ByName) (m : ℕ) (d e : Delivery) (old new : ℕ → Option Delivery) → e.name ≡ d.name → old m ≡ Some d

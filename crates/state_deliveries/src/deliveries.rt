@@ -6,7 +6,7 @@ ghost use Rattle.router_trace.specs.Trace.{Beginning, Trace};
 ghost use Rattle.router_trace.specs.Configuration.{opened};
 ghost use Rattle.router_trace.specs.Trace.{Entry, Out, Bound, did};
 ghost use Rattle.router_trace.specs.declared.event.Event.TheVariants as event;
-ghost use Rattle.router_trace.specs.Deliveries.{delivery, channels_found, name_of, next_id, sending, named, waits_on, undecided_on, held_from, is_to_tell};
+ghost use Rattle.router_trace.specs.Deliveries.{called, origin_in, delivery, channels_found, name_of, next_id, sending, named, waits_on, undecided_on, held_from, is_to_tell};
 ghost use Rattle.router_trace.specs.Sessions.{maps, is_channel};
 ghost use Rattle.router_trace.specs.Following.{first_delivery, is_unsent_on, is_used};
 ghost use Rattle.router_trace.specs.Settling.{open_ids};
@@ -29,7 +29,7 @@ use crate::sending::Sending;
 use crate::store::Store;
 use amqp_model::Item;
 use book_model::{Decision, RowNumber};
-use router_trace::{Binding, ConnectionId, DeliveryName};
+use router_trace::{Binding, ConnectionId, DeliveryName, Origin};
 use std::alloc::{AllocError, Global};
 
 /// The deliveries that the router passes on. After an error the table's contents are unspecified.
@@ -204,6 +204,13 @@ impl Deliveries {
         ensures { IfOk result (λ rows. (t : List Entry) → DeliveriesFit self.now t → rows.items ≡ rows_from t conn own first last) }
     {
         Ok(rows_from(&self.store, self.alloc, conn, own, first, last)?)
+    }
+
+    /// The producer's delivery of the delivery that has a name now.
+    pub fn origin_named(&self, name: DeliveryName) -> Option<Origin>
+        ensures { (t : List Entry) → DeliveriesFit self.now t → result ≡ origin_in (called t name) }
+    {
+        self.store.origin_called(name)
     }
 
     /// Binds a message to a consumer's link. Fails if memory is refused, and if no binding number is left.

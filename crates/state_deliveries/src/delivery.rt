@@ -78,7 +78,7 @@ impl Delivery {
             name,
             link: binding.consumer,
             origin: binding.origin,
-            presettled: binding.origin.is_none(),
+            presettled: binding.origin.is_none() && !binding.taken_up,
             format: binding.format,
             payload: binding.payload,
             id: None,

@@ -1,6 +1,6 @@
 //! The choice of the consumer for a message, and the credit that producers are granted.
-ghost use Rattle.std.specs.Prelude.{◌≡◌, ◌++◌, ℕ, List, Option, Some, None, IfOk, IfNone, OnOk, is_some, option_and_then};
-ghost use Rattle.router_trace.specs.Trace.{Entry};
+ghost use Rattle.std.specs.Prelude.{◌≡◌, ◌++◌, ◌∷◌, ℕ, List, Option, Some, None, IfOk, IfNone, OnOk, is_some, option_and_then};
+ghost use Rattle.router_trace.specs.Trace.{Bound, Entry};
 ghost use Rattle.route_table.specs.declared.sections.Distribution.{Distribution};
 ghost use Rattle.router_trace.specs.Configuration.{distribution};
 ghost use Rattle.router_trace.specs.Following.{link_of};
@@ -12,7 +12,7 @@ ghost use Rattle.state_pools.specs.Sharing.{Figure};
 ghost use Rattle.route_credit.specs.Pool.{by_id};
 ghost use Rattle.state_messages.specs.Figures.{figure};
 ghost use Rattle.state_messages.specs.Fits.{NotedFit, MessagesFit, Untouched};
-ghost use Rattle.state_messages.specs.Messages.{choice_of, consumer_of, grant_at, grant_by, grants, grants_on, last_after, last_chosen, binding_for, with_bound};
+ghost use Rattle.state_messages.specs.Messages.{choice_of, consumer_of, grant_at, grant_by, grants, grants_on, last_after, last_chosen, binding_for, taken_up_by, with_bound};
 
 use crate::durable::lasts;
 use crate::figures::tell;
@@ -21,7 +21,7 @@ use crate::messages::Messages;
 use book_model::RowNumber;
 use bytes::Bytes;
 use route_credit::ProducerId;
-use router_trace::{Attachment, Binding, ConnectionId, LinkState, Origin};
+use router_trace::{Attachment, Binding, ConnectionId, DeliveryName, LinkState, Origin};
 use state_links::{Link, Links};
 use state_pools::Pools;
 use std::alloc::{AllocError, Global};
@@ -92,11 +92,38 @@ impl Messages {
                     lasting,
                     format,
                     payload,
+                    taken_up: false,
                 })?;
                 self.incoming.bind(origin)?;
                 Ok(true)
             }
         }
+    }
+
+    /// Binds a row to the consumer's link that takes it up again; its producer's delivery is that of the delivery which it had until now. Fails if
+    /// memory is refused, and if no binding number is left.
+    pub fn take_up(
+        &mut self,
+        consumer: Attachment,
+        row: RowNumber,
+        format: u32,
+        payload: Bytes,
+    ) -> Result<(), AllocError>
+        ensures { OnOk result ((t : List Entry) → MessagesFit self.old t → MessagesFit self.new (Bound (taken_up_by t row format payload consumer) ∷ t)) }
+    {
+        let origin = self.deliveries.origin_named(DeliveryName::Row(row));
+        let lasting = lasts(&self.links, consumer);
+        self.deliveries.bind(Binding {
+            consumer,
+            origin,
+            row: Some(row),
+            lasting,
+            format,
+            payload,
+            taken_up: true,
+        })?;
+        self.incoming.bind(origin)?;
+        Ok(())
     }
 
     /// The consumer that [`Messages::pass`] would choose now for a message of the producer's link on a handle of the router; nothing is noted, so
