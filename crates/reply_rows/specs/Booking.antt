@@ -1,5 +1,6 @@
 -- Durable links and the book of durable deliveries: why a link, or a delivery on one, that its row would take is refused after all.
-use Rattle.std.specs.Prelude.{ℕ, Bool, false, not, ◌&&◌, ◌||◌, nat_lt, if◌then◌else◌, List, [], ◌∷◌, length, filter, Option, Some, None, is_none, is_some, unwrap_or}
+use Rattle.std.specs.Prelude.{ℕ, Bool, true, false, not, ◌&&◌, ◌||◌, nat_lt, if◌then◌else◌, List, [], ◌∷◌, length, filter, Option, Some, None, is_none, is_some, unwrap_or}
+use Rattle.std.specs.List.{list_any}
 use Rattle.amqp_model.specs.declared.perf.Attach.{Attach as AnAttach}
 use Rattle.amqp_model.specs.declared.perf.Perf.{Perf}
 use Rattle.amqp_model.specs.declared.perf.Perf.TheVariants as perf
@@ -22,7 +23,9 @@ use Rattle.router_trace.specs.Links.{address_by, key_at, link, link_place, free_
 use Rattle.router_trace.specs.Settling.{middle_on, uses_tag}
 use Rattle.router_trace.specs.declared.condition.Condition.{Condition}
 use Rattle.router_trace.specs.declared.condition.Condition.TheVariants.{NotAllowed, NotImplemented, ResourceLimitExceeded}
-use Rattle.resume_core.specs.Resuming.{entries_of, producer_map, consumer_map}
+use Rattle.resume_core.specs.declared.consumer.Resumed.{Resumed}
+use Rattle.resume_core.specs.declared.consumer.Resumed.TheVariants.{Anew}
+use Rattle.resume_core.specs.Resuming.{entries_of, producer_map, consumer_map, sendings}
 use Rattle.reply_rows.specs.Finding.{finds}
 use Rattle.reply_rows.specs.Rows.{item_reply}
 use Rattle.reply_rows.specs.declared.answer.Answer.{Answer}
@@ -46,26 +49,34 @@ new_terminus b key address = record { number = record { 0 = b.next_terminus }; k
 abbrev pub has_room : Bool → BookView → Terminus → Bool
 has_room full b x = not full && (nat_lt (length b.termini) 1024 && has_short_texts x)
 
+-- a list has entries
+abbrev pub has_some : {A : Type 0} → List A → Bool
+has_some [] = false
+has_some (x ∷ xs) = true
+
 -- The rows of a terminus: those that came on its link, or are bound to it.
 abbrev pub rows_of : BookView → Terminus → List Row
 rows_of b x = filter (is_of x.number.0) b.rows
 
--- The router's map, if a link takes its terminus up again: the deliveries of these rows that are unsettled then (2.6.13), by the peer's role and the peer's map.
-abbrev pub resumed_map : Role → Bool → List UnsettledDelivery → List Row → List UnsettledDelivery
-resumed_map Sender complete theirs rows = producer_map complete theirs rows
-resumed_map Receiver complete theirs rows = consumer_map theirs rows
+-- That a link resumes deliveries isn't served yet. A producer's would, if one is unsettled after its attach. A consumer's would, if its map has a delivery of
+-- these rows, or if it says nothing of one that is unsettled, as it is incomplete (2.6.13). Any other undecided row is sent anew.
+abbrev pub is_resumed : Resumed → Bool
+is_resumed Anew = false
+is_resumed _ = true
 
-abbrev pub map_for : List Row → AnAttach → List UnsettledDelivery
-map_for rows a = resumed_map a.role (not a.incomplete_unsettled) (entries_of a.unsettled) rows
+abbrev pub resumes : Role → Bool → List UnsettledDelivery → List Row → Bool
+resumes Sender complete theirs rows = has_some (producer_map complete theirs rows)
+resumes Receiver complete theirs rows = list_any (λ s. is_resumed s.how) (sendings complete theirs rows) || (not complete && has_some (consumer_map theirs rows))
 
--- A durable link takes its terminus up again if nothing of it is unsettled then. That it resumes deliveries isn't served yet.
-abbrev pub unless_resumes : List UnsettledDelivery → Option Condition
-unless_resumes [] = None
-unless_resumes (d ∷ ds) = Some NotImplemented
+abbrev pub attach_resumes : List Row → AnAttach → Bool
+attach_resumes rows a = resumes a.role (not a.incomplete_unsettled) (entries_of a.unsettled) rows
+
+abbrev pub unless_resumes : Bool → Option Condition
+unless_resumes resumed = if resumed then Some NotImplemented else None
 
 -- A durable link is refused if its terminus has another address, or if there is no room for one.
 abbrev pub durable_refusal : BookView → Option Terminus → AnAttach → Bool → Option Condition
-durable_refusal b (Some x) a room = if same_bytes x.address (wanted_address a) then unless_resumes (map_for (rows_of b x) a) else Some NotAllowed
+durable_refusal b (Some x) a room = if same_bytes x.address (wanted_address a) then unless_resumes (attach_resumes (rows_of b x) a) else Some NotAllowed
 durable_refusal b None a room = if room then None else Some ResourceLimitExceeded
 
 abbrev pub refusal_with : Bool → BookView → LinkKey → AnAttach → Option Condition

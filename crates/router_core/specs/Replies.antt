@@ -4,10 +4,11 @@ use Rattle.router_trace.specs.Trace.{Trace, Step}
 use Rattle.router_reply.specs.Replies.{replied}
 use Rattle.router_after.specs.After.{followed}
 use Rattle.router_reply.specs.Acts.{booked}
+use Rattle.router_reply.specs.Resuming.{resumed}
 
--- the event with all items put into outboxes: those of its rows, and those that follow
+-- the event with all items put into outboxes: those of its rows, and, once the rows are bound that its attach takes up, those that follow
 abbrev pub answered : List ℕ → Trace → Step → Trace
-answered id t s = followed (replied id t s)
+answered id t s = followed (resumed t s.event (replied id t s))
 
 -- the acts of the event, and then the event with its items
 abbrev pub handled : List ℕ → Trace → Step → Trace

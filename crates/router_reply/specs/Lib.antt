@@ -3,6 +3,7 @@ pub mod Admitting
 pub mod Deciding
 pub mod Heard
 pub mod Replies
+pub mod Resuming
 pub use Rattle.router_trace.specs.Trace
 pub use Rattle.router_trace.specs.Connection
 pub use Rattle.router_trace.specs.Refusing

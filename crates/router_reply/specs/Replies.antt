@@ -6,6 +6,7 @@ use Rattle.amqp_model.specs.declared.perf.Perf.TheVariants as perf
 use Rattle.amqp_model.specs.Parts.{attach_of}
 use Rattle.amqp_model.specs.declared.perf.Disposition.{Disposition as ADisposition}
 use Rattle.amqp_model.specs.declared.state.DeliveryState.TheVariants as state
+use Rattle.amqp_model.specs.declared.state.UnsettledDelivery.{UnsettledDelivery}
 use Rattle.amqp_model.specs.declared.item.Item.{Item}
 use Rattle.amqp_model.specs.declared.item.Item.TheVariants as item
 use Rattle.amqp_conn.specs.declared.conn.Conn.{Conn}
@@ -31,8 +32,9 @@ use Rattle.reply_rows.specs.declared.answer.Answer.{Answer}
 use Rattle.reply_rows.specs.declared.answer.Answer.TheVariants.{Attach, Refuse, Taken, Settle}
 use Rattle.reply_rows.specs.Rows.{said, down_reply}
 use Rattle.reply_transfers.specs.Transfers.{settled_answers, part_put, part_bound}
-use Rattle.router_reply.specs.Acts.{answer_of, found_acts}
+use Rattle.router_reply.specs.Acts.{answer_of, book_in, found_acts}
 use Rattle.router_reply.specs.Admitting.{row_in}
+use Rattle.router_reply.specs.Resuming.{key_taken, rows_for, map_of}
 
 -- a connection is closed with an error: its open comes before the close if it isn't written yet
 abbrev pub closing_of : List ℕ → Option Connection → Condition → List Item
@@ -49,7 +51,7 @@ abbrev pub heard : List ℕ → Trace → Step → Trace
 heard id t s = ends id (due t s.event) (Did s ∷ t)
 
 -- An attach that is taken: the older link with its key, if one is attached, is detached as stolen; then the answer is put, on the
--- lowest handle that is free by then. If the answer is longer than the peer's frames, a detach that says so is put instead; it closes the
+-- lowest handle that is free by then, with the router's map if that has entries. If the answer is longer than the peer's frames, a detach that says so is put instead; it closes the
 -- link unless the link is durable.
 abbrev pub stolen_by : Option Attachment → List Put
 stolen_by None = []
@@ -59,15 +61,19 @@ abbrev pub unless_too_large : ℕ → ℕ → ℕ → AnAttach → List Item
 unless_too_large largest own handle a =
     if fits largest (attach_item own a) then attach_item own a ∷ [] else detach_item own handle (not (is_durable a.role a)) (Some FrameSizeTooSmall) ∷ []
 
-abbrev pub attach_answer : ℕ → ℕ → Option ℕ → AnAttach → List Item
-attach_answer largest own None a = []
-attach_answer largest own (Some handle) a = unless_too_large largest own handle (answer_to a handle)
+abbrev pub with_map : List UnsettledDelivery → AnAttach → AnAttach
+with_map [] a = a
+with_map (d ∷ ds) a = record a { unsettled = Some (d ∷ ds) }
 
-abbrev pub taken_after : Trace → ℕ → ℕ → AnAttach → List Put → List Put
-taken_after t c own a stolen = stolen ++ each_to c (attach_answer (largest_frame t c) own (free_handle (goes stolen t) c own) a)
+abbrev pub attach_answer : ℕ → ℕ → Option ℕ → List UnsettledDelivery → AnAttach → List Item
+attach_answer largest own None ours a = []
+attach_answer largest own (Some handle) ours a = unless_too_large largest own handle (with_map ours (answer_to a handle))
 
-abbrev pub taken : Trace → ℕ → ℕ → AnAttach → List Put
-taken t c own a = taken_after t c own a (stolen_by (holder t (key_at t c (answer_to a 0))))
+abbrev pub taken_after : Trace → ℕ → ℕ → List UnsettledDelivery → AnAttach → List Put → List Put
+taken_after t c own ours a stolen = stolen ++ each_to c (attach_answer (largest_frame t c) own (free_handle (goes stolen t) c own) ours a)
+
+abbrev pub taken : Trace → ℕ → ℕ → List UnsettledDelivery → AnAttach → List Put
+taken t c own ours a = taken_after t c own ours a (stolen_by (holder t (key_at t c (answer_to a 0))))
 
 -- An attach that is refused: an answer without a terminus at the router's side, and a detach; the detach alone if the answer doesn't fit.
 abbrev pub refused : ℕ → ℕ → ℕ → Condition → AnAttach → List Item
@@ -96,24 +102,28 @@ bound_for t after c i (Taken own handle) = part_bound after c own handle (row_fo
 bound_for t after c i _ = None
 
 -- What an answer to an item puts into outboxes, after the closes because of full outboxes.
-abbrev pub put_for_attach : Trace → ℕ → AnAttach → Answer → List Put
-put_for_attach t c a (Attach own) = taken t c own a
-put_for_attach t c a (Refuse own handle x) = each_to c (refused (largest_frame t c) own handle x a)
-put_for_attach t c a _ = []
+abbrev pub put_for_attach : Trace → ℕ → List UnsettledDelivery → AnAttach → Answer → List Put
+put_for_attach t c ours a (Attach own) = taken t c own ours a
+put_for_attach t c ours a (Refuse own handle x) = each_to c (refused (largest_frame t c) own handle x a)
+put_for_attach t c ours a _ = []
 
-abbrev pub put_if_attach : Trace → ℕ → Option AnAttach → Answer → List Put
-put_if_attach t c None answer = []
-put_if_attach t c (Some a) answer = put_for_attach t c a answer
+abbrev pub put_if_attach : Trace → ℕ → List UnsettledDelivery → Option AnAttach → Answer → List Put
+put_if_attach t c ours None answer = []
+put_if_attach t c ours (Some a) answer = put_for_attach t c ours a answer
 
-abbrev pub attach_put_in : Trace → ℕ → Perf → Answer → List Put
-attach_put_in t c body answer = put_if_attach t c (attach_of body) answer
+abbrev pub attach_put_in : Trace → ℕ → List UnsettledDelivery → Perf → Answer → List Put
+attach_put_in t c ours body answer = put_if_attach t c ours (attach_of body) answer
 
-abbrev pub attach_put : Trace → ℕ → Item → Answer → List Put
-attach_put t c (item.Frame sasl channel body payload) answer = attach_put_in t c body answer
-attach_put t c _ answer = []
+abbrev pub attach_put : Trace → ℕ → List UnsettledDelivery → Item → Answer → List Put
+attach_put t c ours (item.Frame sasl channel body payload) answer = attach_put_in t c ours body answer
+attach_put t c ours _ answer = []
+
+-- the router's map in the answer to an attach
+abbrev pub map_for : Trace → ℕ → AnAttach → Answer → List UnsettledDelivery
+map_for t c a answer = map_of (rows_for (book_in t) (key_taken t c a answer))
 
 abbrev pub put_for : Trace → Trace → ℕ → Perf → Item → Answer → List Put
-put_for t after c (perf.Attach a) i answer = put_for_attach after c a answer
+put_for t after c (perf.Attach a) i answer = put_for_attach after c (map_for t c a answer) a answer
 put_for t after c (perf.Transfer x) i answer = put_for_transfer t after c i answer
 put_for t after c (perf.Disposition x) i answer = put_for_disposition t c x answer
 put_for t after c _ i answer = []

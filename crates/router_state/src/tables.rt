@@ -13,7 +13,7 @@ ghost use Rattle.router_trace.specs.Following.{link_of, first_delivery, is_unsen
 ghost use Rattle.state_deliveries.specs.Calling.{Knows};
 ghost use Rattle.state_deliveries.specs.Finding.{IsFirst, is_above};
 ghost use Rattle.state_messages.specs.Messages.{attachment_at, consumer_of, binding_for, taken_up_by, with_bound, grants_due, grant_flow};
-ghost use Rattle.state_messages.specs.Asking.{has_unsent, goes_on, owes_drain, drained_state};
+ghost use Rattle.state_messages.specs.Asking.{consumer_with, has_unsent, goes_on, owes_drain, drained_state};
 ghost use Rattle.router_trace.specs.Trace.{Bound as BoundTo, Entry, Out, Took, did, newest, goes, puts_of};
 ghost use Rattle.router_trace.specs.Sessions.{place, free_channel};
 ghost use Rattle.router_trace.specs.Clocks.{terms, channel_max_of};
@@ -420,6 +420,13 @@ impl State {
     {
         let chosen = self.messages.pass(from, origin, row, format, payload)?;
         Ok(chosen)
+    }
+
+    /// The attachment with a key, if the router is the sender on its link.
+    pub fn consumer_with(&self, key: &LinkKey) -> Option<Attachment>
+        ensures { (t : List Entry) → TablesFit self.now t → result ≡ consumer_with t key.now }
+    {
+        self.messages.consumer_with(key)
     }
 
     /// Binds a row to the consumer's link that takes it up again; its producer's delivery is that of the delivery which it had until now.

@@ -1,12 +1,13 @@
 -- Queries on the tables by what follows an event's rows.
 use Rattle.std.specs.Prelude.{ℕ, ◌+◌, ◌%◌, ◌^◌, Bool, true, false, ◌&&◌, ◌||◌, ◌==◌, nat_lt, is_some, if◌then◌else◌, List, [], ◌∷◌, Option, Some, None}
 use Rattle.amqp_link.specs.Credit as credit
+use Rattle.book_model.specs.declared.terminus.LinkKey.{LinkKey}
 use Rattle.router_trace.specs.declared.frames.LinkState.{LinkState}
 use Rattle.router_trace.specs.declared.handle.Attachment.{Attachment}
 use Rattle.router_trace.specs.Trace.{Trace}
-use Rattle.router_trace.specs.Links.{Link, Happened, sends, receives, numbered}
+use Rattle.router_trace.specs.Links.{Link, Happened, sends, receives, numbered, holder}
 use Rattle.router_trace.specs.Deliveries.{delivery}
-use Rattle.router_trace.specs.Following.{link_of, first_delivery, is_unsent_on, owes_one, is_going_on}
+use Rattle.router_trace.specs.Following.{link_of, first_delivery, is_unsent_on, is_sending, owes_one, is_going_on}
 use Rattle.state_deliveries.specs.Finding.{is_above}
 
 -- frames of deliveries remain to be sent on a link
@@ -52,3 +53,15 @@ lower_number above lowest n = if is_above above n && is_below lowest n then Some
 abbrev pub lowest_of : Option ℕ → Option ℕ → List Attachment → Option ℕ
 lowest_of above lowest [] = lowest
 lowest_of above lowest (a ∷ others) = lowest_of above (lower_number above lowest a.number) others
+
+-- the attachment with a key, if the router is the sender on its link
+abbrev pub is_consumer : Option Link → Bool
+is_consumer None = false
+is_consumer (Some l) = is_sending l.happened
+
+abbrev pub if_consumer : Trace → Option Attachment → Option Attachment
+if_consumer t None = None
+if_consumer t (Some a) = if is_consumer (link_of t a) then Some a else None
+
+abbrev pub consumer_with : Trace → LinkKey → Option Attachment
+consumer_with t k = if_consumer t (holder t k)

@@ -4,10 +4,11 @@ ghost use Rattle.router_trace.specs.Trace.{Entry};
 ghost use Rattle.router_trace.specs.Links.{Link as View, has_number, is_attached};
 ghost use Rattle.router_trace.specs.Following.{link_of, takes_more};
 ghost use Rattle.state_links.specs.Ends.{link_of as link_of_view};
-ghost use Rattle.state_messages.specs.Asking.{drained_by, drained_state, goes_on};
+ghost use Rattle.state_messages.specs.Asking.{consumer_with, drained_by, drained_state, goes_on, is_consumer};
 ghost use Rattle.state_messages.specs.Fits.{MessagesFit};
 
 use crate::messages::Messages;
+use book_model::LinkKey;
 use router_trace::{Attachment, LinkState};
 use state_links::Link;
 
@@ -39,6 +40,27 @@ impl Messages {
         match self.links.link(at) {
             None => None,
             Some(link) => link_drained(link, at.handle),
+        }
+    }
+
+    /// The attachment with a key, if the router is the sender on its link.
+    pub fn consumer_with(&self, key: &LinkKey) -> Option<Attachment>
+        ensures { (t : List Entry) → MessagesFit self.now t → result ≡ consumer_with t key.now }
+    {
+        match self.links.holder(key) {
+            None => None,
+            Some(at) if self.is_consumer(at) => Some(at),
+            Some(_) => None,
+        }
+    }
+
+    /// Whether the router is the sender on the link at an attachment's place.
+    fn is_consumer(&self, at: Attachment) -> bool
+        ensures { (t : List Entry) → MessagesFit self.now t → result ≡ is_consumer (link_of t at) }
+    {
+        match self.links.link(at) {
+            None => false,
+            Some(link) => link.is_consumer(),
         }
     }
 

@@ -1,6 +1,6 @@
 -- Durable messages and the book (AMQP 1.0 part 2, sections 2.6.12 and 2.7.5; part 3, sections 3.5.3 to 3.5.5): a message that has a row is bound once the
 -- row is in the book.
-use Rattle.std.specs.Prelude.{◌≡◌, ◌<◌, ◌≤◌, ℕ, ◌+◌, ◌==◌, Bool, false, if◌then◌else◌, [], ◌∷◌, Option, Some, None, unwrap_or, List}
+use Rattle.std.specs.Prelude.{◌≡◌, ◌<◌, ◌≤◌, ℕ, ◌+◌, ◌==◌, ◌&&◌, Bool, true, false, not, if◌then◌else◌, [], ◌∷◌, Option, Some, None, unwrap_or, List}
 use Rattle.amqp_link.specs.declared.part.Delivery.{Delivery as Told}
 use Rattle.book_model.specs.declared.act.Act.TheVariants.{Admit}
 use Rattle.book_model.specs.declared.act.Admission.{Admission}
@@ -46,10 +46,11 @@ abbrev pub IsAdmittedUnder : Trace → Binding → Option RowNumber → Type 0
 IsAdmittedUnder t b None = Unit {0}
 IsAdmittedUnder t b (Some row) = IsAdmitted t b row
 
+-- a row that is taken up again was admitted before (`TakesUp`)
 abbrev pub RowIsAdmitted : Trace → Binding → Type 0
-RowIsAdmitted t b = IsAdmittedUnder t b b.row
+RowIsAdmitted t b = if b.taken_up then Unit {0} else IsAdmittedUnder t b b.row
 
--- how often the row with a number was bound
+-- how often the row with a number was bound, but for the times when it was taken up again
 abbrev pub is_row : Option RowNumber → ℕ → Bool
 is_row None n = false
 is_row (Some row) n = row.0 == n
@@ -59,11 +60,11 @@ times_bound [] n = 0
 times_bound (Did s ∷ t) n = times_bound t n
 times_bound (Out c i ∷ t) n = times_bound t n
 times_bound (Took c k ∷ t) n = times_bound t n
-times_bound (Bound b ∷ t) n = times_bound t n + (if is_row b.row n then 1 else 0)
+times_bound (Bound b ∷ t) n = times_bound t n + (if not b.taken_up && is_row b.row n then 1 else 0)
 times_bound (Booked acts full ∷ t) n = times_bound t n
 times_bound (Began g ∷ t) n = times_bound t n
 
--- each row is bound at most once, and none that the book has yet to admit
+-- each row is bound at most once by a message that came, and none that the book has yet to admit
 pub record IsBoundOnce (t : Trace) (n : ℕ) : Type 0 where
   pub once : times_bound t n ≤ 1
   pub known : (book_in t).next_row ≤ n → times_bound t n ≡ 0

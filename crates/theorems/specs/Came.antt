@@ -1,25 +1,32 @@
 -- Messages received (AMQP 1.0 part 2, sections 2.6.14 and 2.7.5): a producer's delivery is complete with the frame that says that no more
 -- are to come.
-use Rattle.std.specs.Prelude.{◌≡◌, ℕ, ◌+◌, Bool, true, false, is_some, List, [], ◌∷◌, ◌++◌, Option, Some, None, unwrap_or}
+use Rattle.std.specs.Prelude.{◌≡◌, ℕ, ◌+◌, Bool, true, false, if◌then◌else◌, is_some, List, [], ◌∷◌, ◌++◌, Option, Some, None, unwrap_or}
 use Rattle.amqp_model.specs.declared.perf.Perf.TheVariants as perf
 use Rattle.amqp_model.specs.declared.perf.Transfer.{Transfer}
 use Rattle.amqp_model.specs.declared.item.Item.TheVariants as item
 use Rattle.amqp_link.specs.declared.part.Delivery.{Delivery as Told}
 use Rattle.amqp_link.specs.Deliveries.{frame, bytes, delivery}
 use Rattle.amqp_link.specs.Receiving.{Received, middle}
+use Rattle.book_model.specs.Book.{terminus_of, is_for}
+use Rattle.book_model.specs.declared.row.Row.{Row as ARow}
 use Rattle.book_model.specs.declared.row.RowNumber.{RowNumber}
+use Rattle.book_model.specs.declared.terminus.LinkKey.{LinkKey}
+use Rattle.book_model.specs.declared.terminus.Terminus.{Terminus}
 use Rattle.router_trace.specs.declared.binding.Binding.{Binding}
 use Rattle.router_trace.specs.declared.binding.Origin.{Origin}
 use Rattle.router_trace.specs.declared.channel.PeerChannel.TheVariants.{Mapped}
 use Rattle.router_trace.specs.declared.event.ConnectionId.{ConnectionId}
 use Rattle.router_trace.specs.declared.event.Event.TheVariants as event
 use Rattle.router_trace.specs.Trace.{Trace, Did, Out, Took, Bound, Booked, Began, Step}
-use Rattle.router_trace.specs.Deliveries.{Delivery, delivery as delivery_in}
+use Rattle.router_trace.specs.declared.binding.DeliveryName.TheVariants.{Row}
+use Rattle.router_trace.specs.Deliveries.{Delivery, delivery as delivery_in, called, origin_in}
 use Rattle.router_trace.specs.Sessions.{theirs}
 use Rattle.router_trace.specs.Links.{Link, receives, link, link_place, on}
 use Rattle.router_trace.specs.Settling.{is_claimed_on}
+use Rattle.state_messages.specs.Asking.{consumer_with}
 use Rattle.state_messages.specs.Messages.{consumer_of, lasts}
 use Rattle.reply_transfers.specs.Transfers.{claimed_id, from_link, lasts_on}
+use Rattle.router_reply.specs.Acts.{book_in}
 use Rattle.router_reply.specs.Replies.{row_found}
 use Rattle.theorems.specs.OneConsumer.{IsOfMessage}
 
@@ -100,10 +107,33 @@ pub record BindsMessage (t : Trace) (b : Binding) : Type 0 where
   pub has_row : HasRowOn (lasts_on (Some producer)) b.origin b.row
   pub lasting : b.lasting ≡ lasts t b.consumer
 
--- So each delivery is of a message that was received completely and was bound.
+-- A row is bound again when a consumer's durable link takes it up: the book has it, undecided, for the terminus of that link. It is bound as the book has
+-- it, and its producer's delivery is that of the delivery which it had until then.
+pub record TakesUp (t : Trace) (b : Binding) : Type 0 where
+  pub row : ARow
+  pub number : b.row ≡ Some row.number
+  pub earlier : List ARow
+  pub later : List ARow
+  pub kept : (book_in t).rows ≡ earlier ++ row ∷ later
+  pub undecided : row.outcome ≡ None
+  pub format : b.format ≡ row.format
+  pub payload : b.payload ≡ row.payload
+  pub key : LinkKey
+  pub terminus : Terminus
+  pub of_key : terminus_of key (book_in t).termini ≡ Some terminus
+  pub waits : is_for terminus.number.0 row ≡ true
+  pub attached : consumer_with t key ≡ Some b.consumer
+  pub origin : b.origin ≡ origin_in (called t (Row row.number))
+  pub lasting : b.lasting ≡ lasts t b.consumer
+
+-- What is bound is a message, or a row that is taken up again.
+abbrev pub BindsOrTakesUp : Trace → Binding → Type 0
+BindsOrTakesUp t b = if b.taken_up then TakesUp t b else BindsMessage t b
+
+-- So each delivery is of a message that was received completely and was bound, or of a row that was taken up.
 pub record CameAndWasBound (u : Trace) (n : ℕ) (d : Delivery) : Type 0 where
   pub message : IsOfMessage u n d
-  pub binds : BindsMessage message.before message.binding
+  pub binds : BindsOrTakesUp message.before message.binding
 
 abbrev pub EachDeliveryCame : Trace → Type 0
 EachDeliveryCame u = (n : ℕ) (d : Delivery) → delivery_in u n ≡ Some d → CameAndWasBound u n d

@@ -13,7 +13,7 @@ use Rattle.theorems.specs.Durable.{IsKeptFirst, RowIsAdmitted, EachRowIsBoundOnc
 use Rattle.theorems.specs.Each.{EachOut, EachBound}
 use Rattle.theorems.specs.Lives.{InLives, InSmallLives}
 use Rattle.theorems.specs.Locked.{Kind, UnderTheLock, UnderTheLockIfSmall}
-use Rattle.theorems.specs.Messages.{BindsMessage, EachDeliveryCame, StaysWithConsumer, NeverComesBack, OfMessages, CarriesWhatWasBound, FramesJoin, OutcomesAreGiven, OutcomesAreOfConsumers, ToldAtMostOnce, ToldAnew, TellsAsGiven}
+use Rattle.theorems.specs.Messages.{BindsOrTakesUp, EachDeliveryCame, StaysWithConsumer, NeverComesBack, OfMessages, CarriesWhatWasBound, FramesJoin, OutcomesAreGiven, OutcomesAreOfConsumers, ToldAtMostOnce, ToldAnew, TellsAsGiven}
 use Rattle.theorems.specs.Order.{KeepsOrder, BeginsWithHeaders}
 use Rattle.theorems.specs.Stops.{Stopping, AnyMomentLeavesAPrefix, TheEndLeavesAll, EndsALife, GoesOnFrom}
 use Rattle.theorems.specs.Windows.{WindowKept}
@@ -39,9 +39,9 @@ ADeliveryHasOneConsumer = StaysWithConsumer × NeverComesBack × OfMessages
 abbrev pub FramesCarryWhatWasBound : Type 0
 FramesCarryWhatWasBound = Always (EachOut CarriesWhatWasBound) × Always FramesJoin
 
--- A message is bound when it has come whole, as it came, and only once; each delivery is of such a message.
+-- A message is bound when it has come whole, as it came, and only once, but that its row may be taken up again.
 abbrev pub MessagesAreBoundOnce : Type 0
-MessagesAreBoundOnce = Always (EachBound BindsMessage) × Always EachDeliveryCame
+MessagesAreBoundOnce = Always (EachBound BindsOrTakesUp) × Always EachDeliveryCame
 
 -- An outcome is what the consumer gave, or what the end of its link gives; or its message came settled, and was sent.
 abbrev pub OutcomesAreAsGiven : Type 0
