@@ -191,10 +191,13 @@ replied_turns id t (event.Up c p) ord told taken = heard_turns id t (event.Up c 
 replied_turns id t (event.Tick ms) ord told taken = beat_turns id t ms ord told (heard_turns id t (event.Tick ms) ord taken)
 replied_turns id t event.Start ord told taken = heard_turns id t event.Start ord taken
 
+pub resumed_turns : (t : List Entry) (e : Event) (u : List Entry) → Ordered u → Ordered (resumed t e u)
+resumed_turns t e u ord = resumed_keeps Ordered (λ b v h. bound_turns (Some b) v h) t e u ord
+
 pub answered_turns : (id : List ℕ) (t : List Entry) (e : Event) → Ordered t → Told t → refuses t e ≡ false → Ordered (answered id t (step_of e))
 answered_turns id t e ord told taken =
     followed_turns (resumed t e (replied id t (step_of e)))
-    (resumed_keeps Ordered (λ b u h. bound_turns (Some b) u h) t e (replied id t (step_of e)) (replied_turns id t e ord told taken))
+    (resumed_turns t e (replied id t (step_of e)) (replied_turns id t e ord told taken))
 
 -- an open is answered by an open or a close; nothing else sets the terms
 
