@@ -26,6 +26,7 @@ use Rattle.reply_rows.specs.Booking.{wanted_key, wants_durable}
 use Rattle.reply_rows.specs.declared.answer.Answer.{Answer}
 use Rattle.reply_rows.specs.declared.answer.Answer.TheVariants.{Attach}
 use Rattle.router_reply.specs.Acts.{book_in, answer_to_event}
+use Rattle.router_reply.specs.declared.resuming.Resumption.{Resumption}
 use Rattle.router_reply.specs.declared.resuming.WaitingRow.{WaitingRow}
 
 -- The key of the consumer's durable link that an attach asks for; none if it asks for another.
@@ -68,6 +69,15 @@ waiting_of r = record { number = r.number; format = r.format; payload = r.payloa
 abbrev pub rows_for : BookView → Option LinkKey → List WaitingRow
 rows_for b None = []
 rows_for b (Some k) = map waiting_of (undecided_rows b (terminus_of k b.termini))
+
+-- what is taken up: the key, and the rows
+abbrev pub key_resumed : Option Resumption → Option LinkKey
+key_resumed None = None
+key_resumed (Some x) = Some x.key
+
+abbrev pub rows_resumed : Option Resumption → List WaitingRow
+rows_resumed None = []
+rows_resumed (Some x) = x.rows.items
 
 -- The router's map in the answer to the attach: these rows, undecided.
 abbrev pub waiting_entry : WaitingRow → UnsettledDelivery
