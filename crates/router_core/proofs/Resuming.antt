@@ -1,6 +1,7 @@
 -- The rows that an event's attach takes up are bound one after another: what a binding keeps, all of them keep.
-use Rattle.std.proofs.Common.{◌≡◌, ◌∙◌, refl, ℕ, List, [], ◌∷◌}
+use Rattle.std.proofs.Common.{◌≡◌, ◌∙◌, ap, refl, subst, ℕ, List, [], ◌∷◌}
 use Rattle.std.specs.Prelude.{Option, Some, None}
+use Rattle.book_model.specs.Book.{BookView}
 use Rattle.book_model.specs.declared.terminus.LinkKey.{LinkKey}
 use Rattle.router_trace.specs.declared.binding.Binding.{Binding}
 use Rattle.router_trace.specs.declared.event.Event.{Event}
@@ -8,9 +9,13 @@ use Rattle.router_trace.specs.declared.handle.Attachment.{Attachment}
 use Rattle.router_trace.specs.Trace.{Entry, Bound}
 use Rattle.state_messages.specs.Asking.{consumer_with}
 use Rattle.state_messages.specs.Messages.{taken_up_by}
+use Rattle.router_state.specs.declared.tables.State.{State}
+use Rattle.router_state.specs.Tables.{TablesFit}
+use Rattle.reply_rows.specs.declared.answer.Answer.{Answer}
+use Rattle.router_reply.specs.declared.resuming.Resumption.{Resumption}
 use Rattle.router_reply.specs.declared.resuming.WaitingRow.{WaitingRow}
 use Rattle.router_reply.specs.Acts.{book_in, answer_to_event}
-use Rattle.router_reply.specs.Resuming.{resumed_key, rows_for, bound_to, bound_if, with_rows, resumed}
+use Rattle.router_reply.specs.Resuming.{resumed_key, rows_for, key_resumed, rows_resumed, bound_to, bound_if, with_rows, resumed_by, resumed}
 
 pub rows_keep : (P : List Entry → Type 0) → ((b : Binding) (t : List Entry) → P t → P (Bound b ∷ t)) → (at : Attachment) (rs : List WaitingRow) (u : List Entry) → P u → P (bound_to at rs u)
 rows_keep P step at [] u was = was
@@ -32,3 +37,12 @@ resumed_keeps P step t e u was = with_rows_keep P step (resumed_key t e (answer_
 -- a view that is the same after a binding is the same after all of them
 pub resumed_same : {A : Type 0} (view : List Entry → A) → ((b : Binding) (t : List Entry) → view (Bound b ∷ t) ≡ view t) → (t : List Entry) (e : Event) (u : List Entry) → view (resumed t e u) ≡ view u
 resumed_same view same t e u = resumed_keeps (λ (v : List Entry). view v ≡ view u) (λ b v is. same b v ∙ is) t e u refl
+
+-- the tables agree with the rows bound that the event's attach takes up, if these are its key and rows by the book and the answer that it has
+pub resumes_as : (s : State) (t : List Entry) (e : Event) (a : Answer) (b : BookView) (x : Option Resumption) (u : List Entry)
+    → a ≡ answer_to_event t e → b ≡ book_in t → key_resumed x ≡ resumed_key t e a → rows_resumed x ≡ rows_for b (resumed_key t e a)
+    → TablesFit s (with_rows (key_resumed x) (rows_resumed x) u) → TablesFit s (resumed t e u)
+resumes_as s t e a b x u answer book key rows fits =
+    subst (λ (w : Answer). TablesFit s (resumed_by t e w u)) answer
+    (subst (λ (k : Option LinkKey). TablesFit s (with_rows k (rows_for (book_in t) (resumed_key t e a)) u)) key
+    (subst (λ (rs : List WaitingRow). TablesFit s (with_rows (key_resumed x) rs u)) (rows ∙ ap (λ (w : BookView). rows_for w (resumed_key t e a)) book) fits))
