@@ -38,7 +38,8 @@ resumed_keeps P step t e u was = with_rows_keep P step (resumed_key t e (answer_
 pub resumed_same : {A : Type 0} (view : List Entry → A) → ((b : Binding) (t : List Entry) → view (Bound b ∷ t) ≡ view t) → (t : List Entry) (e : Event) (u : List Entry) → view (resumed t e u) ≡ view u
 resumed_same view same t e u = resumed_keeps (λ (v : List Entry). view v ≡ view u) (λ b v is. same b v ∙ is) t e u refl
 
--- the tables agree with the rows bound that the event's attach takes up, if these are its key and rows by the book and the answer that it has
+-- If a key and rows are those of an event, by the answer and the book that the router has, then tables that agree with
+-- these rows bound agree with what the event takes up.
 pub resumes_as : (s : State) (t : List Entry) (e : Event) (a : Answer) (b : BookView) (x : Option Resumption) (u : List Entry)
     → a ≡ answer_to_event t e → b ≡ book_in t → key_resumed x ≡ resumed_key t e a → rows_resumed x ≡ rows_for b (resumed_key t e a)
     → TablesFit s (with_rows (key_resumed x) (rows_resumed x) u) → TablesFit s (resumed t e u)
