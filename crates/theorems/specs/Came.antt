@@ -107,8 +107,8 @@ pub record BindsMessage (t : Trace) (b : Binding) : Type 0 where
   pub has_row : HasRowOn (lasts_on (Some producer)) b.origin b.row
   pub lasting : b.lasting ≡ lasts t b.consumer
 
--- A row is bound again when a consumer's durable link takes it up: the book has it, undecided, for the terminus of that link. It is bound as the book has
--- it, and its producer's delivery is that of the delivery which it had until then.
+-- A row is bound again when a consumer's durable link takes it up: the book has it, undecided, for the terminus of that
+-- link. It is bound as the book has it, and its producer's delivery is that of the delivery which it had until then.
 pub record TakesUp (t : Trace) (b : Binding) : Type 0 where
   pub row : ARow
   pub number : b.row ≡ Some row.number
