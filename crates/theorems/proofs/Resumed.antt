@@ -1,6 +1,6 @@
 -- The rows that an event's attach takes up: each stands in the book, undecided, for the terminus of the link, and is bound as the book has it.
 use Rattle.std.proofs.Common.{◌≡◌, ◌∙◌, sym, ap, refl, ℕ, Bool, true, false, ◌&&◌, List, [], ◌∷◌, ◌++◌, append_assoc}
-use Rattle.std.specs.Prelude.{Option, Some, None, is_none, map, filter, option_and_then}
+use Rattle.std.specs.Prelude.{Option, Some, None, map, filter, option_and_then}
 use Rattle.amqp_model.specs.declared.item.Item.{Item}
 use Rattle.book_model.specs.declared.row.Row.{Row as ARow}
 use Rattle.book_model.specs.declared.terminus.LinkKey.{LinkKey}

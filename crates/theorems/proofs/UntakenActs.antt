@@ -29,7 +29,7 @@ use Rattle.journal_store.specs.Store.{exceeds}
 use Rattle.router_trace.specs.declared.event.Event.{Event}
 use Rattle.router_trace.specs.declared.event.Event.TheVariants as event
 use Rattle.router_trace.specs.declared.handle.Attachment.{Attachment}
-use Rattle.router_trace.specs.Trace.{Entry, Did, Out, Took, Bound, Booked, Began, did}
+use Rattle.router_trace.specs.Trace.{Entry, Booked, did}
 use Rattle.router_trace.specs.Connection.{due}
 use Rattle.router_trace.specs.Deliveries.{last_of, none_if_ended}
 use Rattle.router_trace.specs.LinkFrames.{plain_answer}
