@@ -58,8 +58,9 @@ has_some (x ∷ xs) = true
 abbrev pub rows_of : BookView → Terminus → List Row
 rows_of b x = filter (is_of x.number.0) b.rows
 
--- That a link resumes deliveries isn't served yet. A producer's would, if one is unsettled after its attach. A consumer's would, if its map has a delivery of
--- these rows, or if it says nothing of one that is unsettled, as it is incomplete (2.6.13). Any other undecided row is sent anew.
+-- That a link resumes deliveries isn't served yet. A producer's would, if one is unsettled after its attach. A
+-- consumer's would, if its map has a delivery of these rows, or if it is incomplete and the router's map has entries
+-- (AMQP 1.0 part 2, section 2.6.13). Any other undecided row is sent anew.
 abbrev pub is_resumed : Resumed → Bool
 is_resumed Anew = false
 is_resumed _ = true

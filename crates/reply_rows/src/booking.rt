@@ -1,10 +1,11 @@
 //! Durable links and the book of durable deliveries: why a link, or a delivery on one, that its row would take is refused after all.
-ghost use Rattle.std.specs.Prelude.{◌≡◌, [], List, not, option_map, unwrap_or, IfOk};
+ghost use Rattle.std.specs.Prelude.{◌≡◌, ◌||◌, ◌&&◌, [], List, not, option_map, unwrap_or, IfOk};
+ghost use Rattle.std.specs.List.{list_any};
 ghost use Rattle.std.specs.Option.{option_copied};
 ghost use Rattle.router_trace.specs.Trace.{Entry};
 ghost use Rattle.router_trace.specs.LinkFrames.{other};
 ghost use Rattle.router_state.specs.Tables.{TablesFind};
-ghost use Rattle.reply_rows.specs.Booking.{wanted_key, wanted_address, wants_durable, new_terminus, has_room, rows_of, map_for, unless_resumes, durable_refusal, attach_unless, stands_from, repeats_tag, repeats, booked_transfer};
+ghost use Rattle.reply_rows.specs.Booking.{wanted_key, wanted_address, wants_durable, new_terminus, has_room, has_some, rows_of, is_resumed, attach_resumes, unless_resumes, durable_refusal, attach_unless, stands_from, repeats_tag, repeats, booked_transfer};
 ghost use Rattle.router_trace.specs.Deliveries.{tag_in};
 ghost use Rattle.book_model.specs.Book.{terminus_of, same_bytes, is_short};
 
@@ -13,7 +14,7 @@ use crate::link_rows::LINK_TEXT;
 use amqp_model::{Attach, DeliveryTag, Role, Text, Transfer, UnsettledDelivery};
 use book_core::Book;
 use book_model::{LinkKey, LinkRole, Terminus};
-use resume_core::{consumer_plan, producer_plan};
+use resume_core::{ConsumerPlan, Resumed, Sending, consumer_plan, producer_plan};
 use router_state::State;
 use router_trace::{Condition, is_durable};
 use state_links::address_by;
@@ -96,14 +97,14 @@ fn has_address(terminus: &Terminus, address: Option<&Text>) -> bool
     }
 }
 
-/// Why a link may not take up this terminus again, if it may not: deliveries would be unsettled on it.
+/// Why a link may not take up this terminus again, if it may not: deliveries would be resumed on it.
 fn resumed_refusal(
     alloc: Global,
     book: &Book,
     terminus: &Terminus,
     attach: &Attach,
 ) -> Result<Option<Condition>, AllocError>
-    ensures { IfOk result (λ refusal. refusal ≡ unless_resumes (map_for (rows_of book.now terminus.now) attach.now)) }
+    ensures { IfOk result (λ refusal. refusal ≡ unless_resumes (attach_resumes (rows_of book.now terminus.now) attach.now)) }
 {
     let rows = book.rows_of(terminus.number);
     let unsettled = attach.unsettled.as_ref();
@@ -111,23 +112,51 @@ fn resumed_refusal(
     match attach.role {
         Role::Sender => {
             let plan = producer_plan(alloc, rows, unsettled, complete)?;
-            Ok(unless_resumes(&plan.map))
+            Ok(unless_resumes(has_some(&plan.map)))
         }
         Role::Receiver => {
             let plan = consumer_plan(alloc, rows, unsettled, complete)?;
-            Ok(unless_resumes(&plan.map))
+            Ok(unless_resumes(resumes_some(&plan, complete)))
         }
     }
 }
 
-/// Why a link whose router's map would be this one is refused, if it is.
-fn unless_resumes(map: &[UnsettledDelivery]) -> Option<Condition>
-    ensures { result ≡ unless_resumes map.now }
+/// Whether a map has entries.
+fn has_some(map: &[UnsettledDelivery]) -> bool
+    ensures { result ≡ has_some map.now }
 {
-    if map.is_empty() {
-        None
-    } else {
+    !map.is_empty()
+}
+
+/// Whether a consumer's attach with this plan resumes deliveries, or says nothing of one that is unsettled.
+fn resumes_some(plan: &ConsumerPlan, complete: bool) -> bool
+    ensures { result ≡ (list_any (λ s. is_resumed s.how) plan.now.sendings.items || (not complete && has_some plan.now.map.items)) }
+{
+    sends_resumed(&plan.sendings) || (!complete && has_some(&plan.map))
+}
+
+/// Whether one of these deliveries is resumed.
+fn sends_resumed(sendings: &[Sending]) -> bool
+    ensures { result ≡ list_any (λ s. is_resumed s.how) sendings.now }
+{
+    sendings.iter().any(|sending| is_resumed(&sending.how))
+}
+
+/// Whether a delivery that is sent in this way is resumed.
+fn is_resumed(how: &Resumed) -> bool
+    ensures { result ≡ is_resumed how.now }
+{
+    !matches!(how, Resumed::Anew)
+}
+
+/// Why a link that would resume deliveries, if it does, is refused.
+fn unless_resumes(resumes: bool) -> Option<Condition>
+    ensures { result ≡ unless_resumes resumes }
+{
+    if resumes {
         Some(Condition::NotImplemented)
+    } else {
+        None
     }
 }
 

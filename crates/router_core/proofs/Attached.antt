@@ -5,6 +5,7 @@ use Rattle.amqp_model.specs.declared.perf.Attach.{Attach as AnAttach}
 use Rattle.amqp_model.specs.declared.perf.Role.TheVariants.{Receiver}
 use Rattle.amqp_model.specs.declared.state.DeliveryState.{DeliveryState}
 use Rattle.amqp_model.specs.declared.state.DeliveryState.TheVariants as state
+use Rattle.amqp_model.specs.declared.state.UnsettledDelivery.{UnsettledDelivery}
 use Rattle.amqp_model.specs.declared.item.Item.{Item}
 use Rattle.amqp_link.specs.declared.part.Delivery.{Delivery as Told}
 use Rattle.amqp_link.specs.declared.part.Part.{Part}
@@ -23,7 +24,7 @@ use Rattle.router_trace.specs.Order.{unwritten, of_session, has_turn}
 use Rattle.router_trace.specs.Peers.{largest_frame}
 use Rattle.router_trace.specs.Settling.{unbound}
 use Rattle.reply_transfers.specs.Transfers.{claimed_id, lasts_on, consumer_for, let_go, unless_many, ignored_put, released_by, unbound_put, part_put, settled_answers}
-use Rattle.router_reply.specs.Replies.{stolen_by, attach_answer, taken, refused}
+use Rattle.router_reply.specs.Replies.{stolen_by, with_map, attach_answer, taken, refused}
 use Rattle.state_connections.proofs.Lists.{by_test}
 use Rattle.router_core.proofs.Flowing.{AllFit, IsQuiet, fit_both}
 use Rattle.router_core.proofs.Linked.{holder_linked}
@@ -53,16 +54,16 @@ sized_fit t c own known begun true handle closed e a = all_fit t c known (attach
 sized_fit t c own known begun false handle closed e a = all_fit t c known (detach_item own handle closed (Some e)) begun tt
 
 answer_fit : (t : List Entry) (c own : ℕ) → has c (ups t) ≡ true → of_session (wrote t c) own ≡ true
-    → (largest : ℕ) (handle : Option ℕ) (a : AnAttach) → AllFit t (each_to c (attach_answer largest own handle a))
-answer_fit t c own known begun largest None a = tt
-answer_fit t c own known begun largest (Some handle) a =
-    let answer : AnAttach = answer_to a handle
+    → (largest : ℕ) (handle : Option ℕ) (ours : List UnsettledDelivery) (a : AnAttach) → AllFit t (each_to c (attach_answer largest own handle ours a))
+answer_fit t c own known begun largest None ours a = tt
+answer_fit t c own known begun largest (Some handle) ours a =
+    let answer : AnAttach = with_map ours (answer_to a handle)
     in sized_fit t c own known begun (fits largest (attach_item own answer)) handle (not (is_durable answer.role answer)) FrameSizeTooSmall answer
 
-pub taken_fit : (t : List Entry) (c own : ℕ) (a : AnAttach) → Ordered t → of_session (wrote t c) own ≡ true → AllFit t (taken t c own a)
-taken_fit t c own a ord begun =
+pub taken_fit : (t : List Entry) (c own : ℕ) (ours : List UnsettledDelivery) (a : AnAttach) → Ordered t → of_session (wrote t c) own ≡ true → AllFit t (taken t c own ours a)
+taken_fit t c own ours a ord begun =
     fit_both t (stolen_by (if_attached t last)) _ (stolen_fit t ord last (if_attached t last) refl)
-    (answer_fit t c own (session_known t c own ord begun) begun (largest_frame t c) (free_handle (goes (stolen_by (if_attached t last)) t) c own) a)
+    (answer_fit t c own (session_known t c own ord begun) begun (largest_frame t c) (free_handle (goes (stolen_by (if_attached t last)) t) c own) ours a)
   where
     last : Option Attachment
     last = last_of_key t (key_at t c (answer_to a 0))

@@ -19,6 +19,7 @@ use Rattle.router_trace.specs.declared.condition.Condition.TheVariants.{Resource
 use Rattle.reply_rows.specs.Booking.{answer_at}
 use Rattle.router_reply.specs.Acts.{Journaled, live_answer, planned_acts, event_answer, finds_full, journaled, book_in, acts_of, book_after_event, booked, answer_by, answer_to_event}
 use Rattle.router_reply.specs.Admitting.{admits, event_admission}
+use Rattle.router_reply.specs.Resuming.{resumed}
 use Rattle.router_reply.specs.Replies.{closing_of, ends, heard, bound_by, own_row, replied}
 use Rattle.state_messages.specs.Messages.{with_bound}
 use Rattle.router_state.specs.Tables.{TablesFit}
@@ -29,6 +30,7 @@ use Rattle.router_core.specs.declared.router.Core.{Core}
 use Rattle.router_core.proofs.Booking.{booked_same}
 use Rattle.router_core.proofs.Committing.{chosen}
 use Rattle.router_core.proofs.Following.{all_keep}
+use Rattle.router_core.proofs.Resuming.{resumed_same}
 
 -- what doesn't look at items and bindings is after an event and its replies as it is after the event
 module _ {A : Type 0} (view : List Entry → A) (out : (c : ℕ) (i : Item) (t : List Entry) → view (Out c i ∷ t) ≡ view t) (bound : (b : Binding) (t : List Entry) → view (Bound b ∷ t) ≡ view t) where
@@ -52,7 +54,8 @@ module _ {A : Type 0} (view : List Entry → A) (out : (c : ℕ) (i : Item) (t :
 
   pub view_answered : (id : List ℕ) (t : List Entry) (e : Event) → view (answered id t (step_of e)) ≡ view (did e ∷ t)
   view_answered id t e =
-      all_keep (λ (u : List Entry). view u ≡ view (did e ∷ t)) (λ ps u h. view_goes ps u ∙ h) (replied id t (step_of e)) (view_replied id t e)
+      all_keep (λ (u : List Entry). view u ≡ view (did e ∷ t)) (λ ps u h. view_goes ps u ∙ h) (resumed t e (replied id t (step_of e)))
+      (resumed_same view bound t e (replied id t (step_of e)) ∙ view_replied id t e)
 
 -- the journal after an event and its replies is that after its acts
 journal_handled : (id : List ℕ) (t : List Entry) (e : Event) → journaled (booked t e) ≡ journaled (handled id t (step_of e))

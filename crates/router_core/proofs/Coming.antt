@@ -9,10 +9,12 @@ use Rattle.router_trace.specs.declared.condition.Condition.TheVariants.{Resource
 use Rattle.router_reply.specs.Replies.{closing_of, ends, heard, bound_by, own_row, replied}
 use Rattle.state_messages.specs.Messages.{with_bound}
 use Rattle.router_reply.specs.Acts.{booked}
+use Rattle.router_reply.specs.Resuming.{resumed}
 use Rattle.router_core.specs.Replies.{answered, handled}
 use Rattle.router_core.specs.Moves.{with_came, ins}
 use Rattle.router_core.proofs.Booking.{booked_same}
 use Rattle.router_core.proofs.Following.{all_keep}
+use Rattle.router_core.proofs.Resuming.{resumed_same}
 
 pub ins_goes : (ps : List Put) (t : List Entry) (c : ℕ) → ins (goes ps t) c ≡ ins t c
 ins_goes [] t c = refl
@@ -34,7 +36,8 @@ ins_replied id t e c =
 
 pub ins_answered : (id : List ℕ) (t : List Entry) (e : Event) (c : ℕ) → ins (answered id t (step_of e)) c ≡ with_came e c (ins t c)
 ins_answered id t e c =
-    all_keep (λ (u : List Entry). ins u c ≡ with_came e c (ins t c)) (λ ps u h. ins_goes ps u c ∙ h) (replied id t (step_of e)) (ins_replied id t e c)
+    all_keep (λ (u : List Entry). ins u c ≡ with_came e c (ins t c)) (λ ps u h. ins_goes ps u c ∙ h) (resumed t e (replied id t (step_of e)))
+    (resumed_same (λ (u : List Entry). ins u c) (λ b u. refl) t e (replied id t (step_of e)) ∙ ins_replied id t e c)
 
 pub ins_handled : (id : List ℕ) (t : List Entry) (e : Event) (c : ℕ) → ins (handled id t (step_of e)) c ≡ with_came e c (ins t c)
 ins_handled id t e c = ins_answered id (booked t e) e c ∙ ap (with_came e c) (booked_same (λ (u : List Entry). ins u c) t e (λ acts. refl))

@@ -8,6 +8,7 @@ use Rattle.amqp_model.specs.declared.perf.Perf.{Perf}
 use Rattle.amqp_model.specs.declared.perf.Perf.TheVariants as perf
 use Rattle.amqp_model.specs.declared.perf.Transfer.{Transfer as ATransfer}
 use Rattle.amqp_model.specs.declared.state.DeliveryState.{DeliveryState}
+use Rattle.amqp_model.specs.declared.state.UnsettledDelivery.{UnsettledDelivery}
 use Rattle.amqp_model.specs.declared.item.Item.{Item}
 use Rattle.amqp_model.specs.declared.item.Item.TheVariants as item
 use Rattle.amqp_conn.specs.declared.conn.Conn.{Conn}
@@ -20,11 +21,11 @@ use Rattle.reply_rows.specs.declared.answer.Answer.{Answer}
 use Rattle.reply_rows.specs.declared.answer.Answer.TheVariants.{Attach, Refuse, Taken, Settle}
 use Rattle.reply_rows.specs.Rows.{said}
 use Rattle.reply_transfers.specs.Transfers.{part_put, settled_answers}
-use Rattle.router_reply.specs.Replies.{taken, refused, row_found, item_put}
+use Rattle.router_reply.specs.Replies.{taken, refused, row_found, map_for, item_put}
 
 pub item_cases : (id : List ℕ) (t after : List Entry) (c : ℕ) (p : Conn) (P : Answer → List Put → Type 0)
     → ((a : Answer) → P a (each_to c (said id p a)))
-    → ((own : ℕ) (x : AnAttach) → P (Attach own) (taken after c own x))
+    → ((own : ℕ) (ours : List UnsettledDelivery) (x : AnAttach) → P (Attach own) (taken after c own ours x))
     → ((own handle : ℕ) (e : Condition) (x : AnAttach) → P (Refuse own handle e) (each_to c (refused (largest_frame after c) own handle e x)))
     → ((own handle : ℕ) (row : Option RowNumber) (q : Option Part) → P (Taken own handle) (each_to c (part_put after c own handle row q)))
     → ((own : ℕ) (s : Option DeliveryState) (ids : List ℕ) → P (Settle own) (each_to c (settled_answers own s ids)))
@@ -35,7 +36,7 @@ item_cases id t after c p P none takes refuses carries settles i a = by_item i a
     nothing_more a = subst (λ (ps : List Put). P a ps) (sym (append-nil (each_to c (said id p a)))) (none a)
 
     by_attach : (sasl : Bool) (channel : ℕ) (payload : List ℕ) (x : AnAttach) (a : Answer) → P a (item_put id t after c p (item.Frame sasl channel (perf.Attach x) payload) a)
-    by_attach sasl channel payload x (Attach own) = takes own x
+    by_attach sasl channel payload x (Attach own) = takes own (map_for t c x (Attach own)) x
     by_attach sasl channel payload x (Refuse own handle e) = refuses own handle e x
     by_attach sasl channel payload x a = nothing_more a
 

@@ -6,6 +6,7 @@ pub mod Linked
 pub mod RowOrder
 pub mod ItemRows
 pub mod Following
+pub mod Resuming
 pub mod Booking
 pub mod Books
 pub mod Machines

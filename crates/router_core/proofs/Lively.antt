@@ -5,6 +5,7 @@ use Rattle.std.proofs.lemmas.Bool.{eqb-true, eq-eqb}
 use Rattle.amqp_model.specs.declared.perf.Attach.{Attach as AnAttach}
 use Rattle.amqp_model.specs.declared.perf.Perf.{Perf}
 use Rattle.amqp_model.specs.declared.perf.Perf.TheVariants as perf
+use Rattle.amqp_model.specs.declared.state.UnsettledDelivery.{UnsettledDelivery}
 use Rattle.amqp_model.specs.declared.item.Item.{Item}
 use Rattle.amqp_model.specs.declared.item.Item.TheVariants as item
 use Rattle.amqp_conn.specs.declared.conn.Conn.{Conn}
@@ -30,7 +31,8 @@ use Rattle.state_sessions.specs.Windows.{windows}
 use Rattle.state_messages.specs.Messages.{grants_due, with_bound}
 use Rattle.reply_rows.specs.Rows.{said}
 use Rattle.router_reply.specs.Acts.{answer_of}
-use Rattle.router_reply.specs.Replies.{closing_of, ends, heard, stolen_by, attach_answer, taken_after, taken, refused, bound_by, item_row, own_row, replied}
+use Rattle.router_reply.specs.Resuming.{resumed}
+use Rattle.router_reply.specs.Replies.{closing_of, ends, heard, stolen_by, with_map, attach_answer, taken_after, taken, refused, bound_by, item_row, own_row, replied}
 use Rattle.router_core.specs.Replies.{answered}
 use Rattle.router_core.specs.Attaches.{is_attach}
 use Rattle.state_connections.proofs.Lists.{by_test}
@@ -42,6 +44,7 @@ use Rattle.router_core.proofs.ItemRows.{item_cases}
 use Rattle.router_core.proofs.Linked.{link_was, linked_before}
 use Rattle.router_core.proofs.Order.{not_before, event_pending}
 use Rattle.router_core.proofs.Ordered.{Ordered, Spares, puts_spares, bound_spares}
+use Rattle.router_core.proofs.Resuming.{resumed_keeps}
 use Rattle.router_core.proofs.Replied.{FoundLive, found_live, nothing_stands, heard_spares}
 
 abbrev pub Lively : List Entry → Type 0
@@ -99,23 +102,24 @@ sized_steady : (u : List Entry) (c own : ℕ) → is_live (conn u c) ≡ true �
 sized_steady u c own live true handle closed e a = (λ h. live, tt)
 sized_steady u c own live false handle closed e a = (λ h. live, tt)
 
-answer_steady : (u : List Entry) (c own largest : ℕ) (handle : Option ℕ) (a : AnAttach) → is_live (conn u c) ≡ true → Steady (each_to c (attach_answer largest own handle a)) u
-answer_steady u c own largest None a live = tt
-answer_steady u c own largest (Some handle) a live =
-    let answer : AnAttach = answer_to a handle
+answer_steady : (u : List Entry) (c own largest : ℕ) (handle : Option ℕ) (ours : List UnsettledDelivery) (a : AnAttach) → is_live (conn u c) ≡ true
+    → Steady (each_to c (attach_answer largest own handle ours a)) u
+answer_steady u c own largest None ours a live = tt
+answer_steady u c own largest (Some handle) ours a live =
+    let answer : AnAttach = with_map ours (answer_to a handle)
     in sized_steady u c own live (fits largest (attach_item own answer)) handle (not (is_durable answer.role answer)) FrameSizeTooSmall answer
 
 still_live : (u : List Entry) (d c : ℕ) (i : Item) → ((p : Conn) → (phase_after i p).closed ≡ p.closed) → is_live (conn u c) ≡ true → is_live (conn (Out d i ∷ u) c) ≡ true
 still_live u d c i same live = by_test (d == c) (λ e. rw e (live_more i (conn u c) same live)) (λ e. rw e live)
 
-taken_steady : (u v : List Entry) (c own : ℕ) (a : AnAttach) → is_live (conn v c) ≡ true → Steady (taken u c own a) v
-taken_steady u v c own a live = by (holder u (key_at u c (answer_to a 0)))
+taken_steady : (u v : List Entry) (c own : ℕ) (ours : List UnsettledDelivery) (a : AnAttach) → is_live (conn v c) ≡ true → Steady (taken u c own ours a) v
+taken_steady u v c own ours a live = by (holder u (key_at u c (answer_to a 0)))
   where
-    by : (x : Option Attachment) → Steady (taken_after u c own a (stolen_by x)) v
-    by None = answer_steady v c own (largest_frame u c) (free_handle u c own) a live
+    by : (x : Option Attachment) → Steady (taken_after u c own ours a (stolen_by x)) v
+    by None = answer_steady v c own (largest_frame u c) (free_handle u c own) ours a live
     by (Some x) =
         let out : Item = detach_item x.channel x.handle false (Some Stolen)
-        in (λ h. absurd (true≢false (sym h)), answer_steady (Out x.conn.0 out ∷ v) c own (largest_frame u c) _ a (still_live v x.conn.0 c out (λ p. refl) live))
+        in (λ h. absurd (true≢false (sym h)), answer_steady (Out x.conn.0 out ∷ v) c own (largest_frame u c) _ ours a (still_live v x.conn.0 c out (λ p. refl) live))
 
 refused_steady : (v : List Entry) (largest c own handle : ℕ) (e : Condition) (a : AnAttach) → is_live (conn v c) ≡ true
     → Steady (each_to c (refused largest own handle e a)) v
@@ -201,7 +205,7 @@ item_lively id t d i was =
     in subst (λ (s : Option Conn). Lively (goes (item_row id t u d.0 i s) v)) (sym here.phase)
     (item_cases id t u d.0 here.view.phase (λ a ps. Lively (goes ps v))
     (λ a. goes_lively (each_to d.0 (said id here.view.phase a)) v before (less_steady _ v (less_said id d.0 here.view.phase a)))
-    (λ own x. goes_lively (taken u d.0 own x) v before (taken_steady u v d.0 own x there))
+    (λ own ours x. goes_lively (taken u d.0 own ours x) v before (taken_steady u v d.0 own ours x there))
     (λ own handle f x. goes_lively _ v before (refused_steady v (largest_frame u d.0) d.0 own handle f x there))
     (λ own handle row p. goes_lively _ v before (less_steady _ v (less_part u d.0 own handle row p)))
     (λ own s ids. goes_lively _ v before (less_steady _ v (less_settled d.0 own s ids)))
@@ -229,6 +233,9 @@ replied_lively id t (event.Down d) was = was
 replied_lively id t (event.Up d p) was = was
 replied_lively id t event.Start was = was
 
+pub resumed_lively : (id : List ℕ) (t : List Entry) (e : Event) → Lively (heard id t (step_of e)) → Lively (resumed t e (replied id t (step_of e)))
+resumed_lively id t e was = resumed_keeps Lively (λ b u h. bound_lively (Some b) u h) t e (replied id t (step_of e)) (replied_lively id t e was)
+
 pub lively_steps : Steps Lively
 lively_steps = record {
   telling = λ t was. goes_lively (tells t) t was (less_steady (tells t) t (on_less t (tells t) (tells_on t)));
@@ -239,9 +246,10 @@ lively_steps = record {
 
 pub answered_lively : (id : List ℕ) (t : List Entry) (e : Event) → Ordered t → Lively t → refuses t e ≡ false → Lively (answered id t (step_of e))
 answered_lively id t e ord was taken =
-    let behind : List Entry = passed_on (replied id t (step_of e))
+    let bound : List Entry = resumed t e (replied id t (step_of e))
+    in let behind : List Entry = passed_on bound
     in let passed : Lively behind
-    = passed_keeps Lively lively_steps (replied id t (step_of e)) (replied_lively id t e (heard_lively id t e ord was taken))
+    = passed_keeps Lively lively_steps bound (resumed_lively id t e (heard_lively id t e ord was taken))
     in goes_lively (windows behind) behind passed (less_steady (windows behind) behind (less_windows behind))
 
 -- takes

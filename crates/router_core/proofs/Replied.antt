@@ -27,6 +27,7 @@ use Rattle.reply_rows.specs.declared.answer.Answer.{Answer}
 use Rattle.reply_rows.specs.Rows.{said}
 use Rattle.router_reply.specs.Acts.{answer_of}
 use Rattle.reply_transfers.specs.Transfers.{part_put, settled_answers}
+use Rattle.router_reply.specs.Resuming.{resumed}
 use Rattle.router_reply.specs.Replies.{heard, taken, refused, bound_by, item_row, own_row, replied}
 use Rattle.router_core.specs.Replies.{answered}
 use Rattle.state_connections.proofs.Lists.{by_test, has_push}
@@ -37,6 +38,7 @@ use Rattle.router_core.proofs.Ordered.{Ordered, Spares, wrote, written_all, puts
 use Rattle.router_core.proofs.Told.{ToldAt, Told, goes_told_at, bound_told_at, ends_told_at, goes_strange, bound_strange, ends_strange, said_told}
 use Rattle.router_core.proofs.Flowing.{Fits, AllFit, goes_turns, beats_fit, live_some}
 use Rattle.router_core.proofs.Following.{all_keep}
+use Rattle.router_core.proofs.Resuming.{resumed_keeps, resumed_same}
 use Rattle.router_core.proofs.PassedOrder.{followed_turns}
 use Rattle.router_core.proofs.Attached.{taken_fit, refused_fit, part_fit, settled_fit}
 use Rattle.router_core.proofs.ItemRows.{item_cases}
@@ -124,7 +126,7 @@ row_turns id t d i ord here heard_ord there =
     (subst (λ (w : Written). have_turns w (said id p x) ≡ true) (sym same) (said_turns id p b asked x here.live fits))
     (subst (λ (y : Option BeginState). AreOffered (said id p x) y) (sym (spare.offered ∙ came)) (said_offered id p b asked x fits))
     v_there)
-    (λ own x fits. goes_turns (taken u c own x) v v_ord (fit_bound bound u (taken u c own x) (taken_fit u c own x heard_ord (before own fits))))
+    (λ own ours x fits. goes_turns (taken u c own ours x) v v_ord (fit_bound bound u (taken u c own ours x) (taken_fit u c own ours x heard_ord (before own fits))))
     (λ own handle f x fits. goes_turns (each_to c (refused (largest_frame u c) own handle f x)) v v_ord (refused_fit v (largest_frame u c) c own handle f x v_ord (on own fits)))
     (λ own handle row q fits. goes_turns (each_to c (part_put u c own handle row q)) v v_ord (part_fit v u c own handle row q v_ord (on own fits)))
     (λ own s ids fits. goes_turns (each_to c (settled_answers own s ids)) v v_ord (settled_fit v c own s ids v_ord (on own fits)))
@@ -189,8 +191,13 @@ replied_turns id t (event.Up c p) ord told taken = heard_turns id t (event.Up c 
 replied_turns id t (event.Tick ms) ord told taken = beat_turns id t ms ord told (heard_turns id t (event.Tick ms) ord taken)
 replied_turns id t event.Start ord told taken = heard_turns id t event.Start ord taken
 
+pub resumed_turns : (t : List Entry) (e : Event) (u : List Entry) → Ordered u → Ordered (resumed t e u)
+resumed_turns t e u ord = resumed_keeps Ordered (λ b v h. bound_turns (Some b) v h) t e u ord
+
 pub answered_turns : (id : List ℕ) (t : List Entry) (e : Event) → Ordered t → Told t → refuses t e ≡ false → Ordered (answered id t (step_of e))
-answered_turns id t e ord told taken = followed_turns (replied id t (step_of e)) (replied_turns id t e ord told taken)
+answered_turns id t e ord told taken =
+    followed_turns (resumed t e (replied id t (step_of e)))
+    (resumed_turns t e (replied id t (step_of e)) (replied_turns id t e ord told taken))
 
 -- an open is answered by an open or a close; nothing else sets the terms
 
@@ -231,7 +238,7 @@ opened_told id t d i opens =
     in subst (λ (s : Option Conn). ToldAt (goes (item_row id t u d.0 i s) v) d.0) (sym here.phase)
     (item_cases id t u d.0 here.view.phase (λ a ps. Opens a → ToldAt (goes ps v) d.0)
     (λ a says. said_told id here.view.phase v d.0 a says)
-    (λ own x says. absurd says)
+    (λ own ours x says. absurd says)
     (λ own handle f x says. absurd says)
     (λ own handle row q says. absurd says)
     (λ own s ids says. absurd says)
@@ -288,7 +295,9 @@ replied_ups id t e =
     in goes_ups (own_row id t u e) (with_bound (bound_by t u e) u) ∙ bound_ups (bound_by t u e) u ∙ ends_ups id (due t e) (did e ∷ t)
 
 answered_ups : (id : List ℕ) (t : List Entry) (e : Event) → ups (answered id t (step_of e)) ≡ with_up e (ups t)
-answered_ups id t e = all_keep (λ (v : List Entry). ups v ≡ with_up e (ups t)) (λ ps v h. goes_ups ps v ∙ h) (replied id t (step_of e)) (replied_ups id t e)
+answered_ups id t e =
+    all_keep (λ (v : List Entry). ups v ≡ with_up e (ups t)) (λ ps v h. goes_ups ps v ∙ h) (resumed t e (replied id t (step_of e)))
+    (resumed_same ups (λ b u. refl) t e (replied id t (step_of e)) ∙ replied_ups id t e)
 
 replied_strange : (id : List ℕ) (t : List Entry) (e : Event) (k : ℕ) → terms (did e ∷ t) k ≡ None → terms (replied id t (step_of e)) k ≡ None
 replied_strange id t e k none =
@@ -298,7 +307,9 @@ replied_strange id t e k none =
 
 pub answered_told : (id : List ℕ) (t : List Entry) (e : Event) → Ordered t → Told t → refuses t e ≡ false → Told (answered id t (step_of e))
 answered_told id t e ord told taken = record {
-  told = λ k. all_keep (λ (v : List Entry). ToldAt v k) (λ ps v h. goes_told_at ps v k h) (replied id t (step_of e)) (replied_told id t e ord told taken k);
-  strange = λ k absent. all_keep (λ (v : List Entry). terms v k ≡ None) (λ ps v h. goes_strange ps v k h) (replied id t (step_of e))
-      (replied_strange id t e k (strange_at t e told taken k (sym (ap (λ ks. has k ks) (answered_ups id t e)) ∙ absent)));
+  told = λ k. all_keep (λ (v : List Entry). ToldAt v k) (λ ps v h. goes_told_at ps v k h) (resumed t e (replied id t (step_of e)))
+      (resumed_keeps (λ (v : List Entry). ToldAt v k) (λ b v h. bound_told_at (Some b) v k h) t e (replied id t (step_of e)) (replied_told id t e ord told taken k));
+  strange = λ k absent. all_keep (λ (v : List Entry). terms v k ≡ None) (λ ps v h. goes_strange ps v k h) (resumed t e (replied id t (step_of e)))
+      (resumed_keeps (λ (v : List Entry). terms v k ≡ None) (λ b v h. bound_strange (Some b) v k h) t e (replied id t (step_of e))
+      (replied_strange id t e k (strange_at t e told taken k (sym (ap (λ ks. has k ks) (answered_ups id t e)) ∙ absent))));
 }

@@ -10,7 +10,7 @@ ghost use Rattle.router_trace.specs.Connection.{conn as known, is_ready, is_live
 ghost use Rattle.state_connections.specs.Fits.{IsLeast};
 ghost use Rattle.book_model.specs.Book.{effects};
 ghost use Rattle.gate_journal.specs.Reserve.{reserve};
-ghost use Rattle.router_reply.specs.Acts.{planned_acts, event_answer, acts_of, book_after_event, booked, finds_full, journaled};
+ghost use Rattle.router_reply.specs.Acts.{planned_acts, event_answer, acts_of, book_in, book_after_event, booked, finds_full, journaled};
 ghost use Rattle.router_reply.specs.Admitting.{admits, event_admission, without_acts};
 ghost use Rattle.router_reply.specs.Heard.{IsHeard};
 ghost use Rattle.router_reply.specs.Replies.{row_found};
@@ -35,7 +35,9 @@ use journal_store::Store;
 use reply_rows::Answer;
 use route_table::{Config, Table};
 use router_after::after;
-use router_reply::{Heard, Plan, admission_for, hear, make_plan, reply, row_in};
+use router_reply::{
+    Heard, Plan, admission_for, hear, make_plan, reply, resumption_of, row_in, take_up, told_map,
+};
 use router_state::State;
 use router_trace::{ConnectionId, Event, RouterId};
 use state_connections::{Refused, phase_found};
@@ -522,7 +524,8 @@ impl<D: Disk> Core<D> {
         ready: &mut Ready,
         row: Option<RowNumber>,
     ) -> Result<(), AllocError>
-        ensures tables { OnOk result ((t : List Entry) → IsReady (state_of self.old) t event ready.old → row ≡ row_found t → TablesFit (state_of self.new) (answered (id_of self.old) t (step_of event))) }
+        ensures tables { OnOk result ((t : List Entry) → IsReady (state_of self.old) t event ready.old → row ≡ row_found t → kept_book self.old ≡ book_in t
+            → TablesFit (state_of self.new) (answered (id_of self.old) t (step_of event))) }
         ensures started { OnOk result (self.new.started ≡ true) }
         ensures counted { OnOk result (counts_of self.new ≡ with_event event (counts_of self.old)) }
         ensures uncounted { OnErr result (counts_of self.new ≡ counts_of self.old) }
@@ -534,7 +537,14 @@ impl<D: Disk> Core<D> {
             drop(event);
             return Err(AllocError);
         };
-        reply_to(&mut self.state, &self.id, event, ready, row)?;
+        reply_to(
+            &mut self.state,
+            self.store.book(),
+            &self.id,
+            event,
+            ready,
+            row,
+        )?;
         self.counts = counts;
         self.started = true;
         Ok(())
@@ -669,24 +679,40 @@ impl<D: Crash> Core<D> {
     }
 }
 
-/// The reply to an event that was handled, and what follows it.
+/// The reply to an event that was handled, by the book after its acts; then the rows that its attach takes up are bound,
+/// and last comes what follows.
 fn reply_to(
     state: &mut State,
+    book: &Book,
     id: &RouterId,
     event: Event,
     ready: &mut Ready,
     row: Option<RowNumber>,
 ) -> Result<(), AllocError>
-    ensures { OnOk result ((t : List Entry) → IsReady state.old t event ready.old → row ≡ row_found t → TablesFit state.new (answered id.now t (step_of event))) }
+    ensures { OnOk result ((t : List Entry) → IsReady state.old t event ready.old → row ≡ row_found t → book.now ≡ book_in t → TablesFit state.new (answered id.now t (step_of event))) }
 {
-    reply(
+    let Ok(resumption) = resumption_of(state, book, &event, &ready.answer) else {
+        drop(event);
+        return Err(AllocError);
+    };
+    let Ok(ours) = told_map(state.alloc(), &resumption) else {
+        drop(event);
+        drop(resumption);
+        return Err(AllocError);
+    };
+    let Ok(()) = reply(
         state,
         id,
         &ready.ends,
         event,
         &ready.answer,
         row,
+        ours,
         &mut ready.heard,
-    )?;
+    ) else {
+        drop(resumption);
+        return Err(AllocError);
+    };
+    take_up(state, resumption)?;
     after(state)
 }

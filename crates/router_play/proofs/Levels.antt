@@ -28,6 +28,7 @@ use Rattle.router_state.specs.Tables.{beat_if, beats_over, beats}
 use Rattle.state_messages.specs.Messages.{grants_due, with_bound}
 use Rattle.reply_rows.specs.Rows.{said}
 use Rattle.reply_transfers.specs.Transfers.{part_put, settled_answers}
+use Rattle.router_reply.specs.Resuming.{resumed}
 use Rattle.router_reply.specs.Replies.{closing_of, ends, heard, stolen_by, refused, bound_by, item_row, own_row, replied}
 use Rattle.router_after.specs.After.{widened, followed}
 use Rattle.router_reply.specs.Acts.{answer_of, booked}
@@ -40,7 +41,8 @@ use Rattle.router_core.proofs.ItemRows.{item_cases}
 use Rattle.router_core.proofs.Linked.{holder_linked}
 use Rattle.router_core.proofs.Due.{AllOnLinks, tells_on, sends_on, drains_on, grants_on}
 use Rattle.router_core.proofs.Following.{Steps, passed_on, passed_keeps, all_keep}
-use Rattle.router_core.proofs.Lively.{Lively, heard_lively, replied_lively, lively_steps}
+use Rattle.router_core.proofs.Lively.{Lively, heard_lively, resumed_lively, lively_steps}
+use Rattle.router_core.proofs.Resuming.{resumed_keeps, resumed_same}
 use Rattle.router_play.specs.Carrying.{is_loss_of, was_lost}
 use Rattle.state_connections.proofs.Lists.{by_test}
 use Rattle.state_connections.proofs.Turns.{stays}
@@ -286,7 +288,7 @@ item_known id t u d i links None there = tt
 item_known id t u d i links (Some p) there =
     item_cases id t u d p (λ a ps. AllKnown ps u)
     (λ a. each_known (said id p a) u d (there refl))
-    (λ own x. known_join (stolen_by (holder u (key_at u d (answer_to x 0)))) _ u
+    (λ own ours x. known_join (stolen_by (holder u (key_at u d (answer_to x 0)))) _ u
     (stolen_known u links (last_of_key u (key_at u d (answer_to x 0))) (holder u (key_at u d (answer_to x 0))) refl)
     (each_known _ u d (there refl)))
     (λ own handle e x. each_known (refused (largest_frame u d) own handle e x) u d (there refl))
@@ -319,17 +321,23 @@ row_even id t (event.Tick ms) c links =
     (λ k l. (ends_even id (due t e) (did e ∷ t) k).known ∙ live_known (found t e k) l) (ups t))
 row_even id t event.Start c links = even_refl (heard id t (step_of event.Start)) c
 
+-- the rows that its attach takes up
+resumed_even : (t : List Entry) (e : Event) (u : List Entry) (c : ℕ) → Even u (resumed t e u) c
+resumed_even t e u c = resumed_keeps (λ (v : List Entry). Even u v c) (λ b v h. even_trans u v (with_bound (Some b) v) c h (bound_even (Some b) v c)) t e u (even_refl u c)
+
 -- an event with its replies
 after_even : (id : List ℕ) (g : Beginning) (t : List Entry) (e : Event) (c : ℕ) → IsTrace id g t → refuses t e ≡ false → Even (did e ∷ booked t e) (handled id t (step_of e)) c
 after_even id g t e c real taken =
     let b : List Entry = booked t e
     in let u : List Entry = heard id b (step_of e)
     in let v : List Entry = replied id b (step_of e)
+    in let w : List Entry = resumed b e v
     in let was : Holds b = holds_booked t e (trace_holds id g t real)
     in let lively : Lively u = heard_lively id b e was.ordered was.lively (taken_booked t e taken)
     in let links : LinksKnown u = λ k o h some. live_known (conn u k) (lively k o h some)
     in even_trans (did e ∷ b) u (handled id t (step_of e)) c (ends_even id (due b e) (did e ∷ b) c)
-    (even_trans u v (handled id t (step_of e)) c (row_even id b e c links) (followed_even v c (replied_lively id b e lively)))
+    (even_trans u v (handled id t (step_of e)) c (row_even id b e c links)
+    (even_trans v w (handled id t (step_of e)) c (resumed_even b e v c) (followed_even w c (resumed_lively id b e lively))))
 
 batch_even : (t : List Entry) (e : Event) (c : ℕ) → Even t (booked t e) c
 batch_even t e c = booked_keeps (λ (u : List Entry). Even t u c) t e
@@ -391,8 +399,9 @@ ends_lost id (d ∷ ds) t c =
 pub answered_lost : (id : List ℕ) (t : List Entry) (e : Event) (c : ℕ) → was_lost (answered id t (step_of e)) c ≡ (is_loss_of e c || was_lost t c)
 answered_lost id t e c =
     let u : List Entry = heard id t (step_of e)
-    in all_keep (λ (v : List Entry). was_lost v c ≡ (is_loss_of e c || was_lost t c)) (λ ps v h. goes_lost ps v c ∙ h) (replied id t (step_of e))
-    (goes_lost (own_row id t u e) (with_bound (bound_by t u e) u) c ∙ bound_lost (bound_by t u e) u c ∙ ends_lost id (due t e) (did e ∷ t) c)
+    in all_keep (λ (v : List Entry). was_lost v c ≡ (is_loss_of e c || was_lost t c)) (λ ps v h. goes_lost ps v c ∙ h) (resumed t e (replied id t (step_of e)))
+    (resumed_same (λ (v : List Entry). was_lost v c) (λ b v. refl) t e (replied id t (step_of e))
+    ∙ goes_lost (own_row id t u e) (with_bound (bound_by t u e) u) c ∙ bound_lost (bound_by t u e) u c ∙ ends_lost id (due t e) (did e ∷ t) c)
 
 pub handled_kept : (id : List ℕ) (t : List Entry) (e : Event) (c : ℕ) → is_loss_of e c ≡ false → was_lost (handled id t (step_of e)) c ≡ was_lost t c
 handled_kept id t e c other =

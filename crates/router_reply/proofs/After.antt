@@ -7,6 +7,7 @@ use Rattle.amqp_model.specs.Parts.{attach_of}
 use Rattle.amqp_model.specs.declared.perf.Perf.TheVariants as perf
 use Rattle.amqp_model.specs.declared.item.Item.{Item}
 use Rattle.amqp_model.specs.declared.item.Item.TheVariants as item
+use Rattle.amqp_model.specs.declared.state.UnsettledDelivery.{UnsettledDelivery}
 use Rattle.amqp_conn.specs.declared.conn.Conn.{Conn}
 use Rattle.router_trace.specs.declared.condition.Condition.{Condition}
 use Rattle.router_trace.specs.Trace.{Entry, Put, goes, each_to, puts}
@@ -17,7 +18,8 @@ use Rattle.state_messages.specs.Messages.{with_bound}
 use Rattle.reply_rows.specs.declared.answer.Answer.{Answer}
 use Rattle.reply_rows.specs.declared.answer.Answer.TheVariants.{Attach, Refuse, Taken, Settle}
 use Rattle.reply_rows.specs.Rows.{said}
-use Rattle.router_reply.specs.Acts.{answer_of}
+use Rattle.router_reply.specs.Acts.{answer_of, book_in}
+use Rattle.router_reply.specs.Resuming.{key_in, rows_for, map_of}
 use Rattle.reply_transfers.specs.Transfers.{part_put, part_bound, disposition_in, given_after}
 use Rattle.router_reply.specs.Replies.{item_row, item_bound, item_put, links_put, put_for_transfer, put_for_disposition, bound_for, settled_put, put_for_attach, put_if_attach, attach_put, row_found, after_answer}
 use Rattle.router_reply.proofs.Puts.{goes_both}
@@ -57,7 +59,11 @@ unsettled : (t : List Entry) (c : ℕ) (x : ADisposition) (a : Answer) → NotSe
 unsettled t c x (Settle own) none = absurd (none own refl)
 unsettled t c x _ none = refl
 
-attach_by : (t u : List Entry) (c : ℕ) (i : Item) (a : Answer) → NotTaken a → NotSettled a → links_put t u c i a ≡ attach_put u c i a
+-- the router's map in the answer to an attach
+abbrev pub map_in : List Entry → ℕ → Item → Answer → List UnsettledDelivery
+map_in t c i a = map_of (rows_for (book_in t) (key_in t c i a))
+
+attach_by : (t u : List Entry) (c : ℕ) (i : Item) (a : Answer) → NotTaken a → NotSettled a → links_put t u c i a ≡ attach_put u c (map_in t c i a) i a
 attach_by t u c (item.Frame sasl channel (perf.Attach x) payload) a taken settled = refl
 attach_by t u c (item.Frame sasl channel (perf.Transfer x) payload) a taken settled = untaken t u c (item.Frame sasl channel (perf.Transfer x) payload) a taken
 attach_by t u c (item.Frame sasl channel (perf.Disposition x) payload) a taken settled = unsettled t c x a settled
@@ -79,36 +85,36 @@ pub settled_is : (id : List ℕ) (t after : List Entry) (c : ℕ) (p : Conn) (i 
 settled_is id t after c p i own = ap (λ (ps : List Put). goes ps after) (settled_by t after c i own)
 
 pub other_is : (id : List ℕ) (t after : List Entry) (c : ℕ) (p : Conn) (i : Item) (a : Answer) → NotTaken a → NotSettled a
-    → after_answer id t after c p i a ≡ goes (attach_put (puts c (said id p a) after) c i a) (puts c (said id p a) after)
+    → after_answer id t after c p i a ≡ goes (attach_put (puts c (said id p a) after) c (map_in t c i a) i a) (puts c (said id p a) after)
 other_is id t after c p i a taken settled =
     ap (λ (b : Option Binding). goes (item_put id t after c p i a) (with_bound b after)) (unbound t after c i a taken)
     ∙ goes_both (each_to c (said id p a)) (links_put t (puts c (said id p a) after) c i a) after
     ∙ ap (λ (ps : List Put). goes ps (puts c (said id p a) after)) (attach_by t (puts c (said id p a) after) c i a taken settled)
 
 -- a transfer that is taken and an answered disposition put nothing for an attach
-pub taken_left : (u : List Entry) (c : ℕ) (i : Item) (own handle : ℕ) → attach_put u c i (Taken own handle) ≡ []
-taken_left u c (item.Frame sasl channel (perf.Attach x) payload) own handle = refl
-taken_left u c (item.Frame sasl channel _ payload) own handle = refl
-taken_left u c _ own handle = refl
+pub taken_left : (u : List Entry) (c : ℕ) (ours : List UnsettledDelivery) (i : Item) (own handle : ℕ) → attach_put u c ours i (Taken own handle) ≡ []
+taken_left u c ours (item.Frame sasl channel (perf.Attach x) payload) own handle = refl
+taken_left u c ours (item.Frame sasl channel _ payload) own handle = refl
+taken_left u c ours _ own handle = refl
 
-pub settled_left : (u : List Entry) (c : ℕ) (i : Item) (own : ℕ) → attach_put u c i (Settle own) ≡ []
-settled_left u c (item.Frame sasl channel (perf.Attach x) payload) own = refl
-settled_left u c (item.Frame sasl channel _ payload) own = refl
-settled_left u c _ own = refl
+pub settled_left : (u : List Entry) (c : ℕ) (ours : List UnsettledDelivery) (i : Item) (own : ℕ) → attach_put u c ours i (Settle own) ≡ []
+settled_left u c ours (item.Frame sasl channel (perf.Attach x) payload) own = refl
+settled_left u c ours (item.Frame sasl channel _ payload) own = refl
+settled_left u c ours _ own = refl
 
 -- and so does what is no answer to an attach
-unattached_by : (t : List Entry) (c : ℕ) (x : AnAttach) (a : Answer) → ((own : ℕ) → a ≡ Attach own → ⊥) → ((own handle : ℕ) (e : Condition) → a ≡ Refuse own handle e → ⊥) → put_for_attach t c x a ≡ []
-unattached_by t c x (Attach own) taken refused = absurd (taken own refl)
-unattached_by t c x (Refuse own handle e) taken refused = absurd (refused own handle e refl)
-unattached_by t c x _ taken refused = refl
+unattached_by : (t : List Entry) (c : ℕ) (ours : List UnsettledDelivery) (x : AnAttach) (a : Answer) → ((own : ℕ) → a ≡ Attach own → ⊥) → ((own handle : ℕ) (e : Condition) → a ≡ Refuse own handle e → ⊥) → put_for_attach t c ours x a ≡ []
+unattached_by t c ours x (Attach own) taken refused = absurd (taken own refl)
+unattached_by t c ours x (Refuse own handle e) taken refused = absurd (refused own handle e refl)
+unattached_by t c ours x _ taken refused = refl
 
-unattached_in : (t : List Entry) (c : ℕ) (x : Option AnAttach) (a : Answer) → ((own : ℕ) → a ≡ Attach own → ⊥) → ((own handle : ℕ) (e : Condition) → a ≡ Refuse own handle e → ⊥) → put_if_attach t c x a ≡ []
-unattached_in t c None a taken refused = refl
-unattached_in t c (Some x) a taken refused = unattached_by t c x a taken refused
+unattached_in : (t : List Entry) (c : ℕ) (ours : List UnsettledDelivery) (x : Option AnAttach) (a : Answer) → ((own : ℕ) → a ≡ Attach own → ⊥) → ((own handle : ℕ) (e : Condition) → a ≡ Refuse own handle e → ⊥) → put_if_attach t c ours x a ≡ []
+unattached_in t c ours None a taken refused = refl
+unattached_in t c ours (Some x) a taken refused = unattached_by t c ours x a taken refused
 
-pub unattached : (t : List Entry) (c : ℕ) (i : Item) (a : Answer) → ((own : ℕ) → a ≡ Attach own → ⊥) → ((own handle : ℕ) (e : Condition) → a ≡ Refuse own handle e → ⊥) → attach_put t c i a ≡ []
-unattached t c (item.Frame sasl channel body payload) a taken refused = unattached_in t c (attach_of body) a taken refused
-unattached t c _ a taken refused = refl
+pub unattached : (t : List Entry) (c : ℕ) (ours : List UnsettledDelivery) (i : Item) (a : Answer) → ((own : ℕ) → a ≡ Attach own → ⊥) → ((own handle : ℕ) (e : Condition) → a ≡ Refuse own handle e → ⊥) → attach_put t c ours i a ≡ []
+unattached t c ours (item.Frame sasl channel body payload) a taken refused = unattached_in t c ours (attach_of body) a taken refused
+unattached t c ours _ a taken refused = refl
 
 -- the trace after an item, by what was found of its connection
 abbrev pub after_item : List ℕ → List Entry → List Entry → ℕ → Item → Option Conn → List Entry

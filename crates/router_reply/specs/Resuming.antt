@@ -1,5 +1,5 @@
--- What a consumer's durable link takes up again when it is attached (AMQP 1.0 part 2, section 2.6.13): the undecided rows of its terminus, as the book
--- has them after the event's acts. Each is sent anew, as its map says nothing of it.
+-- What a consumer's durable link takes up again when it is attached (AMQP 1.0 part 2, section 2.6.13): the undecided
+-- rows of its terminus, as the book has them after the event's acts. Each is sent anew, as its map says nothing of it.
 use Rattle.std.specs.Prelude.{ℕ, ◌&&◌, Bool, true, false, if◌then◌else◌, List, [], ◌∷◌, map, filter, Option, Some, None}
 use Rattle.amqp_model.specs.declared.perf.Attach.{Attach as AnAttach}
 use Rattle.amqp_model.specs.declared.perf.Perf.{Perf}
@@ -13,17 +13,21 @@ use Rattle.book_model.specs.Book.{BookView, terminus_of, is_for, is_undecided}
 use Rattle.book_model.specs.declared.row.Row.{Row}
 use Rattle.book_model.specs.declared.terminus.LinkKey.{LinkKey}
 use Rattle.book_model.specs.declared.terminus.Terminus.{Terminus}
+use Rattle.router_trace.specs.declared.binding.DeliveryName.TheVariants as name
 use Rattle.router_trace.specs.declared.event.Event.{Event}
 use Rattle.router_trace.specs.declared.event.Event.TheVariants as event
 use Rattle.router_trace.specs.declared.handle.Attachment.{Attachment}
+use Rattle.router_trace.specs.Deliveries.{tag_of}
 use Rattle.router_trace.specs.Trace.{Trace, Bound}
 use Rattle.state_messages.specs.Asking.{consumer_with}
 use Rattle.state_messages.specs.Messages.{taken_up_by}
-use Rattle.resume_core.specs.Resuming.{map_entry, row_tag}
+use Rattle.resume_core.specs.Resuming.{map_entry}
 use Rattle.reply_rows.specs.Booking.{wanted_key, wants_durable}
 use Rattle.reply_rows.specs.declared.answer.Answer.{Answer}
 use Rattle.reply_rows.specs.declared.answer.Answer.TheVariants.{Attach}
 use Rattle.router_reply.specs.Acts.{book_in, answer_to_event}
+use Rattle.router_reply.specs.declared.resuming.Resumption.{Resumption}
+use Rattle.router_reply.specs.declared.resuming.WaitingRow.{WaitingRow}
 
 -- The key of the consumer's durable link that an attach asks for; none if it asks for another.
 abbrev pub receives : Role → Bool
@@ -58,27 +62,43 @@ abbrev pub undecided_rows : BookView → Option Terminus → List Row
 undecided_rows b None = []
 undecided_rows b (Some x) = filter (waits_for x.number.0) b.rows
 
-abbrev pub rows_for : BookView → Option LinkKey → List Row
+-- what is bound of a row
+abbrev pub waiting_of : Row → WaitingRow
+waiting_of r = record { number = r.number; format = r.format; payload = r.payload }
+
+abbrev pub rows_for : BookView → Option LinkKey → List WaitingRow
 rows_for b None = []
-rows_for b (Some k) = undecided_rows b (terminus_of k b.termini)
+rows_for b (Some k) = map waiting_of (undecided_rows b (terminus_of k b.termini))
+
+-- what is taken up: the key, and the rows
+abbrev pub key_resumed : Option Resumption → Option LinkKey
+key_resumed None = None
+key_resumed (Some x) = Some x.key
+
+abbrev pub rows_resumed : Option Resumption → List WaitingRow
+rows_resumed None = []
+rows_resumed (Some x) = x.rows.items
 
 -- The router's map in the answer to the attach: these rows, undecided.
-abbrev pub map_of : List Row → List UnsettledDelivery
-map_of rows = map (λ r. map_entry (row_tag r) None) rows
+abbrev pub waiting_entry : WaitingRow → UnsettledDelivery
+waiting_entry r = map_entry (tag_of (name.Row r.number)) None
+
+abbrev pub map_of : List WaitingRow → List UnsettledDelivery
+map_of rows = map waiting_entry rows
 
 abbrev pub told_map : Trace → Event → Answer → List UnsettledDelivery
 told_map t e answer = map_of (rows_for (book_in t) (resumed_key t e answer))
 
 -- The rows are bound, one after another, to the consumer's link with the key, if it is attached.
-abbrev pub bound_to : Attachment → List Row → Trace → Trace
+abbrev pub bound_to : Attachment → List WaitingRow → Trace → Trace
 bound_to at [] u = u
 bound_to at (r ∷ rs) u = bound_to at rs (Bound (taken_up_by u r.number r.format r.payload at) ∷ u)
 
-abbrev pub bound_if : Option Attachment → List Row → Trace → Trace
+abbrev pub bound_if : Option Attachment → List WaitingRow → Trace → Trace
 bound_if None rows u = u
 bound_if (Some at) rows u = bound_to at rows u
 
-abbrev pub with_rows : Option LinkKey → List Row → Trace → Trace
+abbrev pub with_rows : Option LinkKey → List WaitingRow → Trace → Trace
 with_rows None rows u = u
 with_rows (Some k) rows u = bound_if (consumer_with u k) rows u
 

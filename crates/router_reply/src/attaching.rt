@@ -6,12 +6,12 @@ ghost use Rattle.router_trace.specs.Trace.{Entry, goes, puts};
 ghost use Rattle.router_trace.specs.Links.{holder, key_at, free_handle};
 ghost use Rattle.router_trace.specs.LinkFrames.{fits, detach_item, answer_to};
 ghost use Rattle.router_state.specs.Tables.{TablesFit};
-ghost use Rattle.router_reply.specs.Replies.{stolen_by, unless_too_large, attach_answer, taken, refused, put_for_attach, attach_put_in, attach_put};
+ghost use Rattle.router_reply.specs.Replies.{stolen_by, unless_too_large, with_map, attach_answer, taken, refused, put_for_attach, attach_put_in, attach_put};
 ghost use Rattle.router_trace.specs.Peers.{largest_frame};
 
 use crate::closing::write_detach;
 use amqp_frames::item_len;
-use amqp_model::{Attach, Item, Perf};
+use amqp_model::{Attach, Item, Perf, Unsettled, UnsettledDelivery};
 use book_model::LinkKey;
 use reply_rows::Answer;
 use router_state::State;
@@ -103,6 +103,20 @@ fn on_handle(answer: Attach, handle: u32) -> Attach
     answer
 }
 
+/// An answer with the router's map, if that has entries.
+fn with_map(answer: Attach, ours: Vec<UnsettledDelivery>) -> Attach
+    ensures answer { result ≡ with_map ours.items answer }
+    ensures handle { result.handle ≡ answer.handle }
+{
+    if ours.is_empty() {
+        drop(ours);
+        return answer;
+    }
+    let mut answer = answer;
+    answer.unsettled = Some(Unsettled::new(ours));
+    answer
+}
+
 /// Detaches the link with the answer's key, if one is attached, and returns the lowest handle that is free then.
 fn make_way(
     state: &mut State,
@@ -119,26 +133,36 @@ fn make_way(
     Ok(state.free_handle(conn, own))
 }
 
-/// Answers an attach that is taken: detaches the older link with its key, and puts the answer on the lowest handle that is free then.
+/// Answers an attach that is taken: detaches the older link with its key, and puts the answer, with the router's map, on the lowest handle that is
+/// free then.
 fn take_link(
     state: &mut State,
     id: &RouterId,
     conn: u64,
     own: u16,
     attach: Attach,
+    ours: Vec<UnsettledDelivery>,
 ) -> Result<(), AllocError>
-    ensures { OnOk result ((t : List Entry) → TablesFit state.old t → TablesFit state.new (goes (taken t conn own attach) t)) }
+    ensures { OnOk result ((t : List Entry) → TablesFit state.old t → TablesFit state.new (goes (taken t conn own ours.items attach) t)) }
 {
     let largest = state.largest_frame(conn);
-    let answer = id.answer_to(attach, 0)?;
+    let Ok(answer) = id.answer_to(attach, 0) else {
+        drop(ours);
+        return Err(AllocError);
+    };
     match make_way(state, id, conn, own, &answer) {
         Err(error) => {
             drop(answer);
+            drop(ours);
             return Err(error);
         }
-        Ok(None) => drop(answer),
+        Ok(None) => {
+            drop(answer);
+            drop(ours);
+        }
         Ok(Some(handle)) => {
             let answer = on_handle(answer, handle);
+            let answer = with_map(answer, ours);
             put_answer(state, id, conn, largest, own, answer)?;
         }
     }
@@ -177,15 +201,20 @@ fn answer_attach(
     conn: u64,
     attach: Attach,
     answer: &Answer,
+    ours: Vec<UnsettledDelivery>,
 ) -> Result<(), AllocError>
-    ensures { OnOk result ((t : List Entry) → TablesFit state.old t → TablesFit state.new (goes (put_for_attach t conn attach answer.now) t)) }
+    ensures { OnOk result ((t : List Entry) → TablesFit state.old t → TablesFit state.new (goes (put_for_attach t conn ours.items attach answer.now) t)) }
 {
     match answer {
-        Answer::Attach { own } => take_link(state, id, conn, *own, attach)?,
+        Answer::Attach { own } => take_link(state, id, conn, *own, attach, ours)?,
         Answer::Refuse { own, handle, error } => {
+            drop(ours);
             refuse_link(state, id, conn, *own, *handle, *error, attach)?
         }
-        _ => drop(attach),
+        _ => {
+            drop(attach);
+            drop(ours);
+        }
     }
     Ok(())
 }
@@ -197,32 +226,36 @@ fn answer_perf(
     conn: u64,
     perf: Perf,
     answer: &Answer,
+    ours: Vec<UnsettledDelivery>,
 ) -> Result<(), AllocError>
-    ensures { OnOk result ((t : List Entry) → TablesFit state.old t → TablesFit state.new (goes (attach_put_in t conn perf answer.now) t)) }
+    ensures { OnOk result ((t : List Entry) → TablesFit state.old t → TablesFit state.new (goes (attach_put_in t conn ours.items perf answer.now) t)) }
 {
     match perf.into_attach() {
-        Some(attach) => answer_attach(state, id, conn, attach, answer)?,
-        None => {}
+        Some(attach) => answer_attach(state, id, conn, attach, answer, ours)?,
+        None => drop(ours),
     }
     Ok(())
 }
 
-/// Puts the items of an answer to an item into outboxes, beyond the answer's own items, if the item is an attach.
+/// Puts the items of an answer to an item into outboxes, beyond the answer's own items, if the item is an attach; the answer to one that is taken has
+/// `ours` as the router's map.
 pub fn answer_item(
     state: &mut State,
     id: &RouterId,
     conn: u64,
     item: Item,
     answer: &Answer,
+    ours: Vec<UnsettledDelivery>,
 ) -> Result<(), AllocError>
-    ensures { OnOk result ((t : List Entry) → TablesFit state.old t → TablesFit state.new (goes (attach_put t conn item answer.now) t)) }
+    ensures { OnOk result ((t : List Entry) → TablesFit state.old t → TablesFit state.new (goes (attach_put t conn ours.items item answer.now) t)) }
 {
     match answer {
         Answer::Attach { .. } | Answer::Refuse { .. } => answer_frame(
-            state, id, conn, item, answer,
+            state, id, conn, item, answer, ours,
         ),
         _ => {
             drop(item);
+            drop(ours);
             Ok(())
         }
     }
@@ -235,8 +268,9 @@ fn answer_frame(
     conn: u64,
     item: Item,
     answer: &Answer,
+    ours: Vec<UnsettledDelivery>,
 ) -> Result<(), AllocError>
-    ensures { OnOk result ((t : List Entry) → TablesFit state.old t → TablesFit state.new (goes (attach_put t conn item answer.now) t)) }
+    ensures { OnOk result ((t : List Entry) → TablesFit state.old t → TablesFit state.new (goes (attach_put t conn ours.items item answer.now) t)) }
 {
     match item {
         Item::Frame {
@@ -244,8 +278,11 @@ fn answer_frame(
             channel: _channel,
             perf,
             payload: _payload,
-        } => answer_perf(state, id, conn, perf, answer)?,
-        other => drop(other),
+        } => answer_perf(state, id, conn, perf, answer, ours)?,
+        other => {
+            drop(other);
+            drop(ours);
+        }
     }
     Ok(())
 }

@@ -21,7 +21,7 @@ use state_deliveries::{Change, Gone};
 use std::alloc::{AllocError, Global};
 
 /// Adds to a list.
-fn add<T: Drop>(list: &mut Vec<T>, one: T) -> Result<(), AllocError>
+pub fn add<T: Drop>(list: &mut Vec<T>, one: T) -> Result<(), AllocError>
     ensures { OnOk result (list.new.items ≡ list.old.items ++ one ∷ []) }
 {
     if let Err(left) = list.push(one) {

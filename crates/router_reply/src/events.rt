@@ -9,6 +9,7 @@ ghost use Rattle.state_links.specs.Fits.{channel_of};
 ghost use Rattle.router_state.specs.Tables.{TablesFit, beats};
 ghost use Rattle.router_reply.specs.Acts.{answer_of, answer_to_event};
 ghost use Rattle.router_reply.specs.Heard.{ids_named, ItemHeard, IsHeard};
+ghost use Rattle.router_reply.specs.Resuming.{told_map};
 ghost use Rattle.reply_transfers.specs.Transfers.{given_after, disposition_in};
 ghost use Rattle.router_reply.specs.Replies.{replied, replied_after, after_answer, attach_put, settled_put, row_found};
 ghost use Rattle.router_trace.specs.declared.event.Event.TheVariants as event;
@@ -17,7 +18,7 @@ use crate::attaching::answer_item;
 use crate::closing::{close_all, say};
 use crate::heard::Heard;
 use amqp_conn::Conn;
-use amqp_model::Item;
+use amqp_model::{Item, UnsettledDelivery};
 use book_model::RowNumber;
 use reply_rows::Answer;
 use reply_transfers::{disposition_in, settle, take_part};
@@ -57,7 +58,7 @@ fn begin_item(
 ) -> Result<(), AllocError>
     ensures { OnOk result ((t after : List Entry) → TablesFit state.old after → ItemHeard t conn item.now answer.now heard.old → answer.now ≡ answer_of t conn.0 phase item.now
         → row ≡ row_found t → (u : List Entry) × TablesFit state.new u
-        × (goes (attach_put u conn.0 item.now answer.now) u ≡ after_answer id.now t after conn.0 phase item.now answer.now)) }
+        × (goes (attach_put u conn.0 (told_map t (event.Item conn item.now) answer.now) item.now answer.now) u ≡ after_answer id.now t after conn.0 phase item.now answer.now)) }
 {
     match answer {
         Answer::Taken { own, handle } => {
@@ -76,20 +77,23 @@ fn on_item(
     item: Item,
     answer: &Answer,
     row: Option<RowNumber>,
+    ours: Vec<UnsettledDelivery>,
     heard: &mut Heard,
 ) -> Result<(), AllocError>
-    ensures { OnOk result ((t after : List Entry) → TablesFit state.old after → answer.now ≡ answer_to_event t (event.Item conn item) → row ≡ row_found t → ItemHeard t conn item answer.now heard.old
-        → TablesFit state.new (replied_after id.now t after (event.Item conn item))) }
+    ensures { OnOk result ((t after : List Entry) → TablesFit state.old after → answer.now ≡ answer_to_event t (event.Item conn item) → row ≡ row_found t
+        → ours.items ≡ told_map t (event.Item conn item) answer.now → ItemHeard t conn item answer.now heard.old → TablesFit state.new (replied_after id.now t after (event.Item conn item))) }
 {
     let Some(phase) = heard.phase else {
         drop(item);
+        drop(ours);
         return Ok(());
     };
     let Ok(()) = begin_item(state, id, conn, phase, &item, answer, row, heard) else {
         drop(item);
+        drop(ours);
         return Err(AllocError);
     };
-    answer_item(state, id, conn.0, item, answer)
+    answer_item(state, id, conn.0, item, answer, ours)
 }
 
 /// The heartbeats that a tick made due.
@@ -108,25 +112,36 @@ fn own_row(
     event: Event,
     answer: &Answer,
     row: Option<RowNumber>,
+    ours: Vec<UnsettledDelivery>,
     heard: &mut Heard,
 ) -> Result<(), AllocError>
     ensures { OnOk result ((t after : List Entry) → TablesFit state.old after → answer.now ≡ answer_to_event t event → row ≡ row_found t
-        → IsHeard t event answer.now heard.old → TablesFit state.new (replied_after id.now t after event)) }
+        → ours.items ≡ told_map t event answer.now → IsHeard t event answer.now heard.old → TablesFit state.new (replied_after id.now t after event)) }
 {
     match event {
         Event::Up(_, peer) => {
             drop(peer);
+            drop(ours);
             Ok(())
         }
-        Event::Item(conn, item) => on_item(state, id, conn, item, answer, row, heard),
-        Event::Down(_) => Ok(()),
-        Event::Tick(_) => on_tick(state, heard),
-        Event::Start => Ok(()),
+        Event::Item(conn, item) => on_item(state, id, conn, item, answer, row, ours, heard),
+        Event::Down(_) => {
+            drop(ours);
+            Ok(())
+        }
+        Event::Tick(_) => {
+            drop(ours);
+            on_tick(state, heard)
+        }
+        Event::Start => {
+            drop(ours);
+            Ok(())
+        }
     }
 }
 
-/// Replies to an event that was handled (`hear`) with the answer that was planned and the row that its acts admit: the closes of these connections, whose
-/// outboxes were full, then the event's own row.
+/// Replies to an event that was handled (`hear`) with the answer that was planned, the row that its acts admit, and `ours`, the router's map in the answer to an
+/// attach (`told_map`): the closes of these connections, whose outboxes were full, then the event's own row.
 ///
 /// # Errors
 ///
@@ -138,15 +153,17 @@ pub fn reply(
     event: Event,
     answer: &Answer,
     row: Option<RowNumber>,
+    ours: Vec<UnsettledDelivery>,
     heard: &mut Heard,
 ) -> Result<(), AllocError>
     ensures { OnOk result ((t : List Entry) → TablesFit state.old (did event ∷ t) → ends.now ≡ due t event
-        → answer.now ≡ answer_to_event t event → row ≡ row_found t → IsHeard t event answer.now heard.old
+        → answer.now ≡ answer_to_event t event → row ≡ row_found t → ours.items ≡ told_map t event answer.now → IsHeard t event answer.now heard.old
         → TablesFit state.new (replied id.now t (step_of event))) }
 {
     let Ok(()) = close_all(state, id, ends) else {
         drop(event);
+        drop(ours);
         return Err(AllocError);
     };
-    own_row(state, id, event, answer, row, heard)
+    own_row(state, id, event, answer, row, ours, heard)
 }

@@ -9,6 +9,7 @@ use Rattle.router_trace.specs.declared.condition.Condition.TheVariants.{Resource
 use Rattle.router_trace.specs.Trace.{Entry, Out, Put, did, goes, each_to, puts, ups, step_of}
 use Rattle.router_trace.specs.Connection.{Connection, conn, phase_after, with_item, took, unless_empty, drained, is_live, has, due, found, live_of, at_event}
 use Rattle.state_messages.specs.Messages.{with_bound}
+use Rattle.router_reply.specs.Resuming.{resumed}
 use Rattle.router_reply.specs.Replies.{closing_of, ends as ends_of, heard, bound_by, own_row, replied}
 use Rattle.router_reply.specs.Acts.{booked}
 use Rattle.router_core.specs.Replies.{answered, handled}
@@ -17,6 +18,7 @@ use Rattle.state_connections.proofs.Lists.{by_test}
 use Rattle.state_connections.proofs.Turns.{over_lives, stays}
 use Rattle.router_core.proofs.Booking.{booked_same}
 use Rattle.router_core.proofs.Following.{all_keep}
+use Rattle.router_core.proofs.Resuming.{resumed_keeps}
 
 -- a connection that isn't live stays so, until it comes up
 
@@ -90,8 +92,9 @@ over_bound (Some b) t c h = h
 over_answered : (id : List ℕ) (t : List Entry) (e : Event) (c : ℕ) → is_about e c ≡ false → is_live (conn t c) ≡ false → is_live (conn (answered id t (step_of e)) c) ≡ false
 over_answered id t e c other h =
     let u : List Entry = heard id t (step_of e)
-    in all_keep (λ (v : List Entry). is_live (conn v c) ≡ false) (λ ps v over. over_goes ps v c over) (replied id t (step_of e))
-    (over_goes (own_row id t u e) (with_bound (bound_by t u e) u) c (over_bound (bound_by t u e) u c (over_ends id (due t e) (did e ∷ t) c (over_did t e c other h))))
+    in all_keep (λ (v : List Entry). is_live (conn v c) ≡ false) (λ ps v over. over_goes ps v c over) (resumed t e (replied id t (step_of e)))
+    (resumed_keeps (λ (v : List Entry). is_live (conn v c) ≡ false) (λ b v over. over_bound (Some b) v c over) t e (replied id t (step_of e))
+    (over_goes (own_row id t u e) (with_bound (bound_by t u e) u) c (over_bound (bound_by t u e) u c (over_ends id (due t e) (did e ∷ t) c (over_did t e c other h)))))
 
 pub over_handled : (id : List ℕ) (t : List Entry) (e : Event) (c : ℕ) → is_about e c ≡ false → is_live (conn t c) ≡ false → is_live (conn (handled id t (step_of e)) c) ≡ false
 over_handled id t e c other h = over_answered id (booked t e) e c other (booked_same (λ (u : List Entry). is_live (conn u c)) t e (λ acts. refl) ∙ h)

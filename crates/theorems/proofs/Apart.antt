@@ -19,6 +19,7 @@ use Rattle.state_sessions.specs.Windows.{flows_below, windows}
 use Rattle.router_state.specs.Tables.{beat_if}
 use Rattle.state_messages.specs.Messages.{grants_due, with_bound}
 use Rattle.reply_rows.specs.Finding.{finds}
+use Rattle.router_reply.specs.Resuming.{resumed}
 use Rattle.router_reply.specs.Replies.{heard, bound_by, own_row, replied}
 use Rattle.router_after.specs.After.{widened}
 use Rattle.router_reply.specs.Acts.{booked}
@@ -41,11 +42,12 @@ use Rattle.router_core.proofs.Ordered.{Ordered, Spares, Without, goes_spares, sp
 use Rattle.router_core.proofs.PassedOrder.{passed_turns}
 use Rattle.router_core.proofs.Order.{took_turns, batch_turns, ordered_start}
 use Rattle.router_core.proofs.Told.{Told}
-use Rattle.router_core.proofs.Replied.{heard_spares, replied_turns, answered_turns, answered_told}
+use Rattle.router_core.proofs.Replied.{heard_spares, replied_turns, resumed_turns, answered_turns, answered_told}
 use Rattle.router_core.proofs.Holding.{took_told}
 use Rattle.theorems.proofs.Headed.{item_without, on_without}
 use Rattle.router_core.proofs.Due.{AllOnLinks, tells_on, sends_on, drains_on, grants_on}
 use Rattle.router_core.proofs.Following.{Steps, passed_on, passed_keeps, each_keeps}
+use Rattle.router_core.proofs.Resuming.{resumed_keeps, resumed_same}
 use Rattle.theorems.proofs.Mine.{apart, own_terms, own_written, own_session, own_outs, Eased, eased_goes, found_same, own_phase}
 use Rattle.theorems.proofs.Only.{only, only_none, own_goes, each_all, lives_known, only_windows, only_beats, own_ends, eased_ends}
 use Rattle.theorems.proofs.WindowsWide.{settled}
@@ -213,6 +215,30 @@ rowed id c t s fine taken roomy lives bare =
       part = own_goes c row v ∙ ap (goes (only c row)) (own_bound c bound u ∙ own_ends id (due t s.event) (Did s ∷ t) c spared);
     }
 
+-- the same once the rows are bound that the event's attach takes up: a binding changes none of it
+bindings_spare : (c : ℕ) (t : List Entry) (e : Event) (u : List Entry) → Spares u (resumed t e u) c
+bindings_spare c t e u = resumed_keeps (λ (v : List Entry). Spares u v c) (λ b v s. spares_on u v (with_bound (Some b) v) c s (bound_spares (Some b) v c)) t e u (spares_self u c)
+
+record Bindings (id : List ℕ) (c : ℕ) (t : List Entry) (s : Step) : Type 0 where
+  ordered : Ordered (resumed t s.event (replied id t s))
+  eased : Eased c (resumed t s.event (replied id t s))
+  unlinked : Unlinked c (resumed t s.event (replied id t s))
+  unnamed : Unnamed c (resumed t s.event (replied id t s))
+  unclaimed : Unclaimed c (resumed t s.event (replied id t s))
+  part : own_part c (resumed t s.event (replied id t s)) ≡ own_part c (replied id t s)
+
+bindings : (id : List ℕ) (c : ℕ) (t : List Entry) (s : Step) → Rowed id c t s → Bindings id c t s
+bindings id c t s r =
+    let spare : Spares (replied id t s) (resumed t s.event (replied id t s)) c = bindings_spare c t s.event (replied id t s)
+    in record {
+      ordered = resumed_turns t s.event (replied id t s) r.ordered;
+      eased = resumed_keeps (Eased c) (λ b v h. eased_bound c (Some b) v h) t s.event (replied id t s) r.eased;
+      unlinked = λ o h. spare.link o h ∙ r.unlinked o h;
+      unnamed = λ o n. spare.named o n ∙ r.unnamed o n;
+      unclaimed = λ o n. spare.claims o n (r.unclaimed o n);
+      part = resumed_same (own_part c) (λ b v. own_bound c (Some b) v) t s.event (replied id t s);
+    }
+
 stepped : (id : List ℕ) (c : ℕ) (t : List Entry) (s : Step) → Fine c t → refuses t s.event ≡ false → is_full (conn t c) ≡ false
     → (comes_up c s.event ≡ true → is_live (conn (Did s ∷ t) c) ≡ true) → (is_about c s.event ≡ true → brings_attach s.event ≡ false) → Stepped id c t s
 stepped id c t s fine taken roomy lives bare =
@@ -220,19 +246,21 @@ stepped id c t s fine taken roomy lives bare =
     in let u : List Entry = heard id t s
     in let row : List Put = own_row id t u s.event
     in let r : Rowed id c t s = rowed id c t s fine taken roomy lives bare
-    in let behind : List Entry = passed_on (replied id t s)
-    in let aside : Aside c (replied id t s) behind = passed_aside c (replied id t s) r.unlinked
-    in let eased : Eased c behind = each_keeps (Eased c) (eased_goes c) (replied id t s) r.eased
+    in let next : List Entry = resumed t s.event (replied id t s)
+    in let b : Bindings id c t s = bindings id c t s r
+    in let behind : List Entry = passed_on next
+    in let aside : Aside c next behind = passed_aside c next b.unlinked
+    in let eased : Eased c behind = each_keeps (Eased c) (eased_goes c) next b.eased
     in let all : own_part c (answered id t s) ≡ own_followed c (own_part c (replied id t s))
-    = same_widened behind c eased (passed_turns (replied id t s) r.ordered).once ∙ ap (own_followed c) aside.part
+    = same_widened behind c eased (passed_turns next b.ordered).once ∙ ap (own_followed c) (aside.part ∙ b.part)
     in record {
       fine = record {
         ordered = answered_turns id t s.event fine.ordered fine.told taken;
         told = answered_told id t s.event fine.ordered fine.told taken;
         eased = eased_goes c (windows behind) behind eased;
-        unlinked = unlinked_goes c (windows behind) behind (less_windows behind) (λ o h. aside.spares.link o h ∙ r.unlinked o h);
-        unnamed = unnamed_goes c (windows behind) behind (none_window behind) (λ o n. aside.spares.named o n ∙ r.unnamed o n);
-        unclaimed = unclaimed_goes c (windows behind) behind (λ o n. aside.spares.claims o n (r.unclaimed o n));
+        unlinked = unlinked_goes c (windows behind) behind (less_windows behind) (λ o h. aside.spares.link o h ∙ b.unlinked o h);
+        unnamed = unnamed_goes c (windows behind) behind (none_window behind) (λ o n. aside.spares.named o n ∙ b.unnamed o n);
+        unclaimed = unclaimed_goes c (windows behind) behind (λ o n. aside.spares.claims o n (b.unclaimed o n));
         settled = ap (own_flows c) all ∙ settled_followed c (own_part c (replied id t s));
       };
       about = λ e.

@@ -11,6 +11,7 @@ use Rattle.router_trace.specs.Trace.{Entry, Did, Out, Took, Bound, Booked, Began
 use Rattle.router_trace.specs.Connection.{conn, due, is_full}
 use Rattle.router_trace.specs.Refusing.{refuses, rises}
 use Rattle.state_messages.specs.Messages.{with_bound}
+use Rattle.router_reply.specs.Resuming.{resumed}
 use Rattle.router_reply.specs.Replies.{closing_of, ends, heard, bound_by, own_row, replied}
 use Rattle.router_after.specs.After.{followed}
 use Rattle.router_reply.specs.Acts.{booked}
@@ -21,6 +22,7 @@ use Rattle.core_machine.specs.Moves.{Move, handles, takes}
 use Rattle.theorems.specs.Takes.{untaken}
 use Rattle.router_core.proofs.Booking.{booked_keeps, booked_same}
 use Rattle.router_core.proofs.Following.{all_keep}
+use Rattle.router_core.proofs.Resuming.{resumed_keeps}
 use Rattle.theorems.proofs.Plain.{Calm, stood}
 use Rattle.router_play.specs.Script.{Scene}
 use Rattle.theorems.specs.Pieces.{AlwaysRoom}
@@ -55,11 +57,15 @@ bound_before (Some b) t calm = calm
 followed_before : (t : List Entry) → Calm (followed t) → Calm t
 followed_before t = all_keep (λ (u : List Entry). Calm u → Calm t) (λ ps u before calm. before (goes_before ps u calm)) t (λ calm. calm)
 
+resumed_before : (t : List Entry) (e : Event) (u : List Entry) → Calm (resumed t e u) → Calm u
+resumed_before t e u = resumed_keeps (λ (v : List Entry). Calm v → Calm u) (λ b v before calm. before (bound_before (Some b) v calm)) t e u (λ calm. calm)
+
 answered_before : (id : List ℕ) (t : List Entry) (s : Step) → Calm (answered id t s) → ((c : ℕ) → is_full (conn t c) ≡ false) × Calm t
 answered_before id t s calm =
     let u : List Entry = heard id t s
+    in let behind : Calm (replied id t s) = resumed_before t s.event (replied id t s) (followed_before (resumed t s.event (replied id t s)) calm)
     in ends_before id (due t s.event) (Did s ∷ t)
-    (bound_before (bound_by t u s.event) u (goes_before (own_row id t u s.event) (with_bound (bound_by t u s.event) u) (followed_before (replied id t s) calm)))
+    (bound_before (bound_by t u s.event) u (goes_before (own_row id t u s.event) (with_bound (bound_by t u s.event) u) behind))
 
 pub handled_before : (id : List ℕ) (t : List Entry) (s : Step) → Calm (handled id t s) → ((c : ℕ) → is_full (conn t c) ≡ false) × Calm t
 handled_before id t s calm =

@@ -16,6 +16,7 @@ use Rattle.router_trace.specs.Links.{Link, Happened, sends, receives, link}
 use Rattle.router_trace.specs.Following.{tells, has_credit, sends_due, drains_due}
 use Rattle.state_sessions.specs.Windows.{windows}
 use Rattle.state_messages.specs.Messages.{grants_due, with_bound}
+use Rattle.router_reply.specs.Resuming.{resumed}
 use Rattle.router_reply.specs.Replies.{closing_of, ends, heard, bound_by, own_row, replied}
 use Rattle.router_reply.specs.Acts.{booked}
 use Rattle.router_core.specs.Replies.{answered, handled}
@@ -26,6 +27,7 @@ use Rattle.core_machine.specs.Moves.{Move, handles, takes}
 use Rattle.theorems.specs.Credit.{credit_left, unless_going_on, starts_within, within_credit, WithinCredit}
 use Rattle.router_core.proofs.Due.{Takes, AllSent, sends_sent}
 use Rattle.router_core.proofs.Following.{Steps, passed_on, passed_keeps}
+use Rattle.router_core.proofs.Resuming.{resumed_keeps}
 use Rattle.theorems.proofs.WindowsKept.{is_transfer_in, is_transfer, NonePut, none_to, none_closing_of, none_row, none_tells, none_drains, none_granted, none_window}
 
 -- an item that isn't a transfer starts nothing
@@ -103,8 +105,10 @@ answered_within id t s within =
     in let behind : WithinCredit u = ends_within id (due t s.event) (Did s ∷ t) within
     in let rows : WithinCredit (replied id t s)
     = bare_goes (own_row id t u s.event) (with_bound (bound_by t u s.event) u) (none_row id t u s.event) (bound_within (bound_by t u s.event) u behind)
-    in let all : WithinCredit (passed_on (replied id t s)) = passed_keeps WithinCredit passed_within (replied id t s) rows
-    in bare_goes (windows (passed_on (replied id t s))) (passed_on (replied id t s)) (none_window (passed_on (replied id t s))) all
+    in let next : List Entry = resumed t s.event (replied id t s)
+    in let all : WithinCredit (passed_on next)
+    = passed_keeps WithinCredit passed_within next (resumed_keeps WithinCredit (λ b v w. bound_within (Some b) v w) t s.event (replied id t s) rows)
+    in bare_goes (windows (passed_on next)) (passed_on next) (none_window (passed_on next)) all
 
 -- moves
 

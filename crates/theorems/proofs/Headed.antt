@@ -32,6 +32,7 @@ use Rattle.state_messages.specs.Messages.{grants_due, with_bound}
 use Rattle.router_after.specs.After.{followed}
 use Rattle.reply_rows.specs.Rows.{said}
 use Rattle.reply_transfers.specs.Transfers.{part_put, settled_answers}
+use Rattle.router_reply.specs.Resuming.{resumed}
 use Rattle.router_reply.specs.Replies.{closing_of, ends, heard, stolen_by, refused, bound_by, item_row, own_row, replied}
 use Rattle.router_reply.specs.Acts.{answer_of, booked}
 use Rattle.router_core.specs.Replies.{answered, handled}
@@ -54,7 +55,8 @@ use Rattle.router_core.proofs.Ordered.{Ordered, Without, written_all, goes_spare
 use Rattle.router_core.proofs.Told.{Told, goes_strange}
 use Rattle.router_core.proofs.Order.{push_some, heard_turns, no_session}
 use Rattle.router_core.proofs.PassedOrder.{passed_steps}
-use Rattle.router_core.proofs.Replied.{replied_turns}
+use Rattle.router_core.proofs.Replied.{replied_turns, resumed_turns}
+use Rattle.router_core.proofs.Resuming.{resumed_keeps, resumed_same}
 use Rattle.router_core.proofs.Holding.{Holds, holds_booked, holds_handled, holds_took, holds_start}
 
 -- if nothing was put out, nothing waits, and the outbox isn't full
@@ -190,7 +192,7 @@ item_without id t u d k i None none apart = tt
 item_without id t u d k i (Some p) none apart =
     item_cases id t u d p (λ a ps. Without k ps)
     (λ a. each_without (said id p a) d k apart)
-    (λ own x. without_both k (stolen_by (holder u (key_at u d (answer_to x 0)))) _
+    (λ own ours x. without_both k (stolen_by (holder u (key_at u d (answer_to x 0)))) _
     (stolen_without u k none (last_of_key u (key_at u d (answer_to x 0))) (holder u (key_at u d (answer_to x 0))) refl)
     (each_without _ d k apart))
     (λ own handle e x. each_without (refused (largest_frame u d) own handle e x) d k apart)
@@ -264,12 +266,16 @@ bound_outs b t c = (bound_spares b t c).outs
 first_followed : (t : List Entry) (c : ℕ) → HeaderFirst (outs t c) → HeaderFirst (outs (followed t) c)
 first_followed t c h = all_keep (λ (u : List Entry). HeaderFirst (outs u c)) (λ ps u h. first_goes ps u c h) t h
 
+first_resumed : (t : List Entry) (e : Event) (u : List Entry) (c : ℕ) → HeaderFirst (outs u c) → HeaderFirst (outs (resumed t e u) c)
+first_resumed t e u c h = resumed_keeps (λ (v : List Entry). HeaderFirst (outs v c)) (λ b v first. first) t e u h
+
 first_answered : (id : List ℕ) (t : List Entry) (e : Event) (c : ℕ) → HeaderFirst (outs t c) → HeaderFirst (outs (answered id t (step_of e)) c)
 first_answered id t e c h =
     let u : List Entry = heard id t (step_of e)
-    in first_followed (replied id t (step_of e)) c
+    in first_followed (resumed t e (replied id t (step_of e))) c
+    (first_resumed t e (replied id t (step_of e)) c
     (first_goes (own_row id t u e) (with_bound (bound_by t u e) u) c
-    (subst (λ (is : List Item). HeaderFirst is) (sym (bound_outs (bound_by t u e) u c)) (first_ends id (due t e) (did e ∷ t) c h)))
+    (subst (λ (is : List Item). HeaderFirst is) (sym (bound_outs (bound_by t u e) u c)) (first_ends id (due t e) (did e ∷ t) c h))))
 
 silent_heard : (id : List ℕ) (t : List Entry) (e : Event) (c : ℕ) → outs t c ≡ [] → outs (heard id t (step_of e)) c ≡ []
 silent_heard id t e c h = (ends_spares id (due t e) (did e ∷ t) c (not_due t e c h)).outs ∙ h
@@ -279,11 +285,14 @@ silent_answered : (id : List ℕ) (t : List Entry) (e : Event) (c : ℕ) → Ord
 silent_answered id t e c ord next came h =
     let u : List Entry = heard id t (step_of e)
     in let v : List Entry = with_bound (bound_by t u e) u
-    in let behind : List Entry = passed_on (replied id t (step_of e))
+    in let w : List Entry = resumed t e (replied id t (step_of e))
+    in let behind : List Entry = passed_on w
     in let none : outs u c ≡ [] = silent_heard id t e c h
     in let rows : outs (replied id t (step_of e)) c ≡ []
     = (goes_spares (own_row id t u e) v c (own_without id t u e c ord none came)).outs ∙ bound_outs (bound_by t u e) u c ∙ none
-    in let passed : Mute c behind = passed_keeps (Mute c) (mute_steps c) (replied id t (step_of e)) (record { ordered = next; none = rows })
+    in let taken : outs w c ≡ [] = resumed_same (λ (x : List Entry). outs x c) (λ b x. refl) t e (replied id t (step_of e)) ∙ rows
+    in let passed : Mute c behind
+    = passed_keeps (Mute c) (mute_steps c) w (record { ordered = resumed_turns t e (replied id t (step_of e)) next; none = taken })
     in (goes_spares (windows behind) behind c (windows_without behind c passed.none (live behind))).outs ∙ passed.none
 
 -- headers are answered first
@@ -323,9 +332,10 @@ first_item id t d i ord taken none is =
     in let row : own_row id t u e ≡ each_to d.0 (header_item ∷ [])
     = ap (λ (p : Option Conn). item_row id t u d.0 i p) (first_phase t e d.0 ord taken none) ∙ header_answer id t u d.0 i is
     in let v : List Entry = with_bound (bound_by t u e) u
-    in first_followed (replied id t (step_of e)) d.0
+    in first_followed (resumed t e (replied id t (step_of e))) d.0
+    (first_resumed t e (replied id t (step_of e)) d.0
     (subst (λ (ps : List Put). HeaderFirst (outs (goes ps v) d.0)) (sym row)
-    (put_first (outs v d.0) (d.0 == d.0) (eq-eqb d.0 d.0 refl) (bound_outs (bound_by t u e) u d.0 ∙ silent_heard id t e d.0 none)))
+    (put_first (outs v d.0) (d.0 == d.0) (eq-eqb d.0 d.0 refl) (bound_outs (bound_by t u e) u d.0 ∙ silent_heard id t e d.0 none))))
   where
     put_first : (is : List Item) (b : Bool) → b ≡ true → is ≡ [] → HeaderFirst (if b then is ++ header_item ∷ [] else is)
     put_first is b e h = rw (e, h) refl

@@ -10,6 +10,7 @@ use Rattle.amqp_conn.specs.declared.conn.Conn.{Conn}
 use Rattle.amqp_model.specs.declared.perf.Role.TheVariants.{Receiver}
 use Rattle.amqp_model.specs.declared.state.DeliveryState.{DeliveryState}
 use Rattle.amqp_model.specs.declared.state.DeliveryState.TheVariants as state
+use Rattle.amqp_model.specs.declared.state.UnsettledDelivery.{UnsettledDelivery}
 use Rattle.amqp_link.specs.declared.part.Delivery.{Delivery as Told}
 use Rattle.amqp_link.specs.declared.part.Part.{Part}
 use Rattle.amqp_link.specs.declared.part.Part.TheVariants as part
@@ -44,7 +45,8 @@ use Rattle.reply_rows.specs.declared.answer.Answer.{Answer}
 use Rattle.reply_rows.specs.declared.answer.Answer.TheVariants.{Nothing, Header, Open, Close, CloseWith, Begin, End, Flow, Attach, Refuse, Detach, LinkFlow, Taken, Settle}
 use Rattle.reply_rows.specs.Rows.{said}
 use Rattle.reply_transfers.specs.Transfers.{claimed_id, lasts_on, consumer_for, let_go, unless_many, ignored_put, released_by, unbound_put, whole_put, part_put, settled_answers}
-use Rattle.router_reply.specs.Replies.{closing_of, ends, heard, stolen_by, attach_answer, refused, bound_by, item_row, own_row, replied}
+use Rattle.router_reply.specs.Resuming.{resumed}
+use Rattle.router_reply.specs.Replies.{closing_of, ends, heard, stolen_by, with_map, attach_answer, refused, bound_by, item_row, own_row, replied}
 use Rattle.router_reply.specs.Acts.{answer_of, booked}
 use Rattle.router_core.specs.Replies.{answered, handled}
 use Rattle.router_core.proofs.Booking.{booked_keeps}
@@ -57,6 +59,7 @@ use Rattle.router_core.proofs.Due.{AllSent, sends_sent}
 use Rattle.router_core.proofs.Following.{Steps, passed_on, passed_keeps}
 use Rattle.router_core.proofs.Granting.{AllGrants, all_grants}
 use Rattle.router_core.proofs.ItemRows.{item_cases}
+use Rattle.router_core.proofs.Resuming.{resumed_keeps}
 
 -- a transfer
 
@@ -134,10 +137,10 @@ none_sized : (b : Bool) (own handle : ℕ) (closed : Bool) (e : Condition) (a : 
 none_sized true own handle closed e a = (refl, tt)
 none_sized false own handle closed e a = (refl, tt)
 
-none_attach : (largest own : ℕ) (handle : Option ℕ) (a : AnAttach) → NoTransfer (attach_answer largest own handle a)
-none_attach largest own None a = tt
-none_attach largest own (Some handle) a =
-    let answer : AnAttach = answer_to a handle
+none_attach : (largest own : ℕ) (handle : Option ℕ) (ours : List UnsettledDelivery) (a : AnAttach) → NoTransfer (attach_answer largest own handle ours a)
+none_attach largest own None ours a = tt
+none_attach largest own (Some handle) ours a =
+    let answer : AnAttach = with_map ours (answer_to a handle)
     in none_sized (fits largest (attach_item own answer)) own handle (not (is_durable answer.role answer)) FrameSizeTooSmall answer
 
 none_refused : (largest own handle : ℕ) (e : Condition) (a : AnAttach) → NoTransfer (refused largest own handle e a)
@@ -192,8 +195,8 @@ none_item id t after c i None = tt
 none_item id t after c i (Some p) =
     item_cases id t after c p (λ a ps. NonePut ps)
     (λ a. none_to c (said id p a) (none_said id p a))
-    (λ own x. none_both (stolen_by (holder after (key_at after c (answer_to x 0)))) _ (none_stolen (holder after (key_at after c (answer_to x 0))))
-    (none_to c _ (none_attach (largest_frame after c) own _ x)))
+    (λ own ours x. none_both (stolen_by (holder after (key_at after c (answer_to x 0)))) _ (none_stolen (holder after (key_at after c (answer_to x 0))))
+    (none_to c _ (none_attach (largest_frame after c) own _ ours x)))
     (λ own handle e x. none_to c _ (none_refused (largest_frame after c) own handle e x))
     (λ own handle row q. none_to c _ (none_part after c own handle row q))
     (λ own s ids. none_to c _ (none_settled own s ids))
@@ -312,8 +315,10 @@ answered_keeps id t s kept =
     in let bound : List Entry = with_bound (bound_by t (heard id t s) s.event) (heard id t s)
     in let rows : WindowKept (replied id t s)
     = goes_keeps (own_row id t (heard id t s) s.event) bound (none_row id t (heard id t s) s.event) (bound_keeps (bound_by t (heard id t s) s.event) (heard id t s) behind)
-    in let all : WindowKept (passed_on (replied id t s)) = passed_keeps WindowKept passed_kept (replied id t s) rows
-    in goes_keeps (windows (passed_on (replied id t s))) (passed_on (replied id t s)) (none_window (passed_on (replied id t s))) all
+    in let next : List Entry = resumed t s.event (replied id t s)
+    in let all : WindowKept (passed_on next)
+    = passed_keeps WindowKept passed_kept next (resumed_keeps WindowKept (λ b u k. bound_keeps (Some b) u k) t s.event (replied id t s) rows)
+    in goes_keeps (windows (passed_on next)) (passed_on next) (none_window (passed_on next)) all
 
 -- moves
 

@@ -2,6 +2,7 @@ use Rattle.std.proofs.Common.{◌≡◌, ◌∙◌, sym, ap, subst, ℕ, true, L
 use Rattle.std.proofs.lemmas.Result.{on_ok_weaker}
 use Rattle.std.specs.Prelude.{Option}
 use Rattle.amqp_link.specs.declared.part.Part.{Part}
+use Rattle.amqp_model.specs.declared.state.UnsettledDelivery.{UnsettledDelivery}
 use Rattle.book_model.specs.declared.row.RowNumber.{RowNumber}
 use Rattle.router_trace.specs.Trace.{Entry, Put, goes, puts}
 use Rattle.router_trace.specs.Sessions.{theirs, maps}
@@ -16,6 +17,7 @@ use Rattle.reply_rows.specs.Rows.{said}
 use Rattle.reply_rows.proofs.Mapped.{IsHere, answer_here}
 use Rattle.router_reply.specs.Acts.{found_journal, full_at}
 use Rattle.router_reply.specs.Heard.{ids_named, ids_found}
+use Rattle.router_reply.specs.Resuming.{told_map}
 use Rattle.reply_transfers.specs.Transfers.{given_after, disposition_in}
 use Rattle.router_reply.specs.Replies.{attach_put, after_answer, settled_put, row_found}
 use Rattle.router_reply.proofs.After.{taken_is, settled_is, other_is, taken_left, settled_left}
@@ -30,15 +32,16 @@ returns-in-Taken c = on_ok_weaker c.take_part.result
     let phase = c.args.phase in
     let own = c.in-Taken.own in
     let handle = c.in-Taken.handle in
+    let ours : Answer → List UnsettledDelivery = told_map t (event.Item c.args.conn item) in
     let here : maps (theirs t conn (channel_of item)) own ≡ true =
     subst (λ (a : Answer). IsHere (maps (theirs t conn (channel_of item))) a) (sym answer ∙ c.in-Taken.is) (answer_here (full_at t (event.Item c.args.conn item)) (found_journal t).book phase t conn item) in
     let u : List Entry = given_after after conn own handle (row_found t) (part_of item (link_place t conn own)) in
-    let same : goes (attach_put u conn item (Taken own handle)) u ≡ after_answer id t after conn phase item (Taken own handle) =
-    ap (λ (ps : List Put). goes ps u) (taken_left u conn item own handle) ∙ sym (taken_is id t after conn phase item own handle) in (
+    let same : goes (attach_put u conn (ours (Taken own handle)) item (Taken own handle)) u ≡ after_answer id t after conn phase item (Taken own handle) =
+    ap (λ (ps : List Put). goes ps u) (taken_left u conn (ours (Taken own handle)) item own handle) ∙ sym (taken_is id t after conn phase item own handle) in (
       u,
       subst (λ (p : Option Part). TablesFit c.take_part.new.state (given_after after conn own handle (row_found t) p)) (c.take.ensures.value ∙ heard.part own here)
           (subst (λ (r : Option RowNumber). TablesFit c.take_part.new.state (given_after after conn own handle r c.take.result)) row (is after fit)),
-      subst (λ (a : Answer). goes (attach_put u conn item a) u ≡ after_answer id t after conn phase item a) (sym c.in-Taken.is) same,
+      subst (λ (a : Answer). goes (attach_put u conn (ours a) item a) u ≡ after_answer id t after conn phase item a) (sym c.in-Taken.is) same,
     ))
     c.take_part.ensures
 
@@ -50,12 +53,13 @@ returns-in-Settle c = on_ok_weaker c.on_settle.result
     let conn = c.args.conn.0 in
     let phase = c.args.phase in
     let own = c.in-Settle.own in
+    let ours : Answer → List UnsettledDelivery = told_map t (event.Item c.args.conn item) in
     let u : List Entry = goes (settled_put t conn own (disposition_in item)) after in
-    let same : goes (attach_put u conn item (Settle own)) u ≡ after_answer id t after conn phase item (Settle own) =
-    ap (λ (ps : List Put). goes ps u) (settled_left u conn item own) ∙ sym (settled_is id t after conn phase item own) in (
+    let same : goes (attach_put u conn (ours (Settle own)) item (Settle own)) u ≡ after_answer id t after conn phase item (Settle own) =
+    ap (λ (ps : List Put). goes ps u) (settled_left u conn (ours (Settle own)) item own) ∙ sym (settled_is id t after conn phase item own) in (
       u,
       is t after fit (subst (λ (l : List ℕ). ids_named t conn own (disposition_in item) l) (sym c.deref.ensures.value) (subst (λ (a : Answer). ids_found t conn item a c.args.heard.now.ids.items) c.in-Settle.is heard.ids)),
-      subst (λ (a : Answer). goes (attach_put u conn item a) u ≡ after_answer id t after conn phase item a) (sym c.in-Settle.is) same,
+      subst (λ (a : Answer). goes (attach_put u conn (ours a) item a) u ≡ after_answer id t after conn phase item a) (sym c.in-Settle.is) same,
     ))
     c.on_settle.ensures
 

@@ -27,11 +27,11 @@ returns-clause-fits g c = λ t f taken.
     subst (λ (s : State). IsReady s (booked t e) e c.prepare.new.ready) (sym (ap state_of c.write.ensures.rest)) (c.in-Ok.ensures.ready t f taken) in
     let row : c.row_in-row.result ≡ row_found (booked t e) = c.row_in-row.ensures ∙ ap row_in (c.deref.ensures.value ∙ acts) in
     let same : id_of c.write.new.self ≡ id_of core = ap id_of c.write.ensures.rest ∙ ap id_of c.prepare.ensures.rest in
-    let tables : TablesFit (state_of c.answer.new.self) (handled (id_of core) t (step_of e)) =
-    subst (λ (id : List ℕ). TablesFit (state_of c.answer.new.self) (answered id (booked t e) (step_of e))) same (c.in-Ok-answer.ensures.tables (booked t e) ready row) in
     let journal : Journals c.write.new.self (booked t e) =
     journals_after c.prepare.new.self c.write.new.self t e c.in-Ok.acts.items (journals_stored core c.prepare.new.self t (ap store_of c.prepare.ensures.rest) f.journal) acts
     c.in-Ok-write.ensures.book c.in-Ok-write.ensures.count c.in-Ok-write.ensures.used c.in-Ok-write.ensures.kept in
+    let tables : TablesFit (state_of c.answer.new.self) (handled (id_of core) t (step_of e)) =
+    subst (λ (id : List ℕ). TablesFit (state_of c.answer.new.self) (answered id (booked t e) (step_of e))) same (c.in-Ok-answer.ensures.tables (booked t e) ready row journal.book) in
     fits_handled c.answer.new.self (id_of core) t e taken.taken tables c.in-Ok-answer.ensures.started (journals_stored c.write.new.self c.answer.new.self (booked t e) c.answer.ensures.store journal)
 
 pub returns-clause-written : goal.returns-clause-written

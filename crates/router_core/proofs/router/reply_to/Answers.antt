@@ -1,0 +1,22 @@
+use Rattle.std.proofs.Common.{◌≡◌, ◌∙◌, ap, List}
+use Rattle.std.proofs.lemmas.Result.{on_ok_weaker}
+use Rattle.book_model.specs.Book.{BookView}
+use Rattle.router_trace.specs.Trace.{Entry, step_of}
+use Rattle.router_reply.specs.Replies.{replied}
+use Rattle.router_reply.specs.Resuming.{resumed_key, rows_for, map_of, told_map, resumed}
+use Rattle.router_core.proofs.Resuming.{resumes_as}
+use Rattle.router_core.proofs.router.reply_to.Goals as goal
+
+pub returns : goal.returns
+returns c = on_ok_weaker c.after.result
+    (λ is t ready row book.
+    let e = c.args.event in
+    let a = c.args.ready.now.answer in
+    let u : List Entry = replied c.args.id.now t (step_of e) in
+    let key = c.in-Ok.ensures.key t ready.tables in
+    let rows = c.in-Ok.ensures.rows t ready.tables in
+    let ours : c.in-Ok-told_map.ours.items ≡ told_map t e a =
+    c.in-Ok-told_map.ensures ∙ ap map_of (rows ∙ ap (λ (b : BookView). rows_for b (resumed_key t e a)) book) in
+    let fits = c.in-Ok-reply.ensures t ready.tables (c.deref.ensures.value ∙ ready.ends) ready.answer row ours ready.heard in
+    is (resumed t e u) (resumes_as c.take_up.new.state t e a c.args.book.now c.in-Ok.resumption u ready.answer book key rows (c.in_ok.ensures u fits)))
+    c.after.ensures
