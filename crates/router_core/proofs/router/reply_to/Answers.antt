@@ -18,5 +18,5 @@ returns c = on_ok_weaker c.after.result
     let ours : c.in-Ok-told_map.ours.items ≡ told_map t e a =
     c.in-Ok-told_map.ensures ∙ ap map_of (rows ∙ ap (λ (b : BookView). rows_for b (resumed_key t e a)) book) in
     let fits = c.in-Ok-reply.ensures t ready.tables (c.deref.ensures.value ∙ ready.ends) ready.answer row ours ready.heard in
-    is (resumed t e u) (resumes_as c.take_up.new.state t e a c.args.book.now c.in-Ok.resumption u ready.answer book key rows (c.in_ok.ensures u fits)))
+    is (resumed t e u) (resumes_as c.take_up.new.state t e a c.args.book.now c.in-Ok.resumption u ready.answer book key rows (c.in_ok-take_up.ensures u fits)))
     c.after.ensures
