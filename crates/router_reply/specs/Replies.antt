@@ -5,7 +5,6 @@ use Rattle.amqp_model.specs.declared.perf.Perf.{Perf}
 use Rattle.amqp_model.specs.declared.perf.Perf.TheVariants as perf
 use Rattle.amqp_model.specs.Parts.{attach_of}
 use Rattle.amqp_model.specs.declared.perf.Disposition.{Disposition as ADisposition}
-use Rattle.amqp_model.specs.declared.state.DeliveryState.TheVariants as state
 use Rattle.amqp_model.specs.declared.state.UnsettledDelivery.{UnsettledDelivery}
 use Rattle.amqp_model.specs.declared.item.Item.{Item}
 use Rattle.amqp_model.specs.declared.item.Item.TheVariants as item

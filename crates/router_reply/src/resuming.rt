@@ -48,11 +48,7 @@ fn receives(role: Role) -> bool
 }
 
 /// The key of the consumer's durable link that an attach asks for.
-fn consumer_key(
-    state: &State,
-    conn: u64,
-    attach: &Attach,
-) -> Result<Option<LinkKey>, AllocError>
+fn consumer_key(state: &State, conn: u64, attach: &Attach) -> Result<Option<LinkKey>, AllocError>
     ensures { IfOk result (λ key. (t : List Entry) → TablesFind state.now t → key ≡ consumer_key t conn attach.now) }
 {
     if wants_durable(attach) && receives(attach.role) {
@@ -108,11 +104,7 @@ fn key_in(
 }
 
 /// The same of an event.
-fn resumed_key(
-    state: &State,
-    event: &Event,
-    answer: &Answer,
-) -> Result<Option<LinkKey>, AllocError>
+fn resumed_key(state: &State, event: &Event, answer: &Answer) -> Result<Option<LinkKey>, AllocError>
     ensures { IfOk result (λ key. (t : List Entry) → TablesFind state.now t → key ≡ resumed_key t event.now answer.now) }
 {
     match event {
