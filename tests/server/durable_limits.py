@@ -5,14 +5,13 @@ import tempfile
 
 import journals
 from durable_messages import End, Pair, Scene, quiet
-from journals import ACCEPTED, FAILED, PRODUCER
+from journal_bytes import ROW_RESERVE, admitted, filled, made_cost, other_termini, write
+from journals import ACCEPTED, FAILED
 from peer import ACTIVE, GONE, attached, outcome, until
 from proton import Delivery, Terminus
 from served import Served, expect
 
-MOST_TERMINI, MOST_ROWS, LINK_ROWS, MOST_BYTES = 1_024, 4_096, 64, 67_108_864
-# what the journal keeps free for a row and for a terminus
-ROW_RESERVE, TERMINUS_RESERVE = 416 + 14, 14
+MOST_TERMINI, MOST_ROWS, LINK_ROWS = 1_024, 4_096, 64
 
 
 class Begun(Scene):
@@ -20,7 +19,7 @@ class Begun(Scene):
 
     def __init__(self, folder, *batches):
         self.journal = journals.Journal(f"{folder}/journal")
-        journals.write(self.journal.path, batches)
+        write(self.journal.path, batches)
         self.journal.grow(ordered=False)
 
 
@@ -34,10 +33,6 @@ def over(*batches):
                     return body(scene, served)
         return run
     return row
-
-
-def other_termini(count):
-    return b"".join(journals.made(number + 1, PRODUCER, "anonymous", "other", f"s{number}", "other") for number in range(count))
 
 
 @over(other_termini(MOST_TERMINI - 1))
@@ -60,7 +55,7 @@ def termini(scene, served):
 
 def other_rows(count):
     """Rows of other links, whose consumers weren't durable: a program that begins with them decides them."""
-    return b"".join(journals.admitted(number + 1, number // LINK_ROWS + 1, b"%d" % number, 0, b"x") for number in range(count))
+    return b"".join(admitted(number + 1, number // LINK_ROWS + 1, b"%d" % number, 0, b"x") for number in range(count))
 
 
 @over(other_termini(LINK_ROWS), other_rows(MOST_ROWS - 1))
@@ -91,32 +86,10 @@ def rows(scene, served):
     it.close()
 
 
-def filled(room):
-    """A terminus and deliveries that are over, after which a journal has this room."""
-    batches = [other_termini(1)]
-    left, number, payload = MOST_BYTES - len(journals.MAGIC) - 1 - TERMINUS_RESERVE - room - 5 - len(batches[0]), 0, 65_536
-
-    def message(size):
-        return journals.admitted(number, 1, b"", 0, b"." * size) + journals.accepted(number) + journals.forgotten(number)
-
-    while left:
-        number += 1
-        over_all = 5 + len(message(0))
-        # the last two share what is left, so that neither is too short
-        size = payload if left > 2 * (payload + over_all) else left - over_all if left <= payload + over_all else left // 2 - over_all
-        batches.append(message(size))
-        left -= over_all + size
-    return batches
-
-
-def made_cost(role, container, name, address):
-    return 5 + len(journals.made(1, role, "anonymous", container, name, address)) + TERMINUS_RESERVE
-
-
 def full():
     """What begins has to fit, with what it will need: to the byte. What ends has always room."""
     address, body = "d.room", b"m" * 100
-    row = 5 + len(journals.admitted(1, 1, b"1", 1, body)) + ROW_RESERVE
+    row = 5 + len(admitted(1, 1, b"1", 1, body)) + ROW_RESERVE
     ends = made_cost(1, f"c.{address}", "r", address) + made_cost(0, f"p.{address}", "s", address)
     over(*filled(ends + row))(lambda scene, served: fits(scene, served, address, body))()
     over(*filled(ends + row - 1))(lambda scene, served: fits_not(scene, served, address, body))()

@@ -3,7 +3,8 @@ and what they were answered."""
 from functools import partial
 
 from cproton import pn_delivery_clear
-from journals import CONSUMER, FAILED, PRODUCER, Fault, modification, rejection
+from journal_bytes import CONSUMER, PRODUCER
+from journals import FAILED, Fault, modification, rejection
 from peer import ACTIVE, GONE, STATES, Peer, asks_durable, state_of, tag_of
 from proton import Condition, Delivery, Event, Terminus, symbol
 

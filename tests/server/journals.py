@@ -2,11 +2,10 @@
 with the program's."""
 from collections import defaultdict, namedtuple
 
+from journal_bytes import CONSUMER, MAGIC, PRODUCER
 from proton import Data
 
-MAGIC = b"AMQRJ001"
 KINDS = {1: "Make", 2: "Admit", 3: "Decide", 4: "Forget", 5: "Drop"}
-PRODUCER, CONSUMER = 0, 1
 ACCEPTED, RELEASED = ("accepted",), ("released",)
 # what the router itself decides of a delivery whose consumer's link is gone
 FAILED = ("modified", True, False, {})
@@ -224,33 +223,3 @@ def in_order(acts):
     said = [(ORDER[it.kind], it.number) for it in acts]
     if said != sorted(said) or sum(it[0] == 3 for it in said) > 1:
         raise Fault(f"a batch is {str(said)[:200]}")
-
-
-
-# Acts as bytes, for journals that a check begins with
-
-def text_of(data, size):
-    return len(data).to_bytes(size, "big") + data
-
-
-def made(number, role, *texts):
-    return b"\1" + number.to_bytes(8, "big") + bytes([role]) + b"".join(text_of(it.encode(), 2) for it in texts)
-
-
-def admitted(number, producer, tag, consumer, payload):
-    return (b"\2" + number.to_bytes(8, "big") + producer.to_bytes(8, "big") + text_of(tag, 1) + consumer.to_bytes(8, "big") + bytes(4)
-            + text_of(payload, 4))
-
-
-def accepted(number):
-    return b"\3" + number.to_bytes(8, "big") + text_of(b"\x00\x53\x24\x45", 2)
-
-
-def forgotten(number):
-    return b"\4" + number.to_bytes(8, "big")
-
-
-def write(path, batches):
-    """Makes a journal of these batches, each the bytes of its acts."""
-    with open(path, "wb") as file:
-        file.write(MAGIC + b"".join(b"\1" + text_of(it, 4) for it in batches) + b"\0")

@@ -31,6 +31,8 @@ pub record Meaning (M : Type 0) : Type 1 where
   pub leaves : M → (BookView → Type 0) → Type 0
   -- the trace after an event, by the router's container-id: its acts, the event, and the items that it puts out
   pub next : List ℕ → Trace → Step → Trace
+  -- whether an event that comes next finds the journal full: it would have acts that cost more than the room
+  pub finds_full : Trace → Event → Bool
   -- the book that a trace leaves
   pub book : Trace → BookView
   -- that book after the acts of the event that comes next

@@ -11,6 +11,8 @@ use state_connections::Taken;
 pub struct Done {
     /// The batch that the event wrote to the journal: its number, from 1 on, and its acts. None where it wrote nothing.
     pub journal: Option<(u64, Vec<Act>)>,
+    /// Whether the event found the journal full: it had acts, or a delivery to admit, and there was no room for them.
+    pub full: bool,
 }
 
 /// Items that were taken from an outbox. Only [`take`](crate::take) makes one.

@@ -42,6 +42,9 @@ pub trait Machine: Drop {
         ensures leaves { (t : Trace) → meaning.fits self.old t → meaning.keeps self.old (meaning.book t)
             → meaning.leaves self.new (BookAt meaning t event) }
 
+        // Whether the event found the journal full.
+        ensures full { IfOk result (λ done. (t : Trace) → meaning.fits self.old t → done.full ≡ meaning.finds_full t event) }
+
         // One more event is counted exactly if the call answers Ok.
         ensures counted { OnOk result (meaning.counts self.new ≡ with_event event (meaning.counts self.old)) }
         ensures uncounted { OnErr result (meaning.counts self.new ≡ meaning.counts self.old) }

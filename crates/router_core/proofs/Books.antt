@@ -25,7 +25,7 @@ use Rattle.state_messages.specs.Messages.{with_bound}
 use Rattle.router_state.specs.Tables.{TablesFit}
 use Rattle.router_core.specs.Replies.{answered, handled}
 use Rattle.core_machine.specs.Turns.{is_start, is_started, is_out_of_turn, declines}
-use Rattle.router_core.specs.Handling.{Journals, Fits, with_admission, BeforeOrAfterEvent, kept_book, state_of}
+use Rattle.router_core.specs.Handling.{Journals, Fits, with_admission, full_with, BeforeOrAfterEvent, kept_book, state_of}
 use Rattle.router_core.specs.declared.router.Core.{Core}
 use Rattle.router_core.proofs.Booking.{booked_same}
 use Rattle.router_core.proofs.Committing.{chosen}
@@ -140,6 +140,22 @@ acts_are core t e f =
     (planned_acts (exceeds (journaled t).used k (planned_acts false (book_in t) t e)) (book_in t) t e)
     (admitted_of (journaled t) t e (exceeds (journaled t).used k (planned_acts false (book_in t) t e)))) f.journal.kept
     ∙ (chosen (journaled t).used (reserve (book_in t)) (book_in t) t e).acts
+
+-- whether it finds the journal full
+pub full_is : {D : Type 0} (core : Core D) (t : List Entry) (e : Event) → Fits core t
+    → full_with (early_of core t e) (used_of core.store) (kept_of core.store) (planned_acts (early_of core t e) (kept_book core) t e)
+    (admits (kept_book core) (event_admission (kept_book core) t e (event_answer (early_of core t e) (kept_book core) t e))) ≡ finds_full (journaled t) t e
+full_is core t e f =
+    ap (λ (x : BookView). full_with (exceeds (used_of core.store) (kept_of core.store) (planned_acts false x t e)) (used_of core.store) (kept_of core.store)
+    (planned_acts (exceeds (used_of core.store) (kept_of core.store) (planned_acts false x t e)) x t e)
+    (admits x (event_admission x t e (event_answer (exceeds (used_of core.store) (kept_of core.store) (planned_acts false x t e)) x t e)))) f.journal.book
+    ∙ ap (λ (u : ℕ). full_with (exceeds u (kept_of core.store) (planned_acts false (book_in t) t e)) u (kept_of core.store)
+    (planned_acts (exceeds u (kept_of core.store) (planned_acts false (book_in t) t e)) (book_in t) t e)
+    (admitted_of (journaled t) t e (exceeds u (kept_of core.store) (planned_acts false (book_in t) t e)))) f.journal.used
+    ∙ ap (λ (k : ℕ). full_with (exceeds (journaled t).used k (planned_acts false (book_in t) t e)) (journaled t).used k
+    (planned_acts (exceeds (journaled t).used k (planned_acts false (book_in t) t e)) (book_in t) t e)
+    (admitted_of (journaled t) t e (exceeds (journaled t).used k (planned_acts false (book_in t) t e)))) f.journal.kept
+    ∙ (chosen (journaled t).used (reserve (book_in t)) (book_in t) t e).full
 
 -- the answer to its item: it is the same after its acts
 answer_after : (full : Bool) (b : BookView) (t : List Entry) (e : Event) (c : ℕ) (p : Conn) (i : Item) → answer_at full b t c p i ≡ answer_at full b (booked t e) c p i

@@ -20,7 +20,7 @@ use Rattle.reply_rows.specs.Finding.{finds}
 use Rattle.reply_rows.specs.Rows.{item_reply}
 use Rattle.router_reply.specs.Acts.{event_answer, live_answer, answer_acts, planned_acts, admitted_acts, or_admits, event_acts}
 use Rattle.router_reply.specs.Admitting.{taken_admission, unless_ends, event_admission, admits, without_acts}
-use Rattle.router_core.specs.Handling.{within, or_within, with_admission}
+use Rattle.router_core.specs.Handling.{within, or_within, with_admission, or_exceeds, full_with}
 
 -- what holds of what is there, if it is
 pub some_weaker : {X : Type 0} (P Q : X → Type 0) (o : Option X) → ((x : X) → P x → Q x) → IfSome o P → IfSome o Q
@@ -101,6 +101,7 @@ module _ (used kept : ℕ) (b : BookView) (t : List Entry) (e : Event) where
   pub record Chosen : Type 0 where
     pub answer : event_answer early b t e ≡ event_answer whole b t e
     pub acts : with_admission early used kept (planned_acts early b t e) (admitted early) ≡ event_acts whole b t e
+    pub full : full_with early used kept (planned_acts early b t e) (admitted early) ≡ whole
 
   -- something is planned
   some_planned : (act : Act) (acts : List Act) → planned_acts false b t e ≡ act ∷ acts → Chosen
@@ -119,9 +120,22 @@ module _ (used kept : ℕ) (b : BookView) (t : List Entry) (e : Event) where
           subst (λ (f : Bool). with_admission f used kept (planned_acts f b t e) (admitted f) ≡ event_acts f b t e) (sym is)
           (ap (λ (xs : List Act). or_within used kept xs (admitted false)) are ∙ sym only)
 
+      -- it is full by what is planned, or not at all
+      told : (full : Bool) → (full ≡ true) ⊎ (full ≡ false) → full_with full used kept (planned_acts full b t e) (admitted full) ≡ full
+      told full (inl is) = subst (λ (f : Bool). full_with f used kept (planned_acts f b t e) (admitted f) ≡ f) (sym is) refl
+      told full (inr is) =
+          subst (λ (f : Bool). full_with f used kept (planned_acts f b t e) (admitted f) ≡ f) (sym is) (ap (λ (xs : List Act). or_exceeds used kept xs (admitted false)) are)
+
+      made : (early ≡ true) ⊎ (early ≡ false) → Chosen
+      made is = record {
+        answer = ap (λ (f : Bool). event_answer f b t e) alike;
+        acts = by_full early is ∙ ap (λ (f : Bool). event_acts f b t e) alike;
+        full = told early is ∙ alike;
+      }
+
       by : (full : Bool) → early ≡ full → Chosen
-      by true is = record { answer = ap (λ (f : Bool). event_answer f b t e) alike; acts = by_full early (inl is) ∙ ap (λ (f : Bool). event_acts f b t e) alike }
-      by false is = record { answer = ap (λ (f : Bool). event_answer f b t e) alike; acts = by_full early (inr is) ∙ ap (λ (f : Bool). event_acts f b t e) alike }
+      by true is = made (inl is)
+      by false is = made (inr is)
 
   -- nothing is planned
   none_planned : planned_acts false b t e ≡ [] → Chosen
@@ -156,6 +170,9 @@ module _ (used kept : ℕ) (b : BookView) (t : List Entry) (e : Event) where
         acts =
             ap (λ (f : Bool). with_admission f used kept (planned_acts f b t e) (admitted f)) not_early
             ∙ ap (λ (xs : List Act). or_within used kept xs (admitted false)) none ∙ both.1 ∙ ap (λ (f : Bool). event_acts f b t e) (sym is);
+        full =
+            ap (λ (f : Bool). full_with f used kept (planned_acts f b t e) (admitted f)) not_early
+            ∙ ap (λ (xs : List Act). or_exceeds used kept xs (admitted false)) none ∙ sym (ap (exceeds used kept) only);
       }
 
       by : (full : Bool) → whole ≡ full → Chosen

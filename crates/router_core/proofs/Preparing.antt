@@ -24,13 +24,13 @@ use Rattle.reply_rows.specs.declared.answer.Answer.TheVariants.{Taken}
 use Rattle.reply_rows.specs.Booking.{answer_at}
 use Rattle.reply_rows.proofs.Mapped.{IsHere, answer_here}
 use Rattle.router_reply.specs.declared.heard.Heard.{Heard}
-use Rattle.router_reply.specs.Acts.{event_answer, live_answer, answer_acts, planned_acts, acts_of}
+use Rattle.router_reply.specs.Acts.{event_answer, live_answer, answer_acts, planned_acts, acts_of, finds_full, journaled}
 use Rattle.router_reply.specs.Admitting.{answer_admission, taken_admission, part_admission, unless_ends, event_admission, admits, without_acts}
 use Rattle.router_reply.specs.Deciding.{decided, forgotten, terminus_of_event}
 use Rattle.router_reply.specs.Heard.{ItemHeard, IsHeard}
 use Rattle.router_core.specs.declared.router.Core.{Core}
-use Rattle.router_core.specs.Handling.{Fits, TakenHere, TakenIn, with_admission, kept_book}
-use Rattle.router_core.proofs.Books.{early_of, acts_are}
+use Rattle.router_core.specs.Handling.{Fits, TakenHere, TakenIn, with_admission, full_with, kept_book}
+use Rattle.router_core.proofs.Books.{early_of, acts_are, full_is}
 
 -- of an event that is no start, the acts are those of its answer
 planned_is : (full : Bool) (b : BookView) (t : List Entry) (e : Event) → (e ≡ event.Start → ⊥) → answer_acts b t e (event_answer full b t e) ≡ planned_acts full b t e
@@ -109,3 +109,15 @@ prepared core t e full a planned acts f early answered are told =
     ∙ ap (λ (b : Bool). with_admission b (used_of core.store) (kept_of core.store) (planned_acts b (kept_book core) t e)
     (admits (kept_book core) (event_admission (kept_book core) t e (event_answer b (kept_book core) t e)))) early
     ∙ acts_are core t e f
+
+-- and whether it finds the journal full
+pub found_full : {D : Type 0} (core : Core D) (t : List Entry) (e : Event) (full : Bool) (a : Answer) (planned : List Act) (found : Bool) → Fits core t → full ≡ early_of core t e
+    → a ≡ event_answer full (kept_book core) t e → planned ≡ planned_acts full (kept_book core) t e
+    → found ≡ full_with full (used_of core.store) (kept_of core.store) planned (admits (kept_book core) (event_admission (kept_book core) t e a)) → found ≡ finds_full (journaled t) t e
+found_full core t e full a planned found f early answered are told =
+    told
+    ∙ ap (λ (xs : List Act). full_with full (used_of core.store) (kept_of core.store) xs (admits (kept_book core) (event_admission (kept_book core) t e a))) are
+    ∙ ap (λ (x : Answer). full_with full (used_of core.store) (kept_of core.store) (planned_acts full (kept_book core) t e) (admits (kept_book core) (event_admission (kept_book core) t e x))) answered
+    ∙ ap (λ (b : Bool). full_with b (used_of core.store) (kept_of core.store) (planned_acts b (kept_book core) t e)
+    (admits (kept_book core) (event_admission (kept_book core) t e (event_answer b (kept_book core) t e)))) early
+    ∙ full_is core t e f

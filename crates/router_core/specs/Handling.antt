@@ -69,6 +69,14 @@ or_within used kept (act ∷ acts) admitted = act ∷ acts
 abbrev pub with_admission : Bool → ℕ → ℕ → List Act → List Act → List Act
 with_admission full used kept acts admitted = if full then acts else or_within used kept acts admitted
 
+-- An event finds the journal full: by what is planned; or, if nothing is, by an admission that exceeds the room.
+abbrev pub or_exceeds : ℕ → ℕ → List Act → List Act → Bool
+or_exceeds used kept [] admitted = exceeds used kept admitted
+or_exceeds used kept (act ∷ acts) admitted = false
+
+abbrev pub full_with : Bool → ℕ → ℕ → List Act → List Act → Bool
+full_with full used kept acts admitted = if full then true else or_exceeds used kept acts admitted
+
 -- it failed with a fault of the disk or of memory, and answers nothing else
 abbrev pub is_failed : {D : Type 0} → Core D → Bool
 is_failed core = core.failed

@@ -7,7 +7,7 @@ use Rattle.journal_store.specs.declared.store.Store.{Store}
 use Rattle.route_table.specs.Places.{routing_of}
 use Rattle.route_table.specs.Settings.{Settings}
 use Rattle.router_trace.specs.Trace.{Beginning}
-use Rattle.router_reply.specs.Acts.{book_in, book_after_event}
+use Rattle.router_reply.specs.Acts.{book_in, book_after_event, finds_full, journaled}
 use Rattle.core_machine.specs.Meaning.{Meaning}
 use Rattle.router_core.specs.declared.router.Core.{Core}
 use Rattle.router_core.specs.Handling.{Fits, id_of, is_failed, counts_of, store_of, kept_book}
@@ -34,6 +34,7 @@ core_meaning {D} seen may_leave failures = record {
   keeps = KeepsBook seen may_leave;
   leaves = LeavesBook may_leave;
   next = handled;
+  finds_full = λ t e. finds_full (journaled t) t e;
   book = book_in;
   next_book = book_after_event;
 }

@@ -10,7 +10,7 @@ ghost use Rattle.router_trace.specs.Connection.{conn as known, is_ready, is_live
 ghost use Rattle.state_connections.specs.Fits.{IsLeast};
 ghost use Rattle.book_model.specs.Book.{effects};
 ghost use Rattle.gate_journal.specs.Reserve.{reserve};
-ghost use Rattle.router_reply.specs.Acts.{planned_acts, event_answer, acts_of, book_in, book_after_event, booked};
+ghost use Rattle.router_reply.specs.Acts.{planned_acts, event_answer, acts_of, book_in, book_after_event, booked, finds_full, journaled};
 ghost use Rattle.router_reply.specs.Admitting.{admits, event_admission, without_acts};
 ghost use Rattle.router_reply.specs.Heard.{IsHeard};
 ghost use Rattle.router_reply.specs.Replies.{row_found};
@@ -18,7 +18,7 @@ ghost use Rattle.core_machine.specs.Turns.{declines};
 ghost use Rattle.router_core.specs.Replies.{Replies, answered, handled};
 ghost use Rattle.router_state.specs.Tables.{TablesFit, TablesAt};
 ghost use Rattle.router_state.specs.Waiting.{NothingWaits};
-ghost use Rattle.router_core.specs.Handling.{Fits, IsTaken, IsReady, TakenIn, with_admission, is_failed, id_of, store_of, kept_book, state_of, counts_of, BeforeOrAfterEvent, LeftBook};
+ghost use Rattle.router_core.specs.Handling.{Fits, IsTaken, IsReady, TakenIn, with_admission, full_with, is_failed, id_of, store_of, kept_book, state_of, counts_of, BeforeOrAfterEvent, LeftBook};
 ghost use Rattle.core_machine.specs.Meaning.{IsBatchOf, IsTakenOf};
 ghost use Rattle.core_machine.specs.Counting.{uncounted, with_event, with_batch};
 ghost use Rattle.core_machine.specs.Opened.{IsOpened};
@@ -51,6 +51,13 @@ type Written = Option<(u64, Vec<Act>)>;
 struct Planned {
     full: bool,
     answer: Answer,
+    acts: Vec<Act>,
+}
+
+/// What an event does to the book: its acts, and whether it finds the journal full.
+#[derive(Drop)]
+struct Prepared {
+    full: bool,
     acts: Vec<Act>,
 }
 
@@ -204,7 +211,8 @@ impl<D: Disk> Core<D> {
     /// earlier call answered `Disk` or `Memory`; both change nothing. After `Disk` and `Memory` the router is failed, and is to
     /// be opened again.
     ///
-    /// What the event does to the book is written to the journal, as one batch, before any of its items is put out.
+    /// What the event does to the book is written to the journal, as one batch, before any of its items is put out. Where there is no room for that, the
+    /// event finds the journal full, which is told: it releases a delivery, or refuses a durable link.
     pub fn handle(&mut self, event: Event) -> Result<Done, CoreFault>
         // The trace continues with the event and its replies.
         ensures fits { OnOk result ((t : List Entry) → Fits self.old t → (u : List Entry) × Replies (id_of self.old) t (step_of event) u × Fits self.new u) }
@@ -219,6 +227,7 @@ impl<D: Disk> Core<D> {
             (batch.0 ≡ batch_count (journal_of (store_of self.old)) + 1) × (batch.1.items ≡ acts_of t event))) }
         ensures some_acts { IfOk result (λ done. IfSome done.journal (λ batch. batch.1.items ≢ [])) }
         ensures silent { IfOk result (λ done. (t : List Entry) → Fits self.old t → IfNone done.journal (acts_of t event ≡ [])) }
+        ensures full { IfOk result (λ done. (t : List Entry) → Fits self.old t → done.full ≡ finds_full (journaled t) t event) }
 
         // Whatever is answered, a crash at any moment of the call leaves the book before the event or the book after it; and after
         // a fault of the disk or of memory no item waits in any outbox.
@@ -255,7 +264,7 @@ impl<D: Disk> Core<D> {
             return Err(CoreFault::NoConnection);
         };
         match self.carry_out(event, phase) {
-            Ok(journal) => Ok(Done { journal }),
+            Ok(done) => Ok(done),
             Err(fault) => {
                 self.state.give_up();
                 self.failed = true;
@@ -282,16 +291,17 @@ impl<D: Disk> Core<D> {
 
     /// Handles an event that is not declined, which finds its item's connection in this phase: it is planned and heard, its acts are written as
     /// one batch, and only then it is answered.
-    fn carry_out(&mut self, event: Event, phase: Option<Conn>) -> Result<Written, CoreFault>
+    fn carry_out(&mut self, event: Event, phase: Option<Conn>) -> Result<Done, CoreFault>
         ensures fits { OnOk result ((t : List Entry) → Fits self.old t → IsTaken t event phase → Fits self.new (handled (id_of self.old) t (step_of event))) }
         ensures works { is_failed self.new ≡ is_failed self.old }
         ensures named { id_of self.new ≡ id_of self.old }
         ensures stands { OnOk result (Stands D.seen D.may_leave (store_of self.old) → Stands D.seen D.may_leave (store_of self.new)) }
         ensures book { OnOk result ((t : List Entry) → Fits self.old t → IsTaken t event phase → kept_book self.new ≡ book_after_event t event) }
-        ensures written { IfOk result (λ journal. (t : List Entry) → Fits self.old t → IsTaken t event phase → IfSome journal (λ batch.
+        ensures written { IfOk result (λ done. (t : List Entry) → Fits self.old t → IsTaken t event phase → IfSome done.journal (λ batch.
             (batch.0 ≡ batch_count (journal_of (store_of self.old)) + 1) × (batch.1.items ≡ acts_of t event))) }
-        ensures some_acts { IfOk result (λ journal. IfSome journal (λ batch. batch.1.items ≢ [])) }
-        ensures silent { IfOk result (λ journal. (t : List Entry) → Fits self.old t → IsTaken t event phase → IfNone journal (acts_of t event ≡ [])) }
+        ensures some_acts { IfOk result (λ done. IfSome done.journal (λ batch. batch.1.items ≢ [])) }
+        ensures silent { IfOk result (λ done. (t : List Entry) → Fits self.old t → IsTaken t event phase → IfNone done.journal (acts_of t event ≡ [])) }
+        ensures full { IfOk result (λ done. (t : List Entry) → Fits self.old t → IsTaken t event phase → done.full ≡ finds_full (journaled t) t event) }
         ensures any_moment { (t : List Entry) → Fits self.old t → IsTaken t event phase → Stands D.seen D.may_leave (store_of self.old)
             → LeavesOnly D.moment D.left_since (disk_of (store_of self.old)) (disk_of (store_of self.new)) (BeforeOrAfterEvent t event) }
         ensures counted { OnOk result (counts_of self.new ≡ with_event event (counts_of self.old)) }
@@ -304,7 +314,7 @@ impl<D: Disk> Core<D> {
         ensures no_other { (IsErrOf result DiskFailed → ⊥) → D.failures (disk_of (store_of self.new)) ≡ D.failures (disk_of (store_of self.old)) }
     {
         let mut ready = Ready::nothing(self.alloc);
-        let Ok(acts) = self.prepare(&event, phase, &mut ready) else {
+        let Ok(Prepared { full, acts }) = self.prepare(&event, phase, &mut ready) else {
             drop(event);
             return Err(CoreFault::Memory);
         };
@@ -320,7 +330,7 @@ impl<D: Disk> Core<D> {
             drop(journal);
             return Err(CoreFault::Memory);
         };
-        Ok(journal)
+        Ok(Done { journal, full })
     }
 
     /// Plans an event that is not declined, with its connection in this phase before it, and handles it; nothing is put and nothing written. Fills in what its answer needs, and gives the acts that it has.
@@ -329,11 +339,12 @@ impl<D: Disk> Core<D> {
         event: &Event,
         before: Option<Conn>,
         ready: &mut Ready,
-    ) -> Result<Vec<Act>, AllocError>
+    ) -> Result<Prepared, AllocError>
         ensures rest { self.new ≡ record self.old { state = state_of self.new } }
         ensures ready { OnOk result ((t : List Entry) → Fits self.old t → IsTaken t event.now before → IsReady (state_of self.new) (booked t event.now) event.now ready.new) }
-        ensures acts { IfOk result (λ acts. (t : List Entry) → Fits self.old t → IsTaken t event.now before → acts.items ≡ acts_of t event.now) }
-        ensures writable { IfOk result (λ acts. Writable (kept_book self.old) acts.items) }
+        ensures acts { IfOk result (λ p. (t : List Entry) → Fits self.old t → IsTaken t event.now before → p.acts.items ≡ acts_of t event.now) }
+        ensures full { IfOk result (λ p. (t : List Entry) → Fits self.old t → IsTaken t event.now before → p.full ≡ finds_full (journaled t) t event.now) }
+        ensures writable { IfOk result (λ p. Writable (kept_book self.old) p.acts.items) }
     {
         ready.ends = self.state.turn(event)?;
         let phase = phase_found(event, &ready.ends, before);
@@ -412,16 +423,18 @@ impl<D: Disk> Core<D> {
         answer: &Answer,
         heard: &Heard,
         acts: Vec<Act>,
-    ) -> Result<Vec<Act>, AllocError>
+    ) -> Result<Prepared, AllocError>
         requires writable { Writable (kept_book self.old) acts.items }
         ensures rest { self.new ≡ record self.old { state = state_of self.new } }
         ensures tables { OnOk result ((t : List Entry) → TablesFit (state_of self.old) t → TablesFit (state_of self.new) t) }
         ensures acts { IfOk result (λ r. (t : List Entry) → TablesFit (state_of self.old) (without_acts t event.now) → ends.now ≡ due t event.now → IsHeard t event.now answer.now heard.now
-            → TakenIn t event.now answer.now → r.items ≡ with_admission full (used_of (store_of self.old)) (kept_of (store_of self.old)) acts.items (admits (kept_book self.old) (event_admission (kept_book self.old) t event.now answer.now))) }
-        ensures writable { IfOk result (λ r. Writable (kept_book self.old) r.items) }
+            → TakenIn t event.now answer.now → r.acts.items ≡ with_admission full (used_of (store_of self.old)) (kept_of (store_of self.old)) acts.items (admits (kept_book self.old) (event_admission (kept_book self.old) t event.now answer.now))) }
+        ensures full { IfOk result (λ r. (t : List Entry) → TablesFit (state_of self.old) (without_acts t event.now) → ends.now ≡ due t event.now → IsHeard t event.now answer.now heard.now
+            → TakenIn t event.now answer.now → r.full ≡ full_with full (used_of (store_of self.old)) (kept_of (store_of self.old)) acts.items (admits (kept_book self.old) (event_admission (kept_book self.old) t event.now answer.now))) }
+        ensures writable { IfOk result (λ r. Writable (kept_book self.old) r.acts.items) }
     {
         if full || !acts.is_empty() {
-            return Ok(acts);
+            return Ok(Prepared { full, acts });
         }
         let Ok(admits) = self.admission(ends, event, answer, heard) else {
             drop(acts);
@@ -430,11 +443,11 @@ impl<D: Disk> Core<D> {
         match self.store.exceeds(&admits) {
             Ok(false) => {
                 drop(acts);
-                Ok(admits)
+                Ok(Prepared { full, acts: admits })
             }
             Ok(true) => {
                 drop(admits);
-                Ok(acts)
+                Ok(Prepared { full: true, acts })
             }
             Err(error) => {
                 drop(acts);

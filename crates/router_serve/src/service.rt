@@ -41,6 +41,10 @@ impl<M: Machine + Send, N: Names> Service for Server<M, N> {
         Ok(())
     }
 
+    fn full_events<R: Wait>(&self, rt: &R) -> u64 {
+        self.shared.full_events(rt)
+    }
+
     fn connect<R: Wait>(
         &self,
         rt: &R,

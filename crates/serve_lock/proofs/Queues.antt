@@ -1,6 +1,6 @@
 -- How far a queue of items was handed in while the lock is held.
-use Rattle.std.proofs.Common.{◌≡◌, ◌∙◌, sym, ap, refl, subst, ℕ, ◌+◌, ◌-◌, ◌<◌, ◌≤◌, inl, inr, Bool, true, false, if◌then◌else◌, List, [], ◌∷◌, ◌++◌, length, take, drop, Result, Ok, Err, OnErr, IfErr, arith}
-use Rattle.std.specs.Prelude.{zero, suc}
+use Rattle.std.proofs.Common.{◌≡◌, ◌∙◌, sym, ap, refl, subst, ℕ, ◌+◌, ◌-◌, ◌^◌, ◌<◌, ◌≤◌, inl, inr, Bool, true, false, if◌then◌else◌, List, [], ◌∷◌, ◌++◌, length, take, drop, Result, Ok, Err, OnErr, IfErr, arith}
+use Rattle.std.specs.Prelude.{zero, suc, min}
 use Rattle.std.proofs.Math.Seq.{drop-append_seam, take-append_seam}
 use Rattle.std.proofs.lemmas.List.{append_assoc, length-append}
 use Rattle.amqp_model.specs.declared.item.Item.{Item}
@@ -14,13 +14,28 @@ use Rattle.core_machine.specs.Turns.{declines}
 use Rattle.core_machine.specs.declared.fault.CoreFault.{CoreFault}
 use Rattle.core_machine.specs.declared.fault.CoreFault.TheVariants.{Disk, Memory, Failed, NoConnection}
 use Rattle.serve_lock.specs.Adding.{Handled, with_items}
-use Rattle.serve_lock.specs.Handing.{Enough, Refuses, Stopped, gone, handed}
+use Rattle.serve_lock.specs.Handing.{Enough, Refuses, Stopped, found_full, gone, handed, with_full}
 
 -- items, then one more
 handed_more : (next : List Entry → Step → List Entry) (conn : ConnectionId) (items : List Item) (item : Item) (t : List Entry)
     → handed next conn (items ++ item ∷ []) t ≡ next (handed next conn items t) (step_of (event.Item conn item))
 handed_more next conn [] item t = refl
 handed_more next conn (i ∷ is) item t = handed_more next conn is item (next t (step_of (event.Item conn i)))
+
+-- so many of them find the journal full
+found_more : {M : Type 0} (m : Meaning M) (id : List ℕ) (conn : ConnectionId) (items : List Item) (item : Item) (t : List Entry)
+    → found_full m id conn (items ++ item ∷ []) t ≡ found_full m id conn items t + (if m.finds_full (handed (m.next id) conn items t) (event.Item conn item) then 1 else 0)
+found_more m id conn [] item t = let one : (n : ℕ) → n + 0 ≡ 0 + n = λ n. omega arith in one (if m.finds_full t (event.Item conn item) then 1 else 0)
+found_more m id conn (i ∷ is) item t =
+    ap (λ (n : ℕ). (if m.finds_full t (event.Item conn i) then 1 else 0) + n) (found_more m id conn is item (m.next id t (step_of (event.Item conn i))))
+    ∙ (let all : (a b c : ℕ) → a + (b + c) ≡ (a + b) + c = λ a b c. omega arith in all _ _ _)
+
+-- the number of events that found the journal full is one of 64 bits
+pub full_fits : (found : Bool) (full more : ℕ) → more ≡ with_full found full → more < 2 ^ 64
+full_fits found full more is = grind (arith, is)
+
+full_more : (had n more full new : ℕ) → full ≡ min (had + n) (2 ^ 64 - 1) → new ≡ min (full + more) (2 ^ 64 - 1) → new ≡ min (had + (n + more)) (2 ^ 64 - 1)
+full_more had n more full new are is = grind (arith, are, is)
 
 -- what is left behind a fault that is handed on
 pub on_fault : {T E : Type 0} (r : Result T E) (P : Type 0) → P → OnErr r P
@@ -37,7 +52,7 @@ handed_on (Ok x) f P is left = absurd (ok_is_no_fault x f is)
 handed_on (Err e) f P is left = subst P (let same : f ≡ e = cc in same) left
 
 -- so many items of a queue were handed in, and so many more may write to the journal
-pub record IsFar {M : Type 0} (m : Meaning M) (conn : ConnectionId) (before behind : List Item) (had has : Counts) (old new : M) (turn writes : ℕ) : Type 0 where
+pub record IsFar {M : Type 0} (m : Meaning M) (conn : ConnectionId) (before behind : List Item) (had has : Counts) (old new : M) (had_full has_full turn writes : ℕ) : Type 0 where
   pub items : List Item
   pub queue : before ≡ items ++ behind
   pub turns : length items ≡ turn
@@ -51,10 +66,12 @@ pub record IsFar {M : Type 0} (m : Meaning M) (conn : ConnectionId) (before behi
   pub works : 0 < turn → m.is_failed new ≡ false
   pub keeps : (t : List Entry) → m.fits old t → m.keeps old (m.book t) → m.keeps new (m.book (handed (m.next (m.id old)) conn items t))
   pub failures : m.failures new ≡ m.failures old
+  pub full : (t : List Entry) → m.fits old t → has_full ≡ min (had_full + found_full m (m.id old) conn items t) (2 ^ 64 - 1)
 
 -- none yet
-pub at_first : {M : Type 0} (m : Meaning M) (conn : ConnectionId) (before : List Item) (had : Counts) (core : M) → IsFar m conn before before had had core core 0 8
-at_first m conn before had core = record {
+pub at_first : {M : Type 0} (m : Meaning M) (conn : ConnectionId) (before : List Item) (had : Counts) (core : M) (full : ℕ) → full < 2 ^ 64
+    → IsFar m conn before before had had core core full full 0 8
+at_first m conn before had core full fits = record {
   items = [];
   queue = refl;
   turns = refl;
@@ -68,6 +85,7 @@ at_first m conn before had core = record {
   works = λ some. absurd (omega (arith, some));
   keeps = λ t fits kept. kept;
   failures = refl;
+  full = λ t f. grind (arith, fits);
 }
 
 no_items : (items : List Item) → length items ≡ 0 → items ≡ []
@@ -79,16 +97,17 @@ none_handled : (turn : ℕ) (b : Bool) → (0 < turn → b ≡ false) → b ≡ 
 none_handled zero b works fails = refl
 none_handled (suc n) b works fails = absurd (let bad : true ≡ false = sym fails ∙ works (omega arith) in cc)
 
-module _ {M : Type 0} (m : Meaning M) (conn : ConnectionId) (before behind : List Item) (had mid : Counts) (old core : M) (turn writes : ℕ) (far : IsFar m conn before behind had mid old core turn writes) where
+module _ {M : Type 0} (m : Meaning M) (conn : ConnectionId) (before behind : List Item) (had mid : Counts) (old core : M) (had_full mid_full turn writes : ℕ) (far : IsFar m conn before behind had mid old core had_full mid_full turn writes) where
   -- one more
-  pub further : (item : Item) (rest : List Item) (has : Counts) (new : M) (wrote : Bool) (left : ℕ) → behind ≡ item ∷ rest → has ≡ with_event (event.Item conn item) mid
+  pub further : (item : Item) (rest : List Item) (has : Counts) (new : M) (full : ℕ) (wrote : Bool) (left : ℕ) → behind ≡ item ∷ rest → has ≡ with_event (event.Item conn item) mid
       → writes ≡ left + (if wrote then 1 else 0)
       → ((t : List Entry) → m.fits core t → m.fits new (m.next (m.id core) t (step_of (event.Item conn item))))
       → ((t : List Entry) → m.fits core t → m.batches new ≡ m.batches core + (if wrote then 1 else 0))
       → m.id new ≡ m.id core → m.is_failed new ≡ false
       → ((t : List Entry) → m.fits core t → m.keeps core (m.book t) → m.keeps new (m.book (m.next (m.id core) t (step_of (event.Item conn item)))))
-      → m.failures new ≡ m.failures core → IsFar m conn before rest had has old new (turn + 1) left
-  further item rest has new wrote left popped counted fewer fits written named works keeps failures = record {
+      → m.failures new ≡ m.failures core → ((t : List Entry) → m.fits core t → full ≡ with_full (m.finds_full t (event.Item conn item)) mid_full)
+      → IsFar m conn before rest had has old new had_full full (turn + 1) left
+  further item rest has new full wrote left popped counted fewer fits written named works keeps failures found = record {
     items = far.items ++ item ∷ [];
     queue = far.queue ∙ ap (λ l. far.items ++ l) popped ∙ sym (append_assoc far.items (item ∷ []) rest);
     turns = length-append far.items (item ∷ []) ∙ ap (λ n. n + 1) far.turns;
@@ -107,16 +126,18 @@ module _ {M : Type 0} (m : Meaning M) (conn : ConnectionId) (before behind : Lis
         (ap (λ i. m.next i (handed (m.next (m.id old)) conn far.items t) (step_of (event.Item conn item))) far.named ∙ sym (handed_more (m.next (m.id old)) conn far.items item t))
         (keeps (handed (m.next (m.id old)) conn far.items t) (far.fits t f) (far.keeps t f k));
     failures = failures ∙ far.failures;
+    full = λ t f. full_more had_full (found_full m (m.id old) conn far.items t) _ mid_full full (far.full t f) (found (handed (m.next (m.id old)) conn far.items t) (far.fits t f))
+        ∙ ap (λ (n : ℕ). min (had_full + n) (2 ^ 64 - 1)) (sym (found_more m (m.id old) conn far.items item t));
   }
 
   -- a fault is answered to the next one
-  pub refuses : (item : Item) (rest : List Item) (new : M) (fault : CoreFault) → behind ≡ item ∷ rest
+  pub refuses : (item : Item) (rest : List Item) (new : M) (full : ℕ) (fault : CoreFault) → behind ≡ item ∷ rest
       → (fault ≡ NoConnection → (new ≡ core) × ((t : List Entry) → m.fits core t → declines t (event.Item conn item) ≡ true))
       → (fault ≡ Failed → (new ≡ core) × (m.is_failed core ≡ true)) → (fault ≡ Memory → m.is_failed new ≡ true) → (fault ≡ Disk → m.is_failed new ≡ true)
       → (fault ≡ Disk → m.failures core < m.failures new) → ((fault ≡ Disk → ⊥) → m.failures new ≡ m.failures core)
       → ((t : List Entry) → m.fits core t → m.keeps core (m.book t) → m.leaves new (BookAt m t (event.Item conn item)))
-      → Refuses m conn before rest old new fault
-  refuses item rest new fault popped refused failed memory disk cause no_other leaves = record {
+      → full ≡ mid_full → Refuses m conn before rest old new had_full full fault
+  refuses item rest new full fault popped refused failed memory disk cause no_other leaves same_full = record {
     items = far.items;
     item = item;
     queue = far.queue ∙ ap (λ l. far.items ++ l) popped;
@@ -133,6 +154,7 @@ module _ {M : Type 0} (m : Meaning M) (conn : ConnectionId) (before behind : Lis
     cause = λ is. let less = cause is in omega (arith, less, far.failures);
     no_other = λ isnt. no_other isnt ∙ far.failures;
     leaves = λ t f k. leaves (handed (m.next (m.id old)) conn far.items t) (far.fits t f) (far.keeps t f k);
+    full = λ t f. same_full ∙ far.full t f;
   }
 
   gone_after : (n : ℕ) → n ≡ turn → behind ≡ drop n before
@@ -169,6 +191,9 @@ module _ {M : Type 0} (m : Meaning M) (conn : ConnectionId) (before behind : Lis
 
   pub all_fit : (t : List Entry) → m.fits old t → m.fits core (handed (m.next (m.id old)) conn (gone before behind) t)
   all_fit t f = subst (λ (is : List Item). m.fits core (handed (m.next (m.id old)) conn is t)) items_gone (far.fits t f)
+
+  pub all_found : (t : List Entry) → m.fits old t → mid_full ≡ min (had_full + found_full m (m.id old) conn (gone before behind) t) (2 ^ 64 - 1)
+  all_found t f = subst (λ (is : List Item). mid_full ≡ min (had_full + found_full m (m.id old) conn is t) (2 ^ 64 - 1)) items_gone (far.full t f)
 
   pub few_batches : (t : List Entry) → m.fits old t → m.batches core ≤ m.batches old + 8
   few_batches t f = omega (arith, far.batches t f)

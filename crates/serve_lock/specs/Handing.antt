@@ -1,5 +1,5 @@
 -- Items of a connection that are handed in from the front of a queue, one after another, while the lock is held once.
-use Rattle.std.specs.Prelude.{◌≡◌, ◌≢◌, ◌<◌, ◌≤◌, ◌⊎◌, ℕ, ◌+◌, ◌-◌, true, List, [], ◌∷◌, ◌++◌, length, take}
+use Rattle.std.specs.Prelude.{◌≡◌, ◌≢◌, ◌<◌, ◌≤◌, ◌⊎◌, ℕ, ◌+◌, ◌-◌, ◌^◌, Bool, true, if◌then◌else◌, min, List, [], ◌∷◌, ◌++◌, length, take}
 use Rattle.amqp_model.specs.declared.item.Item.{Item}
 use Rattle.router_trace.specs.declared.event.ConnectionId.{ConnectionId}
 use Rattle.router_trace.specs.declared.event.Event.TheVariants as event
@@ -30,10 +30,20 @@ handed next conn (item ∷ items) t = handed next conn items (next t (step_of (e
 abbrev pub after_items : {M : Type 0} → Meaning M → M → ConnectionId → List Item → Trace → Trace
 after_items m router conn items t = handed (m.next (m.id router)) conn items t
 
+-- the number of events that found the journal full, after one more event that did, or didn't; it rises no further than 64 bits reach
+abbrev pub with_full : Bool → ℕ → ℕ
+with_full found full = min (full + (if found then 1 else 0)) (2 ^ 64 - 1)
+
+-- how many items of a connection find the journal full, where each is handled as an event of its own
+abbrev pub found_full : {M : Type 0} → Meaning M → List ℕ → ConnectionId → List Item → Trace → ℕ
+found_full m id conn [] t = 0
+found_full m id conn (item ∷ items) t =
+    (if m.finds_full t (event.Item conn item) then 1 else 0) + found_full m id conn items (m.next id t (step_of (event.Item conn item)))
+
 -- A router answered this fault to the last item that left a queue of a connection, after it handled those before it, in
 -- their order: what that item did, by the fault, and what a crash leaves.
 pub record Refuses {M : Type 0} (m : Meaning M) (conn : ConnectionId) (before behind : List Item) (old new : M)
-    (fault : CoreFault) : Type 0 where
+    (had_full has_full : ℕ) (fault : CoreFault) : Type 0 where
   -- the items that were handled, and the one that wasn't
   pub items : List Item
   pub item : Item
@@ -53,3 +63,5 @@ pub record Refuses {M : Type 0} (m : Meaning M) (conn : ConnectionId) (before be
   -- a crash leaves the book after the others, or that book after the acts of this one
   pub leaves : (t : Trace) → m.fits old t → m.keeps old (m.book t)
       → m.leaves new (BookAt m (after_items m old conn items t) (event.Item conn item))
+  -- the others are counted that found the journal full
+  pub full : (t : Trace) → m.fits old t → has_full ≡ min (had_full + found_full m (m.id old) conn items t) (2 ^ 64 - 1)

@@ -1,5 +1,5 @@
 //! The data under the lock.
-ghost use Rattle.std.specs.Prelude.{◌≡◌, ◌≤◌, ◌<◌, ◌+◌, ◌∷◌, ◌%◌, ◌==◌, ◌⊎◌, ◌&&◌, ◌||◌, not, ℕ, if◌then◌else◌};
+ghost use Rattle.std.specs.Prelude.{◌≡◌, ◌≤◌, ◌<◌, ◌+◌, ◌-◌, ◌^◌, ◌∷◌, ◌%◌, ◌==◌, ◌⊎◌, ◌&&◌, ◌||◌, not, ℕ, if◌then◌else◌, min};
 ghost use Rattle.std.specs.Prelude.{[], None, true, false, is_some, length, OnOk, OnErr, IfOk, IfErr, IfSome, IsErrOf};
 ghost use Rattle.router_trace.specs.Trace.{Trace, Took, step_of};
 ghost use Rattle.router_trace.specs.Connection.{conn as known, is_ready, is_live};
@@ -8,7 +8,7 @@ ghost use Rattle.core_machine.specs.Meaning.{BookAt, IsBatchOf};
 ghost use Rattle.core_machine.specs.Turns.{declines};
 ghost use Rattle.core_machine.specs.declared.fault.CoreFault.TheVariants.{Disk as DiskFailed, Memory, Failed, NoConnection};
 ghost use Rattle.serve_lock.specs.Adding.{sums, Handled};
-ghost use Rattle.serve_lock.specs.Handing.{Enough, Refuses, Stopped, gone, handed};
+ghost use Rattle.serve_lock.specs.Handing.{Enough, Refuses, Stopped, found_full, gone, handed, with_full};
 ghost use Rattle.core_machine.specs.History.{HasHistory, IsFirstBatch, IsGiven};
 ghost use Rattle.core_machine.specs.Opened.{IsOpened};
 ghost use Rattle.serve_lock.specs.Ringing.{is_set};
@@ -72,7 +72,10 @@ pub struct Locked<M: Machine, L: Log, G: Ledgers> {
     log: L,
     // the number of the journal's last batch when the router was opened
     opened: u64,
+    // how many events found the journal full since then, up to 2^64 - 1
+    full: u64,
     sleepers: Sleepers,
+    ghost bounded: { full < 2 ^ 64 },
     ghost counted: { M.meaning.counts router ≡ totals },
     ghost history: { ∥ HasHistory M.meaning G.opening router ∥₁ },
     ghost first: { ∥ IsFirstBatch M.meaning G.opening opened ∥₁ },
@@ -83,6 +86,7 @@ impl<M: Machine, L: Log, G: Ledgers> Locked<M, L, G> {
     pub fn new(router: M, totals: Totals<G>, log: L) -> Locked<M, L, G>
         requires opened { IsOpened M.meaning G.opening router }
         requires totals { totals ≡ uncounted }
+        ensures full { result.full ≡ 0 }
     {
         let opened = router.batch();
         Locked {
@@ -90,13 +94,15 @@ impl<M: Machine, L: Log, G: Ledgers> Locked<M, L, G> {
             totals,
             log,
             opened,
+            full: 0,
             sleepers: Sleepers::none(),
         }
     }
 
     /// A seat that has counted nothing; none if no part of a ledger is left.
     pub fn seat(&mut self) -> Option<Seat<G>>
-        ensures { IfSome result (λ seat. seat ≡ uncounted) }
+        ensures uncounted { IfSome result (λ seat. seat ≡ uncounted) }
+        ensures full { self.new.full ≡ self.old.full }
     {
         self.totals.seat()
     }
@@ -119,6 +125,10 @@ impl<M: Machine, L: Log, G: Ledgers> Locked<M, L, G> {
             → M.meaning.keeps self.old.router (M.meaning.book t)
             → M.meaning.leaves self.new.router (BookAt M.meaning t event) }
 
+        // One more event is counted as one that found the journal full exactly if it did.
+        ensures full { OnOk result ((t : Trace) → M.meaning.fits self.old.router t → self.new.full ≡ with_full (M.meaning.finds_full t event) self.old.full) }
+        ensures not_full { OnErr result (self.new.full ≡ self.old.full) }
+
         // Which fault occurs, and what it leaves.
         ensures refused { IfErr result (λ f. f ≡ NoConnection → (self.new.router ≡ self.old.router) × ((t : Trace) → M.meaning.fits self.old.router t → declines t event ≡ true)) }
         ensures failed { IfErr result (λ f. f ≡ Failed → (self.new.router ≡ self.old.router) × (M.meaning.is_failed self.old.router ≡ true)) }
@@ -130,6 +140,7 @@ impl<M: Machine, L: Log, G: Ledgers> Locked<M, L, G> {
         let kind = Kind::of(&event);
         let before = self.router.batch();
         let done = self.router.handle(event)?;
+        self.full = full_after(self.full, done.full);
         drop(done);
         self.totals.add(seat, kind, self.router.counts());
         Ok(self.router.batch() != before)
@@ -155,9 +166,13 @@ impl<M: Machine, L: Log, G: Ledgers> Locked<M, L, G> {
         ensures wrote { IfOk result (λ wrote. (t : Trace) → M.meaning.fits self.old.router t → (wrote ≡ true → M.meaning.batches self.old.router < M.meaning.batches self.new.router) × (wrote ≡ false → M.meaning.batches self.new.router ≡ M.meaning.batches self.old.router)) }
         ensures writes { OnOk result ((t : Trace) → M.meaning.fits self.old.router t → M.meaning.batches self.new.router ≤ M.meaning.batches self.old.router + 8) }
 
+        // So many more events are counted that found the journal full.
+        ensures full { OnOk result ((t : Trace) → M.meaning.fits self.old.router t
+            → self.new.full ≡ min (self.old.full + found_full M.meaning (M.meaning.id self.old.router) conn (gone items.old.items items.new.items) t) (2 ^ 64 - 1)) }
+
         // Which fault occurs, to the last item that left the queue, and what it leaves.
         ensures fault { IfErr result (λ f.
-            Refuses M.meaning conn items.old.items items.new.items self.old.router self.new.router f) }
+            Refuses M.meaning conn items.old.items items.new.items self.old.router self.new.router self.old.full self.new.full f) }
     {
         let mut writes = WRITES;
         for _turn in 0..MOST {
@@ -182,6 +197,7 @@ impl<M: Machine, L: Log, G: Ledgers> Locked<M, L, G> {
         ensures given { IfOk result (λ b. ∥ IsGiven M.meaning G.opening conn b ∥₁) }
         ensures counted { OnOk result (seat.new ≡ with_batch seat.old) }
         ensures uncounted { OnErr result (seat.new ≡ seat.old) }
+        ensures full { self.new.full ≡ self.old.full }
 
         // Which fault occurs, and what it leaves.
         ensures refused { IfErr result (λ f. f ≡ NoConnection → (self.new.router ≡ self.old.router) × ((t : Trace) → M.meaning.fits self.old.router t → known t conn.0 ≡ None)) }
@@ -208,10 +224,18 @@ impl<M: Machine, L: Log, G: Ledgers> Locked<M, L, G> {
         self.router.is_failed()
     }
 
+    /// How many events found the journal full since the router was opened, up to 2^64 - 1: each released a delivery, or refused a durable link.
+    pub fn full_events(&self) -> u64
+        ensures { result ≡ self.now.full }
+    {
+        self.full
+    }
+
     /// Whether the writer of a connection has to wait: the connection is known and not ready, and the router works. If so, its bell is noted as
     /// one at which a writer sleeps.
     pub fn sleeps(&mut self, conn: ConnectionId) -> bool
         ensures router { self.new.router ≡ self.old.router }
+        ensures full { self.new.full ≡ self.old.full }
         ensures waits { (t : Trace) → M.meaning.fits self.old.router t → result ≡ not (M.meaning.is_failed self.old.router || is_ready (known t conn.0) || not (is_some (known t conn.0))) }
         ensures noted { (b : ℕ) → is_set self.new.sleepers.noted.words b ≡ ((result && (conn.0 % 256 == b)) || is_set self.old.sleepers.noted.words b) }
     {
@@ -222,6 +246,7 @@ impl<M: Machine, L: Log, G: Ledgers> Locked<M, L, G> {
     /// them if the router failed. No bell that was noted is forgotten: it is given, or is still noted.
     pub fn wake(&mut self, lost: Option<ConnectionId>) -> Bells
         ensures router { self.new.router ≡ self.old.router }
+        ensures full { self.new.full ≡ self.old.full }
         ensures ready { (t : Trace) → M.meaning.fits self.old.router t → (c : ℕ) → is_ready (known t c) ≡ true
             → is_set self.old.sleepers.noted.words (c % 256) ≡ true → is_set result.words (c % 256) ≡ true }
         ensures lost { IfSome lost (λ conn. is_set self.old.sleepers.noted.words (conn.0 % 256) ≡ true → is_set result.words (conn.0 % 256) ≡ true) }
@@ -246,6 +271,7 @@ impl<M: Machine, L: Log, G: Ledgers> Locked<M, L, G> {
             totals,
             log,
             opened,
+            full: _,
             sleepers: _,
         } = self;
         let Returned { all, counts } = totals.add_up(seats);
@@ -258,6 +284,13 @@ impl<M: Machine, L: Log, G: Ledgers> Locked<M, L, G> {
             log,
         }
     }
+}
+
+/// The number of events that found the journal full, after one that did, or didn't.
+fn full_after(full: u64, found: bool) -> u64
+    ensures { result ≡ with_full found full }
+{
+    if found { full.saturating_add(1) } else { full }
 }
 
 /// Whether the lock is to be released, where so many more items may write to the journal, and so many threads wait for the lock.

@@ -180,6 +180,11 @@ impl<M: Machine, L: Log, G: Ledgers> Shared<M, L, G> {
         self.lock(rt).is_failed()
     }
 
+    /// How many events found the journal full since the router was opened, up to 2^64 - 1: each released a delivery, or refused a durable link.
+    pub fn full_events<R: Wait>(&self, rt: &R) -> u64 {
+        self.lock(rt).full_events()
+    }
+
     /// Adds up the counts of the seats that come back, beside the router's: if all seats came back, the sums equal these, number by number.
     pub fn close(self, seats: Vec<Seat<G>>, receipts: Vec<Receipt>) -> Closed<M, L>
         requires cut { (G.Ups.seats ≡ G.Ups.parts) × (G.Items.seats ≡ G.Items.parts) × (G.Downs.seats ≡ G.Downs.parts) × (G.Ticks.seats ≡ G.Ticks.parts) × (G.Starts.seats ≡ G.Starts.parts) × (G.Batches.seats ≡ G.Batches.parts) }

@@ -12,6 +12,7 @@ mod socket;
 mod spoken;
 mod state;
 mod streams;
+mod telling;
 mod watch;
 
 pub use lines::{Lines, write_lines};

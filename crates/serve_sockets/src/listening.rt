@@ -2,6 +2,7 @@
 use crate::connection::connection;
 use crate::program::Program;
 use crate::state::{ProgramState, THREADS, Taken};
+use crate::telling::LastTold;
 use route_table::Listener;
 use serve_streams::Service;
 use std::io::{Error, ErrorKind};
@@ -185,7 +186,8 @@ fn tick<S: Service, R: Wait + Clock>(
     program.router.put_back(rt, seat);
 }
 
-/// Submits a tick every half second, until serving is done. Those that are at their doors for too long lose their sockets.
+/// Submits a tick every half second, until serving is done, and tells if the journal is full. Those that are at their doors for too long lose their
+/// sockets.
 fn tell_time<S: Service, R: Wait + Clock>(
     rt: &R,
     program: &Program<S>,
@@ -196,6 +198,7 @@ fn tell_time<S: Service, R: Wait + Clock>(
     let Ok(start) = Instant::now(rt) else {
         return;
     };
+    let mut told = LastTold::nothing();
     for _turn in rt.forever() {
         if is_done(rt, done, rung) {
             return;
@@ -206,7 +209,31 @@ fn tell_time<S: Service, R: Wait + Clock>(
             if let Err(fault) = program.router.tick(rt, seat, moment) {
                 program.state.failed(rt, fault);
             }
+            tell_full(rt, program, &mut told, moment);
         }
+    }
+}
+
+/// Tells how many events found the journal full since that was last told, if a line is due at this moment. Each released a delivery, or refused a
+/// durable link.
+fn tell_full<S: Service, R: Wait + Clock>(
+    rt: &R,
+    program: &Program<S>,
+    told: &mut LastTold,
+    moment: u64,
+) {
+    if program.state.lines.is_quiet() {
+        return;
+    }
+    let events = program.router.full_events(rt);
+    let Some(count) = told.due(events, moment) else {
+        return;
+    };
+    *told = LastTold::at(events, moment);
+    if let Ok(line) = format!(in program.state.alloc;
+        "the journal is full: deliveries released or durable links refused: {count}"
+    ) {
+        program.state.lines.say(rt, &line);
     }
 }
 

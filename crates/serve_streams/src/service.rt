@@ -34,6 +34,9 @@ pub trait Service: Send + Sync {
     /// The router's fault.
     fn tick<R: Wait>(&self, rt: &R, seat: &mut Self::Seat, moment: u64) -> Result<(), CoreFault>;
 
+    /// How many events found the router's journal full since it was opened, up to 2^64 - 1: each released a delivery, or refused a durable link.
+    fn full_events<R: Wait>(&self, rt: &R) -> u64;
+
     /// A connection comes up, with the number after that of the last one.
     ///
     /// # Errors

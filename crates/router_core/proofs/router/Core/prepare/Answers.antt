@@ -10,7 +10,7 @@ use Rattle.router_reply.specs.Acts.{event_answer, booked, answer_to_event}
 use Rattle.router_core.specs.Handling.{TakenIn, kept_book, state_of}
 use Rattle.router_core.proofs.Booking.{booked_keeps, taken_booked, phase_booked}
 use Rattle.router_core.proofs.Books.{not_refused, answer_is}
-use Rattle.router_core.proofs.Preparing.{taken_in, prepared}
+use Rattle.router_core.proofs.Preparing.{taken_in, prepared, found_full}
 use Rattle.router_core.proofs.router.Core.prepare.Goals as goal
 
 pub returns-clause-ready : goal.returns-clause-ready
@@ -51,3 +51,20 @@ returns-clause-acts g c = IfOk-weaker c.admit.result _ _
     (subst (λ (a : Answer). TakenIn t e a) (sym answer) (taken_in _ (kept_book core) t e)) in
     prepared core t e _ _ _ _ f (c.in_ok-full.ensures.full t planned phase) answer (c.in_ok-full.ensures.acts t planned phase) told)
     c.admit.ensures.acts
+
+pub returns-clause-full : goal.returns-clause-full
+returns-clause-full g c = IfOk-weaker c.admit.result _ _
+    (λ p is t f taken.
+    let core = c.args.self.now in
+    let e = c.args.event.now in
+    let at = c.in_ok-ready.ensures t f.tables in
+    let phase : c.phase_found-phase.result ≡ phase_found t e = c.phase_found-phase.ensures t (c.deref.ensures.value ∙ at.are_due) taken.phase in
+    let planned : TablesAt c.turn.new.self t e c.deref-2.result.now = subst (λ (cs : List ℕ). TablesAt c.turn.new.self t e cs) (sym c.deref-2.ensures.value) at in
+    let answer = c.in_ok-full.ensures.answer t planned phase in
+    let plain : List Entry = Booked [] (due t e) ∷ t in
+    let behind = c.in_ok-ready.ensures plain (booked_fits (state_of core) [] (due t e) t f.tables) in
+    let there : TablesAt c.turn.new.self plain e c.deref-3.result.now = subst (λ (cs : List ℕ). TablesAt c.turn.new.self plain e cs) (sym c.deref-3.ensures.value) behind in
+    let told = is t (c.in-Ok.ensures.fits plain there (sym (c.deref-3.ensures.value ∙ at.are_due)) (not_refused t e taken.taken)) (c.deref-4.ensures.value ∙ at.are_due) (c.in-Ok.ensures.heard t _ at phase)
+    (subst (λ (a : Answer). TakenIn t e a) (sym answer) (taken_in _ (kept_book core) t e)) in
+    found_full core t e _ _ _ _ f (c.in_ok-full.ensures.full t planned phase) answer (c.in_ok-full.ensures.acts t planned phase) told)
+    c.admit.ensures.full
