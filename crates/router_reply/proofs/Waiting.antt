@@ -1,4 +1,5 @@
--- What a consumer's link takes up again: its key is that before its attach too, and its rows are among those of its terminus.
+-- What a consumer's link takes up again: its key is that before its attach too, and its rows are among those of its
+-- terminus.
 use Rattle.std.proofs.Common.{◌≡◌, refl, ap, ℕ, Bool, true, false, ◌==◌, ◌&&◌, ◌||◌, List, [], ◌∷◌, Option, Some, None}
 use Rattle.std.specs.Prelude.{filter, if◌then◌else◌}
 use Rattle.amqp_model.specs.declared.perf.Attach.{Attach as AnAttach}

@@ -49,9 +49,9 @@ ends id (c ∷ cs) t = ends id cs (puts c (closing_of id (conn t c) ResourceLimi
 abbrev pub heard : List ℕ → Trace → Step → Trace
 heard id t s = ends id (due t s.event) (Did s ∷ t)
 
--- An attach that is taken: the older link with its key, if one is attached, is detached as stolen; then the answer is put, on the
--- lowest handle that is free by then, with the router's map if that has entries. If the answer is longer than the peer's frames, a detach that says so is put instead; it closes the
--- link unless the link is durable.
+-- An attach that is taken: the older link with its key, if one is attached, is detached as stolen; then the answer is
+-- put, on the lowest handle that is free by then, with the router's map if that has entries. If the answer is longer than
+-- the peer's frames, a detach that says so is put instead; it closes the link unless the link is durable.
 abbrev pub stolen_by : Option Attachment → List Put
 stolen_by None = []
 stolen_by (Some x) = record { conn = x.conn.0; item = detach_item x.channel x.handle false (Some Stolen) } ∷ []

@@ -133,8 +133,8 @@ fn make_way(
     Ok(state.free_handle(conn, own))
 }
 
-/// Answers an attach that is taken: detaches the older link with its key, and puts the answer, with the router's map, on the lowest handle that is
-/// free then.
+/// Answers an attach that is taken: detaches the older link with its key, and puts the answer, with the router's map, on
+/// the lowest handle that is free then.
 fn take_link(
     state: &mut State,
     id: &RouterId,
@@ -237,8 +237,8 @@ fn answer_perf(
     Ok(())
 }
 
-/// Puts the items of an answer to an item into outboxes, beyond the answer's own items, if the item is an attach; the answer to one that is taken has
-/// `ours` as the router's map.
+/// Puts the items of an answer to an item into outboxes, beyond the answer's own items, if the item is an attach; the
+/// answer to one that is taken has `ours` as the router's map.
 pub fn answer_item(
     state: &mut State,
     id: &RouterId,

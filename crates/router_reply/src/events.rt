@@ -140,8 +140,9 @@ fn own_row(
     }
 }
 
-/// Replies to an event that was handled (`hear`) with the answer that was planned, the row that its acts admit, and `ours`, the router's map in the answer to an
-/// attach (`told_map`): the closes of these connections, whose outboxes were full, then the event's own row.
+/// Replies to an event that was handled (`hear`) with the answer that was planned, the row that its acts admit, and `ours`,
+/// the router's map in the answer to an attach (`told_map`): the closes of these connections, whose outboxes were full,
+/// then the event's own row.
 ///
 /// # Errors
 ///

@@ -1,4 +1,5 @@
-//! What a consumer's durable link takes up again when it is attached: the undecided rows of its terminus (AMQP 1.0 part 2, section 2.6.13).
+//! What a consumer's durable link takes up again when it is attached: the undecided rows of its terminus (AMQP 1.0 part 2,
+//! section 2.6.13).
 ghost use Rattle.std.specs.Prelude.{◌≡◌, ◌++◌, ◌∷◌, [], List, map, filter, IfOk, OnOk};
 ghost use Rattle.book_model.specs.Book.{is_undecided, terminus_of};
 ghost use Rattle.router_trace.specs.Trace.{Bound, Entry, did};
@@ -183,8 +184,8 @@ fn resumption_with(
     }
 }
 
-/// What an event that was handled (`hear`) takes up again: if its item is the attach of a consumer's durable link, which this answer takes, the undecided
-/// rows of the link's terminus, by the book after the event's acts.
+/// What an event that was handled (`hear`) takes up again: if its item is the attach of a consumer's durable link, which
+/// this answer takes, the undecided rows of the link's terminus, by the book after the event's acts.
 ///
 /// # Errors
 ///
@@ -283,7 +284,8 @@ fn bind_if(
     }
 }
 
-/// Binds the rows that an attach takes up again to the consumer's link with their key, in order, if it is attached: after the reply to the attach.
+/// Binds the rows that an attach takes up again to the consumer's link with their key, in order, if it is attached. It is
+/// called after the reply to the attach.
 ///
 /// # Errors
 ///
