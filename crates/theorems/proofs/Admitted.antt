@@ -42,7 +42,7 @@ use Rattle.reply_transfers.specs.Transfers.{claimed_id, from_link, origin_of, la
 use Rattle.router_reply.specs.Admitting.{terminus_for, admitted_to, whole_admission, part_admission, taken_admission, unless_ends, event_admission, admits, row_in, without_acts}
 use Rattle.router_reply.specs.Deciding.{decided, forgotten, terminus_of_event}
 use Rattle.router_reply.specs.Replies.{row_found, ends, heard, bound_for, item_bound, bound_by}
-use Rattle.theorems.specs.Admitted.{IsFromTerminus, IsAdmitted, IsAdmittedUnder, RowIsAdmitted}
+use Rattle.theorems.specs.Admitted.{IsFromTerminus, IsAdmitted, IsAdmittedUnder}
 use Rattle.theorems.proofs.Arriving.{CameAt, came_whole, bound_on, bound_there}
 use Rattle.theorems.proofs.Transfers.{IsOn, IfTaken, transfer_taken}
 use Rattle.theorems.proofs.Made.{AllOfRows, settled_of_rows}
@@ -176,6 +176,7 @@ record BoundWhole (after : List Entry) (c own handle : ℕ) (d : Told) (row : Op
   chosen : consumer_of after (link after c own handle) ≡ Some x.consumer
   format : x.format ≡ unwrap_or d.format 0
   carried : x.payload ≡ payload
+  fresh : x.taken_up ≡ false
 
 whole_is_bound : (after : List Entry) (c own handle : ℕ) (d : Told) (row : Option RowNumber) (payload : List ℕ) (x : Binding) → whole_bound after c own handle d row payload ≡ Some x
     → BoundWhole after c own handle d row payload x
@@ -199,6 +200,7 @@ whole_is_bound after c own handle d row payload x is =
           chosen = f ∙ ap (λ (y : Binding). Some y.consumer) same;
           format = sym (ap (λ (y : Binding). y.format) same);
           carried = sym (ap (λ (y : Binding). y.payload) same);
+          fresh = sym (ap (λ (y : Binding). y.taken_up) same);
         }
 
 -- after the event that completed it
@@ -294,7 +296,7 @@ came_there t from _ p own handle d payload answer part = absurd (none_not_some p
 -- any message that is bound
 
 abbrev RowAt : List ℕ → List Entry → Event → Binding → Type 0
-RowAt id t e x = RowIsAdmitted (heard id (booked t e) (step_of e)) x
+RowAt id t e x = IsAdmittedUnder (heard id (booked t e) (step_of e)) x x.row
 
 whole_row : (id : List ℕ) (t : List Entry) (from : ConnectionId) (i : Item) (p : Conn) (own handle : ℕ) (d : Told) (payload : List ℕ) (x : Binding)
     → standing (found t (event.Item from i) from.0) ≡ Some p
@@ -363,13 +365,20 @@ item_elim id t from i x Q comes is = by (standing (found t e from.0)) refl is
         by_answer p (answer_of (booked t e) from.0 p i) stands (sym (answer_after (acts_of t e) (due t e) t (finds_full (journaled t) t e) (book_in t) from.0 p i)) is
 
 pub bound_row : (id : List ℕ) (t : List Entry) (e : Event) (x : Binding) → bound_by (booked t e) (heard id (booked t e) (step_of e)) e ≡ Some x
-    → RowIsAdmitted (heard id (booked t e) (step_of e)) x
+    → IsAdmittedUnder (heard id (booked t e) (step_of e)) x x.row
 bound_row id t (event.Item from i) x is =
     item_elim id t from i x (RowAt id t (event.Item from i) x)
     (λ p own handle d payload stands answer part is. whole_row id t from i p own handle d payload x stands answer part is x.row refl) is
 bound_row id t _ x is = absurd (none_not_some is)
 
--- its row is the one that the acts admit
+-- it isn't taken up again, and its row is the one that the acts admit
+pub bound_fresh : (id : List ℕ) (t : List Entry) (e : Event) (x : Binding) → bound_by (booked t e) (heard id (booked t e) (step_of e)) e ≡ Some x → x.taken_up ≡ false
+bound_fresh id t (event.Item from i) x is =
+    item_elim id t from i x (x.taken_up ≡ false)
+    (λ p own handle d payload stands answer part is.
+    (whole_is_bound (heard id (booked t (event.Item from i)) (step_of (event.Item from i))) from.0 own handle d (row_found (booked t (event.Item from i))) payload x is).fresh) is
+bound_fresh id t _ x is = absurd (none_not_some is)
+
 pub row_of_bound : (id : List ℕ) (t : List Entry) (e : Event) (x : Binding) → bound_by (booked t e) (heard id (booked t e) (step_of e)) e ≡ Some x → x.row ≡ row_in (acts_of t e)
 row_of_bound id t (event.Item from i) x is =
     item_elim id t from i x (x.row ≡ row_in (acts_of t (event.Item from i)))

@@ -30,8 +30,9 @@ use Rattle.state_messages.specs.Messages.{grants_due, with_bound}
 use Rattle.reply_rows.specs.declared.answer.Answer.{Answer}
 use Rattle.reply_rows.specs.declared.answer.Answer.TheVariants.{Attach, Refuse, Taken, Settle}
 use Rattle.reply_rows.specs.Rows.{said}
-use Rattle.router_reply.specs.Replies.{closing_of, ends, heard, refused, bound_for, item_put, after_answer, item_bound, item_row, bound_by, own_row, replied_after, replied}
+use Rattle.router_reply.specs.Replies.{closing_of, ends, heard, refused, map_for, bound_for, item_put, after_answer, item_bound, item_row, bound_by, own_row, replied_after, replied}
 use Rattle.router_reply.specs.Acts.{found_journal, full_at, answer_of, booked}
+use Rattle.router_reply.specs.Resuming.{resumed}
 use Rattle.router_core.specs.Replies.{answered, handled}
 use Rattle.core_machine.specs.Moves.{took_one}
 use Rattle.router_core.specs.Moves.{Goes, IsTrace}
@@ -39,9 +40,10 @@ use Rattle.core_machine.specs.Moves.{Move, handles, takes}
 use Rattle.router_core.proofs.Booking.{booked_keeps}
 use Rattle.router_core.proofs.Following.{Steps, passed_on, passed_keeps}
 use Rattle.theorems.specs.Each.{EachBound}
-use Rattle.theorems.specs.Came.{Handled, just_handled, BindsMessage, CameAndWasBound}
+use Rattle.theorems.specs.Came.{Handled, just_handled, BindsOrTakesUp, CameAndWasBound}
 use Rattle.theorems.proofs.Bindings.{of_messages, each_bound}
-use Rattle.theorems.proofs.Sound.{Sound, sound_start, did_sound, took_sound, batch_sound, goes_sound, quiet_sound, QuietPut, quiet_both, quiet_to, still_handled}
+use Rattle.theorems.proofs.Resumed.{resumed_takes, replied_book}
+use Rattle.theorems.proofs.Sound.{Sound, sound_start, did_sound, took_sound, batch_sound, taken_sound, goes_sound, quiet_sound, QuietPut, quiet_both, quiet_to, still_handled}
 use Rattle.theorems.proofs.Quiet.{closing_of_quiet, said_quiet, taken_quiet, refused_quiet, settled_quiet, beats_quiet, windows_quiet, drains_quiet, grants_quiet}
 use Rattle.theorems.proofs.Transfers.{IfTaken, transfer_taken}
 use Rattle.theorems.proofs.Arriving.{transfer_sound}
@@ -106,7 +108,7 @@ item_sound id t after s from p i sound came just = by i came
     other i none a quiet = quiet_answer id t after from.0 p i a sound (binds_none t after from.0 i none a) quiet
 
     attach_put : (sasl : Bool) (channel : ℕ) (payload : List ℕ) (x : AnAttach) (a : Answer) → QuietPut (item_put id t after from.0 p (item.Frame sasl channel (perf.Attach x) payload) a)
-    attach_put sasl channel payload x (Attach own) = taken_quiet after from.0 own x
+    attach_put sasl channel payload x (Attach own) = taken_quiet after from.0 own (map_for t from.0 x (Attach own)) x
     attach_put sasl channel payload x (Refuse own handle e) =
         quiet_to from.0 (refused (largest_frame after from.0) own handle e x) (refused_quiet (largest_frame after from.0) own handle e x)
     attach_put sasl channel payload x a = nothing_more id p from.0 a
@@ -158,22 +160,24 @@ answered_sound id t s sound =
     in let behind : Sound u = ends_sound id (due t s.event) (Did s ∷ t) (did_sound s t sound)
     in let just : just_handled u ≡ Some (record { step = s; found = t }) = ends_handled id (due t s.event) (Did s ∷ t) (Some (record { step = s; found = t })) refl
     in let rows : Sound (replied id t s) = row_sound id t u s s.event behind refl just
-    in let all : Sound (passed_on (replied id t s)) = passed_keeps Sound passed_sound (replied id t s) rows
-    in quiet_sound (windows (passed_on (replied id t s))) (passed_on (replied id t s)) (windows_quiet (passed_on (replied id t s))) all
+    in let bound : List Entry = resumed t s.event (replied id t s)
+    in let resumes : Sound bound = resumed_takes Sound taken_sound t s.event (replied id t s) (replied_book id t s) rows
+    in let all : Sound (passed_on bound) = passed_keeps Sound passed_sound bound resumes
+    in quiet_sound (windows (passed_on bound)) (passed_on bound) (windows_quiet (passed_on bound)) all
 
--- what an event binds is a message that just came
+-- what an event binds before that is a message that just came
 
 each_goes : (P : List Entry → Binding → Type 0) (ps : List Put) (t : List Entry) → EachBound P (goes ps t) → EachBound P t
 each_goes P [] t each = each
 each_goes P (p ∷ ps) t each = each_goes P ps (Out p.conn p.item ∷ t) each
 
-pub event_binds : (id : List ℕ) (t : List Entry) (s : Step) (b : Binding) → Sound t → bound_by t (heard id t s) s.event ≡ Some b → BindsMessage (heard id t s) b
+pub event_binds : (id : List ℕ) (t : List Entry) (s : Step) (b : Binding) → Sound t → bound_by t (heard id t s) s.event ≡ Some b → BindsOrTakesUp (heard id t s) b
 event_binds id t s b sound is =
     let u : List Entry = heard id t s
     in let behind : Sound u = ends_sound id (due t s.event) (Did s ∷ t) (did_sound s t sound)
     in let just : just_handled u ≡ Some (record { step = s; found = t }) = ends_handled id (due t s.event) (Did s ∷ t) (Some (record { step = s; found = t })) refl
     in let rows : Sound (replied id t s) = row_sound id t u s s.event behind refl just
-    in (subst (λ (v : Option Binding). EachBound BindsMessage (with_bound v u)) is (each_goes BindsMessage (own_row id t u s.event) (with_bound (bound_by t u s.event) u) rows.binds)).0
+    in (subst (λ (v : Option Binding). EachBound BindsOrTakesUp (with_bound v u)) is (each_goes BindsOrTakesUp (own_row id t u s.event) (with_bound (bound_by t u s.event) u) rows.binds)).0
 
 -- moves
 
@@ -189,7 +193,7 @@ pub trace_sound : (id : List ℕ) (g : Beginning) (u : List Entry) → IsTrace i
 trace_sound id g u trace = moves_sound id trace.0 (beginning g) u (sound_start g) trace.1
 
 -- each delivery is of a message that was received
-pub all_came : (u : List Entry) → EachBound BindsMessage u → (n : ℕ) (d : Delivery) → delivery u n ≡ Some d → CameAndWasBound u n d
+pub all_came : (u : List Entry) → EachBound BindsOrTakesUp u → (n : ℕ) (d : Delivery) → delivery u n ≡ Some d → CameAndWasBound u n d
 all_came u each n d there =
     let message = of_messages u n d there
-    in record { message = message; binds = each_bound BindsMessage message.later message.before message.binding (subst (λ (t : List Entry). EachBound BindsMessage t) message.trace each) }
+    in record { message = message; binds = each_bound BindsOrTakesUp message.later message.before message.binding (subst (λ (t : List Entry). EachBound BindsOrTakesUp t) message.trace each) }

@@ -1,5 +1,5 @@
 -- What the answer to an item is put to, and the message that an event binds.
-use Rattle.std.proofs.Common.{◌≡◌, ◌∙◌, sym, ap, refl, subst, ℕ, ◌+◌, ◌<◌, Bool, true, false, List, [], ◌∷◌, ◌++◌, arith}
+use Rattle.std.proofs.Common.{◌≡◌, ◌∙◌, sym, ap, refl, subst, ℕ, ◌+◌, ◌<◌, Bool, true, false, not, ◌&&◌, List, [], ◌∷◌, ◌++◌, arith}
 use Rattle.std.specs.Prelude.{◌==◌, nat_lt, Option, Some, None, Result, Ok, Err, is_some, is_none, option_map, if◌then◌else◌}
 use Rattle.std.proofs.lemmas.Bool.{eq-eqb}
 use Rattle.amqp_model.specs.declared.perf.Attach.{Attach as AnAttach}
@@ -54,8 +54,9 @@ use Rattle.router_reply.specs.Admitting.{terminus_for}
 use Rattle.router_reply.specs.Replies.{closing_of, ends, heard, bound_by}
 use Rattle.state_connections.proofs.Lists.{by_test}
 use Rattle.router_core.proofs.Replied.{FoundLive, found_live}
+use Rattle.theorems.specs.Came.{BindsAs}
 use Rattle.theorems.specs.Admitted.{IsFromTerminus, IsAdmitted, IsAdmittedUnder}
-use Rattle.theorems.proofs.Admitted.{bound_row}
+use Rattle.theorems.proofs.Admitted.{bound_row, bound_fresh}
 use Rattle.theorems.proofs.AllSound.{event_binds}
 use Rattle.theorems.proofs.Attaching.{AttachAt}
 use Rattle.theorems.proofs.Facts.{FromTerminus, Agrees, RowFact}
@@ -304,7 +305,7 @@ row_fact u b r adm ordered = record {
     now : book_in u ≡ effect before (Admit x)
     now = (since u adm.came.handled 0 adm.came.just).book ∙ ap book_in adm.acts ∙ one_effect before (Admit x)
 
-    unsettled : (o : Option Origin) → IsFromTerminus o u before x.producer → is_none o ≡ false
+    unsettled : (o : Option Origin) → IsFromTerminus o u before x.producer → (is_none o && not b.taken_up) ≡ false
     unsettled None is = absurd is
     unsettled (Some p) is = refl
 
@@ -337,6 +338,6 @@ may_bind id t s sound ordered = by (bound_by (booked t s.event) u s.event) refl
     by : (v : Option Binding) → bound_by (booked t s.event) u s.event ≡ v → MayBind u v
     by None is = tt
     by (Some b) is = (
-      event_binds id (booked t s.event) s b sound is,
+      subst (λ (up : Bool). BindsAs up u b) (bound_fresh id t s.event b is) (event_binds id (booked t s.event) s b sound is),
       λ r named. row_fact u b r (subst (λ (o : Option RowNumber). IsAdmittedUnder u b o) named (bound_row id t s.event b is)) ordered,
     )

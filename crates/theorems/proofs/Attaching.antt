@@ -5,6 +5,7 @@ use Rattle.std.proofs.lemmas.Bool.{eqb-true, eq-eqb}
 use Rattle.amqp_model.specs.declared.perf.Attach.{Attach as AnAttach}
 use Rattle.amqp_model.specs.declared.perf.Role.{Role}
 use Rattle.amqp_model.specs.declared.perf.Role.TheVariants.{Sender, Receiver}
+use Rattle.amqp_model.specs.declared.state.UnsettledDelivery.{UnsettledDelivery}
 use Rattle.amqp_model.specs.declared.terminus.SourceTerminus.{SourceTerminus}
 use Rattle.amqp_model.specs.declared.terminus.TargetTerminus.{TargetTerminus}
 use Rattle.amqp_model.specs.declared.item.Item.{Item}
@@ -27,10 +28,11 @@ use Rattle.state_deliveries.specs.Stepping.{is_gone, changed}
 use Rattle.reply_rows.specs.Booking.{wanted_key}
 use Rattle.router_reply.specs.Acts.{book_in}
 use Rattle.router_reply.specs.Deciding.{stolen_from}
-use Rattle.router_reply.specs.Replies.{stolen_by, attach_answer, taken_after, taken, refused}
+use Rattle.router_reply.specs.Replies.{stolen_by, with_map, attach_answer, taken_after, taken, refused}
 use Rattle.state_connections.proofs.Lists.{by_test}
 use Rattle.theorems.proofs.Changing.{Alike, leaves_changed, alike_ends}
 use Rattle.theorems.proofs.Facts.{RowFact, fact_moved}
+use Rattle.theorems.proofs.Keeping.{mapped_key, mapped_handle}
 use Rattle.theorems.proofs.Keeps.{Kept, quiet_kept, next_kept}
 use Rattle.theorems.proofs.Standing.{Standing, WasLink}
 use Rattle.theorems.proofs.Tests.{some_same, none_not_some}
@@ -172,21 +174,24 @@ never : (b : Bool) → (b && false) ≡ false
 never true = refl
 never false = refl
 
-put_answer : (w : Trace) (c own largest : ℕ) (a : AnAttach) (k : LinkKey) → ((h : ℕ) → key_at w c (answer_to a h) ≡ k) → holder w k ≡ None → is_some (asked w c) ≡ true → Kept w []
-    → Kept (goes (each_to c (attach_answer largest own (free_handle w c own) a)) w) []
-put_answer w c own largest a k keyed none came was = by (free_handle w c own) refl
+put_answer : (w : Trace) (c own largest : ℕ) (ours : List UnsettledDelivery) (a : AnAttach) (k : LinkKey) → ((h : ℕ) → key_at w c (answer_to a h) ≡ k) → holder w k ≡ None → is_some (asked w c) ≡ true → Kept w []
+    → Kept (goes (each_to c (attach_answer largest own (free_handle w c own) ours a)) w) []
+put_answer w c own largest ours a k keyed none came was = by (free_handle w c own) refl
   where
-    put : (h : ℕ) → answered_handle w c own h ≡ None → (b : Bool)
-        → Kept (goes (each_to c (if b then attach_item own (answer_to a h) ∷ [] else detach_item own h (not (is_durable (answer_to a h).role (answer_to a h))) (Some FrameSizeTooSmall) ∷ [])) w) []
-    put h free true =
-        quiet_kept c (attach_item own (answer_to a h)) w
-        (subst (λ (j : ℕ). answered_handle w c own j ≡ None) (sym (handle_is a h)) free, came, λ taken. ap (holder w) (keyed h) ∙ none)
-        refl (λ n d there undecided. never (d.link.conn.0 == c)) was
-    put h free false = detached_kept w c own h (not (is_durable (answer_to a h).role (answer_to a h))) (Some FrameSizeTooSmall) (nothing_there w was.standing c own h free) was
+    answer : ℕ → AnAttach
+    answer h = with_map ours (answer_to a h)
 
-    by : (v : Option ℕ) → free_handle w c own ≡ v → Kept (goes (each_to c (attach_answer largest own v a)) w) []
+    put : (h : ℕ) → answered_handle w c own h ≡ None → (b : Bool)
+        → Kept (goes (each_to c (if b then attach_item own (answer h) ∷ [] else detach_item own h (not (is_durable (answer h).role (answer h))) (Some FrameSizeTooSmall) ∷ [])) w) []
+    put h free true =
+        quiet_kept c (attach_item own (answer h)) w
+        (subst (λ (j : ℕ). answered_handle w c own j ≡ None) (sym (mapped_handle ours (answer_to a h) ∙ handle_is a h)) free, came, λ taken. ap (holder w) (mapped_key ours w c (answer_to a h) ∙ keyed h) ∙ none)
+        refl (λ n d there undecided. never (d.link.conn.0 == c)) was
+    put h free false = detached_kept w c own h (not (is_durable (answer h).role (answer h))) (Some FrameSizeTooSmall) (nothing_there w was.standing c own h free) was
+
+    by : (v : Option ℕ) → free_handle w c own ≡ v → Kept (goes (each_to c (attach_answer largest own v ours a)) w) []
     by None is = was
-    by (Some h) is = put h (free_answered w c own h is) (fits largest (attach_item own (answer_to a h)))
+    by (Some h) is = put h (free_answered w c own h is) (fits largest (attach_item own (answer h)))
 
 -- the link that held the key
 
@@ -206,8 +211,9 @@ numbered_link n v l is number = subst (λ (w : Option Link). has_number n w ≡ 
 detached_none : (u : Trace) (x : Attachment) (closed : Bool) (e : Option Condition) → link (Out x.conn.0 (detach_item x.channel x.handle closed e) ∷ u) x.conn.0 x.channel x.handle ≡ None
 detached_none u x closed e = rw (eq-eqb x.conn.0 x.conn.0 refl, eq-eqb x.channel x.channel refl, eq-eqb x.handle x.handle refl) refl
 
-pub taken_kept : (t u : Trace) (c own : ℕ) (a : AnAttach) → AttachAt t u c a → Kept u (stolen_from (holder t (wanted_key t c a))) → Kept (goes (taken u c own a) u) []
-taken_kept t u c own a at was = by (holder u (key_at u c (answer_to a 0))) refl
+pub taken_kept : (t u : Trace) (c own : ℕ) (ours : List UnsettledDelivery) (a : AnAttach) → AttachAt t u c a → Kept u (stolen_from (holder t (wanted_key t c a)))
+    → Kept (goes (taken u c own ours a) u) []
+taken_kept t u c own ours a at was = by (holder u (key_at u c (answer_to a 0))) refl
   where
     key : LinkKey
     key = wanted_key t c a
@@ -256,13 +262,13 @@ taken_kept t u c own a at was = by (holder u (key_at u c (answer_to a 0))) refl
     key_then : (x : Attachment) (h : ℕ) → key_at (Out x.conn.0 (detach_item x.channel x.handle false (Some Stolen)) ∷ u) c (answer_to a h) ≡ key
     key_then x h = by_test (x.conn.0 == c) (λ e. rw e (at.key h)) (λ e. rw e (at.key h))
 
-    by : (v : Option Attachment) → holder u (key_at u c (answer_to a 0)) ≡ v → Kept (goes (taken_after u c own a (stolen_by v)) u) []
-    by None is = put_answer u c own (largest_frame u c) a key at.key (moved None is) at.came (dropped (holder t key) refl (moved None is) was)
+    by : (v : Option Attachment) → holder u (key_at u c (answer_to a 0)) ≡ v → Kept (goes (taken_after u c own ours a (stolen_by v)) u) []
+    by None is = put_answer u c own (largest_frame u c) ours a key at.key (moved None is) at.came (dropped (holder t key) refl (moved None is) was)
     by (Some x) is =
         let holds : holder u key ≡ Some x = moved (Some x) is in
         let out : Item = detach_item x.channel x.handle false (Some Stolen) in
         let first : Kept u (change.Ends (gone.Link x.conn.0 x.channel x.handle) false ∷ []) = subst (λ (v : Option Attachment). Kept u (stolen_from v)) (held_before x holds) was in
-        put_answer (Out x.conn.0 out ∷ u) c own (largest_frame u c) a key (key_then x) (none_then x holds) (asked_then x)
+        put_answer (Out x.conn.0 out ∷ u) c own (largest_frame u c) ours a key (key_then x) (none_then x holds) (asked_then x)
         (next_kept x.conn.0 out u (change.Ends (gone.Link x.conn.0 x.channel x.handle) false) [] tt refl tt (λ n d. refl) first)
 
 -- an attach that is refused

@@ -1,5 +1,5 @@
 -- A delivery is of the message that was bound under its number.
-use Rattle.std.proofs.Common.{◌≡◌, ◌∙◌, sym, ap, refl, subst, inl, inr, ℕ, ◌+◌, ◌≤◌, Bool, true, false, List, [], ◌∷◌, ◌++◌, arith}
+use Rattle.std.proofs.Common.{◌≡◌, ◌∙◌, sym, ap, refl, subst, inl, inr, ℕ, ◌+◌, ◌≤◌, Bool, true, false, not, List, [], ◌∷◌, ◌++◌, arith}
 use Rattle.std.specs.Prelude.{◌==◌, ◌&&◌, Option, Some, None, is_none, option_and_then, if◌then◌else◌}
 use Rattle.std.proofs.lemmas.Bool.{eqb-true, eq-eqb}
 use Rattle.router_trace.specs.declared.binding.Binding.{Binding}
@@ -112,7 +112,7 @@ not_presettled u n d p there origin =
     differ : Some p ≡ None → ⊥
     differ e = cc
 
-    by : (from : Option Origin) → IsOrNone d.origin from → is_none from ≡ false
+    by : (from : Option Origin) → IsOrNone d.origin from → (is_none from && not (of_messages u n d there).binding.taken_up) ≡ false
     by (Some q) is = refl
     by None (inl is) = absurd (differ (sym origin ∙ is))
     by None (inr is) = absurd (differ (sym origin ∙ is))

@@ -8,6 +8,7 @@ use Rattle.amqp_model.specs.declared.perf.Perf.{Perf}
 use Rattle.amqp_model.specs.declared.perf.Perf.TheVariants as perf
 use Rattle.amqp_model.specs.declared.perf.Role.{Role}
 use Rattle.amqp_model.specs.declared.perf.Role.TheVariants.{Sender, Receiver}
+use Rattle.amqp_model.specs.declared.state.UnsettledDelivery.{UnsettledDelivery}
 use Rattle.amqp_model.specs.declared.terminus.SourceTerminus.{SourceTerminus}
 use Rattle.amqp_model.specs.declared.terminus.SourceTerminus.TheVariants as source
 use Rattle.amqp_model.specs.declared.terminus.TargetTerminus.{TargetTerminus}
@@ -43,12 +44,13 @@ use Rattle.state_sessions.specs.Windows.{windows}
 use Rattle.state_messages.specs.Messages.{grants_due, with_bound}
 use Rattle.reply_rows.specs.declared.answer.Answer.{Answer}
 use Rattle.reply_rows.specs.declared.answer.Answer.TheVariants.{Nothing, Header, Open, Close, CloseWith, Begin, End, Flow, Attach, Refuse, Detach, LinkFlow, Taken, Settle}
-use Rattle.reply_rows.specs.Booking.{wanted_key, wanted_address, wants_durable, new_terminus, has_room, rows_of, map_for, unless_resumes, durable_refusal, refuse_on, booked_attach, book_refusal, answer_at}
+use Rattle.reply_rows.specs.Booking.{wanted_key, wanted_address, wants_durable, new_terminus, has_room, rows_of, attach_resumes, unless_resumes, durable_refusal, refuse_on, booked_attach, book_refusal, answer_at}
 use Rattle.reply_rows.specs.Finding.{finds}
 use Rattle.reply_rows.specs.Rows.{said, item_reply}
 use Rattle.router_reply.specs.Acts.{Journaled, live_answer, event_answer, answer_acts, admitted_acts, or_admits, finds_full, journaled, book_in, acts_of, book_after_event, booked, answer_of}
 use Rattle.router_reply.specs.Deciding.{decided, forgotten}
-use Rattle.router_reply.specs.Replies.{closing_of, ends, heard, stolen_by, attach_answer, taken_after, taken, refused, bound_by, item_put, item_row, own_row, replied}
+use Rattle.router_reply.specs.Resuming.{resumed}
+use Rattle.router_reply.specs.Replies.{closing_of, ends, heard, stolen_by, with_map, map_for, attach_answer, taken_after, taken, refused, bound_by, item_put, item_row, own_row, replied}
 use Rattle.state_connections.proofs.Lists.{by_test}
 use Rattle.router_core.specs.Attaches.{is_attach_in, is_attach}
 use Rattle.router_core.specs.Moves.{Goes, IsTrace}
@@ -59,9 +61,11 @@ use Rattle.router_core.proofs.Attachless.{Attachless, less_closing_of, less_said
 use Rattle.router_core.proofs.Due.{tells_on, sends_on, drains_on, grants_on}
 use Rattle.router_core.proofs.Following.{Steps, passed_on, passed_keeps}
 use Rattle.router_core.proofs.Replied.{FoundLive, found_live}
+use Rattle.router_core.proofs.Resuming.{resumed_keeps}
 use Rattle.theorems.specs.Each.{EachOut}
 use Rattle.theorems.specs.Keeping.{HasAddress, kept_if, perf_is_kept, IsKeptFirst}
 use Rattle.theorems.proofs.Made.{makes_terminus, admitted_keep, stays_terminus}
+use Rattle.theorems.proofs.Resumed.{ends_book, bound_book}
 
 abbrev Kept : List Entry → Type 0
 Kept t = EachOut IsKeptFirst t
@@ -143,6 +147,26 @@ lasting_key r false p who from = refl
 answer_key : (t : List Entry) (c : ℕ) (a : AnAttach) (h : ℕ) → key_at t c (answer_to a h) ≡ wanted_key t c a
 answer_key t c a h = lasting_key (other a.role) (is_durable (other a.role) (plain_answer a h)) (plain_answer a h) (user t c) (container t c)
 
+-- ... whether it has the router's map or not
+mapped_kept : (ours : List UnsettledDelivery) (p : AnAttach) (x : Option Terminus) → Asks p x → Asks (with_map ours p) x
+mapped_kept [] p x k = k
+mapped_kept (d ∷ ds) p x k = by p.role k
+  where
+    mapped : AnAttach
+    mapped = record p { unsettled = Some (d ∷ ds) }
+
+    by : (r : Role) → kept_if (is_durable r p) (address_by r p) x → kept_if (is_durable r mapped) (address_by r mapped) x
+    by Sender k = k
+    by Receiver k = k
+
+pub mapped_key : (ours : List UnsettledDelivery) (t : List Entry) (c : ℕ) (p : AnAttach) → key_at t c (with_map ours p) ≡ key_at t c p
+mapped_key [] t c p = refl
+mapped_key (d ∷ ds) t c p = refl
+
+pub mapped_handle : (ours : List UnsettledDelivery) (p : AnAttach) → (with_map ours p).handle ≡ p.handle
+mapped_handle [] p = refl
+mapped_handle (d ∷ ds) p = refl
+
 -- a refusal asks for no link
 refusal_kept : (r : Role) (s : Option SourceTerminus) (g : Option TargetTerminus) (p : AnAttach) (x : Option Terminus)
     → Asks (record p { role = other r; source = refused_source r s; target = refused_target r g }) x
@@ -196,7 +220,7 @@ room_with b a false may = absurd cc
 address_with : (b : BookView) (x : Terminus) (a : AnAttach) (room : Bool) → durable_refusal b (Some x) a room ≡ None → x.address ≡ wanted_address a
 address_with b x a room may = (bytes_eq-Decides x.address (wanted_address a)).0 (by (same_bytes x.address (wanted_address a)) may)
   where
-    by : (q : Bool) → (if q then unless_resumes (map_for (rows_of b x) a) else Some NotAllowed) ≡ None → q ≡ true
+    by : (q : Bool) → (if q then unless_resumes (attach_resumes (rows_of b x) a) else Some NotAllowed) ≡ None → q ≡ true
     by true may = refl
     by false may = absurd cc
 
@@ -322,22 +346,6 @@ bound_names (Some b) t c = record { who = refl; from = refl }
 detach_names : (t : List Entry) (d own handle c : ℕ) (closed : Bool) (e : Option Condition) → SameNames t (Out d (detach_item own handle closed e) ∷ t) c
 detach_names t d own handle c closed e = record { who = by_test (d == c) (λ q. rw q refl) (λ q. rw q refl); from = by_test (d == c) (λ q. rw q refl) (λ q. rw q refl) }
 
--- the book depends on no item
-
-goes_book : (ps : List Put) (t : List Entry) → journaled (goes ps t) ≡ journaled t
-goes_book [] t = refl
-goes_book (p ∷ ps) t = goes_book ps (Out p.conn p.item ∷ t)
-
-ends_book : (id : List ℕ) (ds : List ℕ) (t : List Entry) → journaled (ends id ds t) ≡ journaled t
-ends_book id [] t = refl
-ends_book id (d ∷ ds) t =
-    let items : List Item = closing_of id (conn t d) ResourceLimitExceeded
-    in ends_book id ds (puts d items t) ∙ goes_book (each_to d items) t
-
-bound_book : (b : Option Binding) (t : List Entry) → journaled (with_bound b t) ≡ journaled t
-bound_book None t = refl
-bound_book (Some b) t = refl
-
 -- a trace in which the attach of an event can be answered: the connection's names are as before the event, and the book is after its acts
 pub record Stands (t : List Entry) (e : Event) (c : ℕ) (w : List Entry) : Type 0 where
   pub names : SameNames t w c
@@ -374,23 +382,31 @@ asked_kept t w e c a h made stands =
 
 -- an attach that is taken
 
-answer_there : (t w : List Entry) (e : Event) (c own largest : ℕ) (free : Option ℕ) (a : AnAttach) → Answers t e c a → Stands t e c w → Kept w
-    → Kept (goes (each_to c (attach_answer largest own free a)) w)
-answer_there t w e c own largest None a made stands was = was
-answer_there t w e c own largest (Some h) a made stands was = by (fits largest (attach_item own (answer_to a h))) (not (is_durable (answer_to a h).role (answer_to a h)))
+answer_there : (t w : List Entry) (e : Event) (c own largest : ℕ) (free : Option ℕ) (ours : List UnsettledDelivery) (a : AnAttach) → Answers t e c a → Stands t e c w → Kept w
+    → Kept (goes (each_to c (attach_answer largest own free ours a)) w)
+answer_there t w e c own largest None ours a made stands was = was
+answer_there t w e c own largest (Some h) ours a made stands was = by (fits largest (attach_item own answer)) (not (is_durable answer.role answer))
   where
-    by : (b closed : Bool) → Kept (goes (each_to c (if b then attach_item own (answer_to a h) ∷ [] else detach_item own h closed (Some FrameSizeTooSmall) ∷ [])) w)
-    by true closed = (asked_kept t w e c a h made stands, was)
+    answer : AnAttach
+    answer = with_map ours (answer_to a h)
+
+    asked_there : Asks answer (terminus_of (key_at w c answer) (book_in w).termini)
+    asked_there =
+        subst (λ (k : LinkKey). Asks answer (terminus_of k (book_in w).termini)) (sym (mapped_key ours w c (answer_to a h)))
+        (mapped_kept ours (answer_to a h) (terminus_of (key_at w c (answer_to a h)) (book_in w).termini) (asked_kept t w e c a h made stands))
+
+    by : (b closed : Bool) → Kept (goes (each_to c (if b then attach_item own answer ∷ [] else detach_item own h closed (Some FrameSizeTooSmall) ∷ [])) w)
+    by true closed = (asked_there, was)
     by false closed = (tt, was)
 
-taken_kept : (t u w : List Entry) (e : Event) (c own : ℕ) (a : AnAttach) → Answers t e c a → Stands t e c w → Kept w → Kept (goes (taken u c own a) w)
-taken_kept t u w e c own a made stands was = by (holder u (key_at u c (answer_to a 0)))
+taken_kept : (t u w : List Entry) (e : Event) (c own : ℕ) (ours : List UnsettledDelivery) (a : AnAttach) → Answers t e c a → Stands t e c w → Kept w → Kept (goes (taken u c own ours a) w)
+taken_kept t u w e c own ours a made stands was = by (holder u (key_at u c (answer_to a 0)))
   where
-    by : (x : Option Attachment) → Kept (goes (taken_after u c own a (stolen_by x)) w)
-    by None = answer_there t w e c own (largest_frame u c) (free_handle u c own) a made stands was
+    by : (x : Option Attachment) → Kept (goes (taken_after u c own ours a (stolen_by x)) w)
+    by None = answer_there t w e c own (largest_frame u c) (free_handle u c own) ours a made stands was
     by (Some x) =
         let out : Item = detach_item x.channel x.handle false (Some Stolen) in
-        answer_there t (Out x.conn.0 out ∷ w) e c own (largest_frame u c) (free_handle (Out x.conn.0 out ∷ u) c own) a made
+        answer_there t (Out x.conn.0 out ∷ w) e c own (largest_frame u c) (free_handle (Out x.conn.0 out ∷ u) c own) ours a made
         (record { names = names_on t w (Out x.conn.0 out ∷ w) c stands.names (detach_names w x.conn.0 x.channel x.handle c false (Some Stolen)); book = stands.book }) (tt, was)
 
 -- an event with all that it put out
@@ -413,7 +429,7 @@ attach_row id t u w from sasl channel a payload stands was (Some p) here = by (a
     e = event.Item from i
 
     by : (x : Answer) → answer_of (booked t e) from.0 p i ≡ x → Kept (goes (item_put id (booked t e) u from.0 p i x) w)
-    by (Attach own) answers = taken_kept t u w e from.0 own a (λ wants. makes t from sasl channel a payload p own here answers wants) (stands p here) was
+    by (Attach own) answers = taken_kept t u w e from.0 own (map_for (booked t e) from.0 a (Attach own)) a (λ wants. makes t from sasl channel a payload p own here answers wants) (stands p here) was
     by (Refuse own handle x) answers = refused_kept w (largest_frame u from.0) from.0 own handle x a was
     by x answers = goes_kept (each_to from.0 (said id p x) ++ []) w (more_none from.0 (said id p x) (less_said id from.0 p x)) was
 
@@ -460,8 +476,10 @@ handled_kept id t s was =
     let u : List Entry = heard id at s in
     let b : Option Binding = bound_by at u s.event in
     let rows : Kept (replied id at s) = row_kept id t s s.event refl b (bound_kept b u (ends_kept id (due t s.event) (Did s ∷ at) was)) in
-    let behind : List Entry = passed_on (replied id at s) in
-    goes_kept (windows behind) behind (less_windows behind) (passed_keeps Kept passed_kept (replied id at s) rows)
+    let resumes : List Entry = resumed at s.event (replied id at s) in
+    let behind : List Entry = passed_on resumes in
+    goes_kept (windows behind) behind (less_windows behind)
+    (passed_keeps Kept passed_kept resumes (resumed_keeps Kept (λ bound v kept. kept) at s.event (replied id at s) rows))
 
 pub moves_kept : (id : List ℕ) (ms : List Move) (t u : List Entry) → Kept t → Goes id ms t u → Kept u
 moves_kept id [] t u was went = subst Kept (sym went) was

@@ -37,7 +37,8 @@ use Rattle.reply_rows.specs.Booking.{answer_at}
 use Rattle.router_state.specs.Tables.{beat_if, beats_over}
 use Rattle.router_reply.specs.Acts.{live_answer, finds_full, journaled, book_in, acts_of, booked, answer_of}
 use Rattle.router_reply.specs.Deciding.{ended_by}
-use Rattle.router_reply.specs.Replies.{closing_of, ends, heard, bound_for, item_put, item_bound, item_row, bound_by, own_row, replied_after, replied}
+use Rattle.router_reply.specs.Resuming.{resumed}
+use Rattle.router_reply.specs.Replies.{closing_of, ends, heard, map_for, bound_for, item_put, item_bound, item_row, bound_by, own_row, replied_after, replied}
 use Rattle.router_core.specs.declared.driving.Sent.{Sent}
 use Rattle.router_core.specs.Moves.{Goes, IsTrace}
 use Rattle.core_machine.specs.Moves.{Move, handles, takes}
@@ -48,6 +49,7 @@ use Rattle.core_machine.specs.Turns.{is_started, declines}
 use Rattle.router_core.proofs.Booking.{booked_keeps}
 use Rattle.router_core.proofs.Books.{started_handled}
 use Rattle.router_core.proofs.Following.{all_keep}
+use Rattle.router_core.proofs.Resuming.{resumed_keeps}
 use Rattle.theorems.specs.Carried.{HasSmallNumbers}
 use Rattle.theorems.specs.Each.{EachOut}
 use Rattle.theorems.specs.Lives.{GoesInTurn}
@@ -61,7 +63,8 @@ use Rattle.theorems.proofs.Booked.{acts_apply, ordered_acts, changes_of, booked_
 use Rattle.theorems.proofs.Ending.{takes_none, answer_rest, came_kept, ends_kept}
 use Rattle.theorems.proofs.Keeps.{Kept, PlainPut, plain_both, plain_goes, took_kept, small_before, SmallKept, followed_kept}
 use Rattle.theorems.proofs.Once.{Decides, decides_once}
-use Rattle.theorems.proofs.Rowing.{MayBind, Receives, plain_row, disposed_row, taken_row}
+use Rattle.theorems.proofs.Resumed.{resumed_takes, replied_book}
+use Rattle.theorems.proofs.Rowing.{MayBind, Receives, plain_row, disposed_row, taken_row, taken_up_kept}
 use Rattle.theorems.proofs.Sound.{Sound, none_sound, opened_sound, sound_start, did_sound, took_sound, batch_sound}
 use Rattle.theorems.proofs.Standing.{began_standing, booked_standing}
 use Rattle.theorems.proofs.Tests.{none_not_some}
@@ -91,7 +94,7 @@ Rowed id at u c p i y = Kept (goes (item_put id at u c p i y) (with_bound (bound
 attach_row : (id : List ℕ) (t at u : Trace) (c : ℕ) (p : Conn) (sasl : Bool) (channel : ℕ) (a : AnAttach) (payload : List ℕ) (y : Answer)
     → IfAttach sasl (free_handle t c) y → (sasl ≡ false → AttachAt t u c a) → Kept u (ended_by t c (item.Frame sasl channel (perf.Attach a) payload) y)
     → Rowed id at u c p (item.Frame sasl channel (perf.Attach a) payload) y
-attach_row id t at u c p sasl channel a payload (Attach own) of finds was = taken_kept t u c own a (finds of) was
+attach_row id t at u c p sasl channel a payload (Attach own) of finds was = taken_kept t u c own (map_for at c a (Attach own)) a (finds of) was
 attach_row id t at u c p sasl channel a payload (Refuse own handle x) of finds was = refused_kept t u c own handle (largest_frame u c) x a (finds of.0) of.1 was
 attach_row id t at u c p sasl channel a payload (Taken own handle) of finds was =
     subst (λ (b : Option Binding). Kept (with_bound b u) []) (sym (binds_none at u c (item.Frame sasl channel (perf.Attach a) payload) (λ o. no_part sasl) (Taken own handle))) was
@@ -237,9 +240,18 @@ replied_small id t s small =
     let b : Option Binding = bound_by at u s.event in
     ends_small id (due t s.event) (Did s ∷ at) (bound_small b u (small_before (own_row id at u s.event) (with_bound b u) small))
 
+resumed_kept : (id : List ℕ) (t : Trace) (s : Step) → Sound t → (s.event ≡ event.Start → (n : ℕ) → delivery t n ≡ None) → Kept t []
+    → Kept (resumed (booked t s.event) s.event (replied id (booked t s.event) s)) []
+resumed_kept id t s sound none was =
+    resumed_takes (λ (u : Trace). Kept u []) taken_up_kept (booked t s.event) s.event (replied id (booked t s.event) s) (replied_book id (booked t s.event) s) (replied_kept id t s sound none was)
+
+resumed_small : (id : List ℕ) (t : Trace) (s : Step) → HasSmallNumbers (resumed (booked t s.event) s.event (replied id (booked t s.event) s)) → HasSmallNumbers t
+resumed_small id t s =
+    resumed_keeps (λ (u : Trace). HasSmallNumbers u → HasSmallNumbers t) (λ b u before small. before (bound_small (Some b) u small)) (booked t s.event) s.event (replied id (booked t s.event) s) (replied_small id t s)
+
 handled_kept : (id : List ℕ) (t : Trace) (s : Step) → Sound t → (s.event ≡ event.Start → (n : ℕ) → delivery t n ≡ None) → SmallKept t → SmallKept (handled id t s)
 handled_kept id t s sound none was =
-    followed_kept (replied id (booked t s.event) s) (λ small. replied_kept id t s sound none (was (replied_small id t s small)))
+    followed_kept (resumed (booked t s.event) s.event (replied id (booked t s.event) s)) (λ small. resumed_kept id t s sound none (was (resumed_small id t s small)))
 
 -- moves
 
@@ -418,7 +430,8 @@ handled_once first id t s was =
     let u : Trace = heard id at s in
     let b : Option Binding = bound_by at u s.event in
     let came : Once first u = ends_once first id (due t s.event) (Did s ∷ at) (did_once first s at (booked_once first t s.event was)) in
-    all_keep (Once first) (goes_once first) (replied id at s) (goes_once first (own_row id at u s.event) (with_bound b u) (bound_once first b u came))
+    all_keep (Once first) (goes_once first) (resumed at s.event (replied id at s))
+    (resumed_keeps (Once first) (λ x v. bound_once first (Some x) v) at s.event (replied id at s) (goes_once first (own_row id at u s.event) (with_bound b u) (bound_once first b u came)))
 
 pub none_once : Once empty_book []
 none_once = record { ordered = no_past.ordered; once = λ n. record { once = zero_one; waits = λ might. refl; before = λ shut. refl }; stays = λ n shut. shut }

@@ -18,6 +18,7 @@ pub mod Tells
 pub mod Quiet
 pub mod Transfers
 pub mod Arriving
+pub mod Resumed
 pub mod AllSound
 -- Durable links and messages in the book.
 pub mod Made

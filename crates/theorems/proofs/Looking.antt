@@ -156,3 +156,15 @@ found_new rs x below =
     find-append (λ r. r.number.0 == number_of_row x) rs (x ∷ [])
     ∙ ap (λ (o : Option Row). option_or o (cond (number_of_row x == number_of_row x) (Some x) None)) (none_below (number_of_row x) rs below)
     ∙ rw (same_numbers (number_of_row x) (number_of_row x) refl) refl
+
+-- the one at its place among rows whose numbers rise
+pub found_in : (earlier later : List Row) (x : Row) → Rises number_of_row (earlier ++ x ∷ later) → row_at (number_of_row x) (earlier ++ x ∷ later) ≡ Some x
+found_in [] later x up = rw (same_numbers (number_of_row x) (number_of_row x) refl) refl
+found_in (r ∷ rs) later x up = rw (lower (number_of_row r) (number_of_row x) (among rs up.0)) (found_in rs later x up.1)
+  where
+    lower : (a n : ℕ) → a < n → (a == n) ≡ false
+    lower a n l = grind (arith, nat_tests)
+
+    among : (ys : List Row) → AllAbove number_of_row (number_of_row r) (ys ++ x ∷ later) → number_of_row r < number_of_row x
+    among [] above = above.0
+    among (y ∷ ys) above = among ys above.1

@@ -1,5 +1,5 @@
 -- Each row that the book gave since the opening is bound.
-use Rattle.std.proofs.Common.{◌≡◌, ◌∙◌, sym, ap, refl, subst, ℕ, ◌+◌, ◌≤◌, ◌<◌, Bool, true, false, List, [], ◌∷◌, arith}
+use Rattle.std.proofs.Common.{◌≡◌, ◌∙◌, sym, ap, refl, subst, ℕ, ◌+◌, ◌≤◌, ◌<◌, Bool, true, false, not, ◌&&◌, List, [], ◌∷◌, arith}
 use Rattle.std.specs.Prelude.{◌==◌, if◌then◌else◌, Option, Some, None}
 use Rattle.std.proofs.lemmas.Bool.{eqb-true, eq-eqb}
 use Rattle.amqp_model.specs.declared.item.Item.{Item}
@@ -9,13 +9,14 @@ use Rattle.book_model.specs.declared.row.RowNumber.{RowNumber}
 use Rattle.book_model.specs.Book.{BookView, effect, effects}
 use Rattle.router_trace.specs.Configuration.{beginning}
 use Rattle.router_trace.specs.Connection.{conn, due}
-use Rattle.router_trace.specs.Trace.{Beginning, Entry, Did, Out, Put, Step, goes, puts, each_to}
+use Rattle.router_trace.specs.Trace.{Beginning, Entry, Did, Out, Bound, Put, Step, goes, puts, each_to}
 use Rattle.router_trace.specs.declared.binding.Binding.{Binding}
 use Rattle.router_trace.specs.declared.condition.Condition.TheVariants.{ResourceLimitExceeded}
 use Rattle.state_messages.specs.Messages.{with_bound}
 use Rattle.router_reply.specs.Acts.{book_in, acts_of, booked}
 use Rattle.router_reply.specs.Admitting.{row_in}
 use Rattle.router_reply.specs.Replies.{closing_of, ends, heard, bound_by, own_row, replied}
+use Rattle.router_reply.specs.Resuming.{resumed}
 use Rattle.state_connections.proofs.Lists.{by_test}
 use Rattle.router_core.specs.Moves.{Goes, IsTrace}
 use Rattle.core_machine.specs.Moves.{Move, handles, takes}
@@ -23,7 +24,8 @@ use Rattle.router_core.specs.Replies.{handled}
 use Rattle.core_machine.specs.Moves.{took_one}
 use Rattle.router_core.proofs.Following.{all_keep}
 use Rattle.theorems.specs.Admitted.{is_row, times_bound, AreBoundSince}
-use Rattle.theorems.proofs.Admitted.{row_of_bound, BindsNext, binds_next}
+use Rattle.theorems.proofs.Admitted.{row_of_bound, bound_fresh, BindsNext, binds_next}
+use Rattle.theorems.proofs.Resumed.{resumed_marked}
 use Rattle.theorems.proofs.Rows.{Rows, start_rows, took_rows, handled_rows}
 use Rattle.theorems.proofs.Tests.{none_not_some}
 
@@ -54,9 +56,12 @@ ends_stays n times book id (c ∷ cs) t was =
     in ends_stays n times book id cs (puts c items t) (goes_stays n times book (each_to c items) t was)
 
 -- how often a binding binds the row of a number
+abbrev times_if : Bool → ℕ
+times_if b = if b then 1 else 0
+
 abbrev times_of : Option Binding → ℕ → ℕ
 times_of None n = 0
-times_of (Some x) n = if is_row x.row n then 1 else 0
+times_of (Some x) n = if not x.taken_up && is_row x.row n then 1 else 0
 
 bound_stays : (n times : ℕ) (book : BookView) (b : Option Binding) (u : List Entry) → Stays n times book u → Stays n (times + times_of b n) book (with_bound b u)
 bound_stays n times book None u was = (was.0 ∙ nothing times, was.1)
@@ -64,6 +69,13 @@ bound_stays n times book None u was = (was.0 ∙ nothing times, was.1)
     nothing : (k : ℕ) → k ≡ k + 0
     nothing k = omega arith
 bound_stays n times book (Some x) u was = (ap (λ (k : ℕ). k + times_of (Some x) n) was.0, was.1)
+
+-- a row that is taken up was bound before
+taken_stays : (n times : ℕ) (book : BookView) (u : List Entry) (b : Binding) → b.taken_up ≡ true → Stays n times book u → Stays n times book (Bound b ∷ u)
+taken_stays n times book u b marked was = (ap (λ (up : Bool). times_bound u n + (if not up && is_row b.row n then 1 else 0)) marked ∙ nothing (times_bound u n) ∙ was.0, was.1)
+  where
+    nothing : (k : ℕ) → k + 0 ≡ k
+    nothing k = omega arith
 
 handled_stays : (id : List ℕ) (t : List Entry) (s : Step) (n : ℕ)
     → Stays n (times_bound t n + times_of (bound_by (booked t s.event) (heard id (booked t s.event) s) s.event) n) (effects (book_in t) (acts_of t s.event)) (handled id t s)
@@ -74,14 +86,19 @@ handled_stays id t s n =
     let book : BookView = effects (book_in t) (acts_of t s.event) in
     let came : Stays n (times_bound t n) book u = ends_stays n (times_bound t n) book id (due t s.event) (Did s ∷ at) (refl, refl) in
     let times : ℕ = times_bound t n + times_of b n in
-    all_keep (Stays n times book) (goes_stays n times book) (replied id at s)
-    (goes_stays n times book (own_row id at u s.event) (with_bound b u) (bound_stays n (times_bound t n) book b u came))
+    all_keep (Stays n times book) (goes_stays n times book) (resumed at s.event (replied id at s))
+    (resumed_marked (Stays n times book) (taken_stays n times book) at s.event (replied id at s)
+    (goes_stays n times book (own_row id at u s.event) (with_bound b u) (bound_stays n (times_bound t n) book b u came)))
 
 -- a number of a row that was given is that of one bound
 
 no_row_bound : (b : Option Binding) (n : ℕ) → ((x : Binding) → b ≡ Some x → x.row ≡ None) → times_of b n ≡ 0
 no_row_bound None n none = refl
-no_row_bound (Some x) n none = ap (λ (r : Option RowNumber). if is_row r n then 1 else 0) (none x refl)
+no_row_bound (Some x) n none = ap (λ (r : Option RowNumber). if not x.taken_up && is_row r n then 1 else 0) (none x refl) ∙ by x.taken_up
+  where
+    by : (up : Bool) → times_if (not up && false) ≡ 0
+    by true = refl
+    by false = refl
 
 handled_bound : (first : ℕ) (id : List ℕ) (t : List Entry) (s : Step) → Rows t → AreBoundSince first t → AreBoundSince first (handled id t s)
 handled_bound first id t s rows all n low high = by (row_in (acts_of t s.event)) refl
@@ -128,7 +145,9 @@ handled_bound first id t s rows all n low high = by (row_in (acts_of t s.event))
     by (Some row) given =
         let next : BindsNext id t s.event row = binds_next id t s.event row given in
         let named : next.binding.row ≡ Some row = row_of_bound id t s.event next.binding next.is ∙ given in
-        let times : times_of bound n ≡ (if row.0 == n then 1 else 0) = ap (λ (b : Option Binding). times_of b n) next.is ∙ ap (λ (r : Option RowNumber). if is_row r n then 1 else 0) named in
+        let times : times_of bound n ≡ (if row.0 == n then 1 else 0) = ap (λ (b : Option Binding). times_of b n) next.is
+        ∙ ap (λ (up : Bool). if not up && is_row next.binding.row n then 1 else 0) (bound_fresh id t s.event next.binding next.is)
+        ∙ ap (λ (r : Option RowNumber). if is_row r n then 1 else 0) named in
         behind.0
         ∙ by_test (row.0 == n)
         (λ e. sums_late (times_bound t n) (times_of bound n)

@@ -4,6 +4,7 @@ use Rattle.std.proofs.Common.{ap, refl, ℕ, zero, suc, ◌+◌, Bool, true, fal
 use Rattle.std.specs.Prelude.{Option, Some, None, if◌then◌else◌, nat_lt}
 use Rattle.amqp_model.specs.declared.perf.Attach.{Attach as AnAttach}
 use Rattle.amqp_model.specs.declared.state.DeliveryState.{DeliveryState}
+use Rattle.amqp_model.specs.declared.state.UnsettledDelivery.{UnsettledDelivery}
 use Rattle.amqp_conn.specs.declared.conn.Conn.{Conn}
 use Rattle.amqp_session.specs.Session.{Session}
 use Rattle.router_trace.specs.declared.condition.Condition.{Condition}
@@ -28,7 +29,7 @@ use Rattle.reply_rows.specs.declared.answer.Answer.{Answer}
 use Rattle.reply_rows.specs.declared.answer.Answer.TheVariants.{Nothing, Header, Open, Close, CloseWith, Begin, End, Flow, Attach, Refuse, Detach, LinkFlow, Taken, Settle}
 use Rattle.reply_rows.specs.Rows.{said}
 use Rattle.reply_transfers.specs.Transfers.{let_go, ignored_put, settled_answers}
-use Rattle.router_reply.specs.Replies.{closing_of, stolen_by, attach_answer, refused, taken}
+use Rattle.router_reply.specs.Replies.{closing_of, stolen_by, with_map, attach_answer, refused, taken}
 use Rattle.router_core.proofs.Granting.{AllGrants, all_grants}
 use Rattle.state_connections.proofs.Lists.{by_test}
 use Rattle.theorems.proofs.Sound.{is_loud, Quiet, QuietPut, quiet_both, quiet_to}
@@ -66,16 +67,16 @@ sized_quiet : (b : Bool) (own handle : ℕ) (closed : Bool) (e : Condition) (a :
 sized_quiet true own handle closed e a = (refl, tt)
 sized_quiet false own handle closed e a = (refl, tt)
 
-attach_quiet : (largest own : ℕ) (handle : Option ℕ) (a : AnAttach) → Quiet (attach_answer largest own handle a)
-attach_quiet largest own None a = tt
-attach_quiet largest own (Some handle) a =
-    let answer : AnAttach = answer_to a handle
+attach_quiet : (largest own : ℕ) (handle : Option ℕ) (ours : List UnsettledDelivery) (a : AnAttach) → Quiet (attach_answer largest own handle ours a)
+attach_quiet largest own None ours a = tt
+attach_quiet largest own (Some handle) ours a =
+    let answer : AnAttach = with_map ours (answer_to a handle)
     in sized_quiet (fits largest (attach_item own answer)) own handle (not (is_durable answer.role answer)) FrameSizeTooSmall answer
 
-pub taken_quiet : (t : List Entry) (c own : ℕ) (a : AnAttach) → QuietPut (taken t c own a)
-taken_quiet t c own a =
+pub taken_quiet : (t : List Entry) (c own : ℕ) (ours : List UnsettledDelivery) (a : AnAttach) → QuietPut (taken t c own ours a)
+taken_quiet t c own ours a =
     let older = stolen_by (holder t (key_at t c (answer_to a 0)))
-    in quiet_both older _ (stolen_quiet (holder t (key_at t c (answer_to a 0)))) (quiet_to c _ (attach_quiet (largest_frame t c) own _ a))
+    in quiet_both older _ (stolen_quiet (holder t (key_at t c (answer_to a 0)))) (quiet_to c _ (attach_quiet (largest_frame t c) own _ ours a))
 
 pub refused_quiet : (largest own handle : ℕ) (e : Condition) (a : AnAttach) → Quiet (refused largest own handle e a)
 refused_quiet largest own handle e a = by (fits largest (attach_item own (refusal_of a handle)))

@@ -1,6 +1,6 @@
 -- What an event's row puts keeps what holds, but for attaches: what the answer says, the answers to a disposition, and what is put for a transfer.
 use Rattle.std.proofs.Common.{◌≡◌, ◌∙◌, sym, ap, refl, subst, ℕ, Bool, true, false, not, ◌&&◌, List, [], ◌∷◌, ◌++◌, append-nil}
-use Rattle.std.specs.Prelude.{◌==◌, nat_lt, Option, Some, None, if◌then◌else◌}
+use Rattle.std.specs.Prelude.{◌==◌, nat_lt, Option, Some, None, is_none, if◌then◌else◌}
 use Rattle.std.proofs.lemmas.Bool.{eqb-true, eq-eqb}
 use Rattle.amqp_model.specs.declared.perf.Disposition.{Disposition as ADisposition}
 use Rattle.amqp_model.specs.declared.perf.Perf.TheVariants as perf
@@ -12,18 +12,25 @@ use Rattle.amqp_conn.specs.declared.conn.Conn.{Conn}
 use Rattle.amqp_link.specs.declared.part.Delivery.{Delivery as Told}
 use Rattle.amqp_link.specs.declared.part.Part.{Part}
 use Rattle.amqp_link.specs.declared.part.Part.TheVariants as part
+use Rattle.book_model.specs.declared.row.Row.{Row as ARow}
 use Rattle.book_model.specs.declared.row.RowNumber.{RowNumber}
+use Rattle.book_model.specs.declared.terminus.LinkKey.{LinkKey}
+use Rattle.book_model.specs.Book.{row_at}
+use Rattle.book_core.specs.Rising.{Rises}
+use Rattle.gate_journal.specs.Ordered.{number_of_row}
 use Rattle.router_trace.specs.declared.binding.Binding.{Binding}
+use Rattle.router_trace.specs.declared.binding.DeliveryName.TheVariants.{Row}
 use Rattle.router_trace.specs.declared.binding.Origin.{Origin}
 use Rattle.router_trace.specs.declared.condition.Condition.{Condition}
 use Rattle.router_trace.specs.declared.condition.Condition.TheVariants.{ResourceLimitExceeded, MessageSizeExceeded}
 use Rattle.router_trace.specs.declared.handle.Attachment.{Attachment}
 use Rattle.router_trace.specs.Trace.{Trace, Bound, Put, goes, puts, each_to}
-use Rattle.router_trace.specs.Deliveries.{Delivery, bound, name_in, delivery, is_undecided, terminal, last_of, ended_by as put_ends}
-use Rattle.router_trace.specs.Following.{is_sending}
+use Rattle.router_trace.specs.Deliveries.{Delivery, bound, called, origin_in, either_origin, source, name_in, delivery, is_undecided, terminal, last_of, ended_by as put_ends}
+use Rattle.router_trace.specs.Following.{link_of, is_sending}
 use Rattle.router_trace.specs.LinkFrames.{detach_item}
-use Rattle.router_trace.specs.Links.{Link, link, link_place, has_number, is_attached}
+use Rattle.router_trace.specs.Links.{Link, link, link_place, has_number, is_attached, if_attached, last_of_key}
 use Rattle.router_trace.specs.Settling.{open_ids, part_of, unbound}
+use Rattle.state_messages.specs.Asking.{is_consumer, if_consumer, consumer_with}
 use Rattle.state_messages.specs.Messages.{with_bound}
 use Rattle.reply_rows.specs.declared.answer.Answer.{Answer}
 use Rattle.reply_rows.specs.declared.answer.Answer.TheVariants.{Taken, Settle}
@@ -32,12 +39,14 @@ use Rattle.router_reply.specs.Acts.{book_in}
 use Rattle.reply_transfers.specs.Transfers.{claimed_id, lasts_on, let_go, unless_many, ignored_put, released_by, released, unbound_put, consumer_for, whole_put, part_put, settled_answers}
 use Rattle.router_reply.specs.Deciding.{ended_by}
 use Rattle.router_reply.specs.Replies.{row_found, bound_for, links_put, item_put}
-use Rattle.theorems.specs.Came.{BindsMessage, ComesFrom}
+use Rattle.theorems.specs.Came.{TakesUp, BindsMessage, ComesFrom}
 use Rattle.theorems.proofs.Consuming.{consumer_sends}
 use Rattle.theorems.proofs.Ending.{TakesNone, takes_none, said_kept}
-use Rattle.theorems.proofs.Facts.{RowFact, bound_facts}
+use Rattle.theorems.proofs.Facts.{FromTerminus, IsHeld, Agrees, RowFact, bound_facts}
 use Rattle.theorems.proofs.Keeps.{Kept, quiet_kept, plain_kept, Plain, plain_to, plain_goes}
+use Rattle.theorems.proofs.Looking.{found_below, found_in}
 use Rattle.theorems.proofs.Naming.{bound_named}
+use Rattle.theorems.proofs.Resumed.{IsCalled, called_is}
 use Rattle.theorems.proofs.Standing.{Sends, bound_standing}
 use Rattle.theorems.proofs.Tests.{some_same, none_not_some}
 
@@ -150,6 +159,97 @@ bound_kept b u binds fact was = record {
   named = bound_named b u was.named;
   ordered = was.ordered;
 }
+
+-- a row that is taken up
+
+-- the attachment with a key, if the router is the sender there, is one on which it sends
+taken_sends : (u : Trace) (key : LinkKey) (a : Attachment) → consumer_with u key ≡ Some a → Sends u a
+taken_sends u key a is = by_last (last_of_key u key) is
+  where
+    by_link : (x : Attachment) (v : Option Link) → link_of u x ≡ v → has_number x.number v ≡ true → is_consumer v ≡ true → Sends u x
+    by_link x None there numbered way = absurd (clash (sym numbered))
+    by_link x (Some l) there numbered way = record { at = l; there = there; number = eqb-true l.number x.number numbered; way = way }
+
+    by_way : (x : Attachment) (q : Bool) → is_attached u x ≡ true → is_consumer (link_of u x) ≡ q → (if q then Some x else None) ≡ Some a → Sends u a
+    by_way x true here way is = subst (λ (y : Attachment). Sends u y) (some_same is) (by_link x (link_of u x) refl here way)
+    by_way x false here way is = absurd (none_not_some is)
+
+    by_attached : (x : Attachment) (q : Bool) → is_attached u x ≡ q → if_consumer u (if q then Some x else None) ≡ Some a → Sends u a
+    by_attached x true here is = by_way x (is_consumer (link_of u x)) here refl is
+    by_attached x false here is = absurd (none_not_some is)
+
+    by_last : (v : Option Attachment) → if_consumer u (if_attached u v) ≡ Some a → Sends u a
+    by_last None is = absurd (none_not_some is)
+    by_last (Some x) is = by_attached x (is_attached u x) refl is
+
+-- the delivery that its row had until then has its origin
+record HadOrigin (u : Trace) (n : RowNumber) (p : Origin) : Type 0 where
+  before : Delivery
+  was_called : IsCalled u (Row n) before
+  origin : before.origin ≡ Some p
+
+had_origin : (u : Trace) (n : RowNumber) (o : Option Origin) (p : Origin) → o ≡ origin_in (called u (Row n)) → o ≡ Some p → HadOrigin u n p
+had_origin u n o p from is = by (called u (Row n)) refl (sym from ∙ is)
+  where
+    by : (v : Option Delivery) → called u (Row n) ≡ v → origin_in v ≡ Some p → HadOrigin u n p
+    by None named is = absurd (none_not_some is)
+    by (Some d) named is = record { before = d; was_called = called_is u (Row n) d named; origin = is }
+
+told_too : (d : Delivery) (p : Origin) → d.origin ≡ Some p → source d ≡ Some p
+told_too d p is = ap (λ (o : Option Origin). either_origin o d.told) is
+
+from_origin : (o : Option Origin) (p : Origin) → either_origin o None ≡ Some p → o ≡ Some p
+from_origin None p is = absurd (none_not_some is)
+from_origin (Some q) p is = is
+
+-- what the book has of the row holds of the new delivery as it did of the old one
+taken_fact : (u : Trace) (b : Binding) → b.taken_up ≡ true → TakesUp u b → Kept u [] → (r : RowNumber) → b.row ≡ Some r → RowFact u (book_in u) r (bound (name_in u b) b)
+taken_fact u b marked takes was r named = subst (λ (n : RowNumber). RowFact u (book_in u) n (bound (name_in u b) b)) (some_same (sym takes.number ∙ named)) fact
+  where
+    n : RowNumber
+    n = takes.row.number
+
+    there : row_at n.0 (book_in u).rows ≡ Some takes.row
+    there =
+        ap (row_at n.0) takes.kept
+        ∙ found_in takes.earlier takes.later takes.row (let P : List ARow → Type 0 = λ rs. Rises number_of_row rs in subst P takes.kept was.ordered.rows_rise)
+
+    never : (q : Bool) → (q && false) ≡ false
+    never true = refl
+    never false = refl
+
+    -- the old delivery's row
+    held : (p : Origin) → source (bound (name_in u b) b) ≡ Some p → (takes.row.forgotten ≡ false) × FromTerminus u (book_in u) p takes.row.producer.0
+    held p from =
+        let had = had_origin u n b.origin p takes.origin (from_origin b.origin p from) in
+        let old : RowFact u (book_in u) n had.before = was.facts had.was_called.number had.before n had.was_called.there had.was_called.named in
+        let is : IsHeld u (book_in u) takes.row had.before = subst (λ (v : Option ARow). Agrees u (book_in u) v had.before) there old.agrees in
+        (is.waits p (told_too had.before p had.origin), is.from p (told_too had.before p had.origin))
+
+    fact : RowFact u (book_in u) n (bound (name_in u b) b)
+    fact = record {
+      settled = ap (λ (q : Bool). is_none b.origin && not q) marked ∙ never (is_none b.origin);
+      known = found_below n.0 (book_in u).next_row (book_in u).rows takes.row was.ordered.rows_below there;
+      agrees = subst (λ (v : Option ARow). Agrees u (book_in u) v (bound (name_in u b) b)) (sym there) (record {
+        outcome = takes.undecided;
+        waits = λ p from. (held p from).0;
+        from = λ p from. (held p from).1;
+      });
+    }
+
+pub taken_up_kept : (u : Trace) (b : Binding) → b.taken_up ≡ true → TakesUp u b → Kept u [] → Kept (Bound b ∷ u) []
+taken_up_kept u b marked takes was = record {
+  law = was.law;
+  facts = bound_facts b u (taken_fact u b marked takes was) was.facts;
+  standing = bound_standing b u (taken_sends u takes.key b.consumer takes.attached) producer was.standing;
+  named = bound_named b u was.named;
+  ordered = was.ordered;
+}
+  where
+    producer : (p : Origin) → b.origin ≡ Some p → is_attached u p.link ≡ true
+    producer p is =
+        let had = had_origin u takes.row.number b.origin p takes.origin is in
+        was.standing.producers had.was_called.number had.before p had.was_called.there (told_too had.before p had.origin)
 
 -- what a binding needs
 abbrev pub MayBind : Trace → Option Binding → Type 0

@@ -1,5 +1,5 @@
 -- In every trace of the router each message with a row stands in the book before it is bound, and each row is bound at most once.
-use Rattle.std.proofs.Common.{◌≡◌, ◌∙◌, sym, ap, refl, subst, ℕ, ◌+◌, ◌≤◌, true, false, List, [], ◌∷◌, arith}
+use Rattle.std.proofs.Common.{◌≡◌, ◌∙◌, sym, ap, refl, subst, ℕ, ◌+◌, ◌≤◌, Bool, true, false, List, [], ◌∷◌, arith}
 use Rattle.std.specs.Prelude.{◌==◌, Option, Some, None}
 use Rattle.std.proofs.lemmas.Bool.{eqb-true}
 use Rattle.amqp_model.specs.declared.item.Item.{Item}
@@ -17,6 +17,7 @@ use Rattle.router_trace.specs.declared.condition.Condition.TheVariants.{Resource
 use Rattle.state_messages.specs.Messages.{with_bound}
 use Rattle.router_reply.specs.Acts.{book_in, booked}
 use Rattle.router_reply.specs.Replies.{closing_of, ends, heard, bound_by, own_row, replied}
+use Rattle.router_reply.specs.Resuming.{resumed}
 use Rattle.state_connections.proofs.Lists.{by_test}
 use Rattle.router_core.specs.Moves.{Goes, IsTrace}
 use Rattle.core_machine.specs.Moves.{Move, handles, takes}
@@ -26,8 +27,9 @@ use Rattle.router_core.proofs.Booking.{booked_keeps}
 use Rattle.router_core.proofs.Following.{all_keep}
 use Rattle.theorems.specs.Came.{Handled, just_handled}
 use Rattle.theorems.specs.Each.{EachBound}
-use Rattle.theorems.specs.Admitted.{IsAdmitted, IsAdmittedUnder, RowIsAdmitted, times_bound, IsBoundOnce, EachRowIsBoundOnce}
-use Rattle.theorems.proofs.Admitted.{bound_row}
+use Rattle.theorems.specs.Admitted.{IsAdmitted, IsAdmittedUnder, IsAdmittedUnless, RowIsAdmitted, times_bound, IsBoundOnce, EachRowIsBoundOnce}
+use Rattle.theorems.proofs.Admitted.{bound_row, bound_fresh}
+use Rattle.theorems.proofs.Resumed.{resumed_marked}
 use Rattle.theorems.proofs.Tests.{some_same, none_not_some}
 
 -- numbers of rows rise
@@ -100,15 +102,15 @@ new_once u b row is before =
     at_most : (n k : ℕ) → n ≡ k → k ≤ n
     at_most n k e = omega (arith, e)
 
-bound_once : (u : List Entry) (b : Binding) (row : Option RowNumber) → b.row ≡ row → IsAdmittedUnder u b row → EachRowIsBoundOnce u → Before u → EachRowIsBoundOnce (Bound b ∷ u)
-bound_once u b None its is all before n = rw its (record { once = plain (times_bound u n) (all n).once; known = λ h. none (times_bound u n) ((all n).known h) })
+bound_once : (u : List Entry) (b : Binding) (row : Option RowNumber) → b.taken_up ≡ false → b.row ≡ row → IsAdmittedUnder u b row → EachRowIsBoundOnce u → Before u → EachRowIsBoundOnce (Bound b ∷ u)
+bound_once u b None fresh its is all before n = rw (fresh, its) (record { once = plain (times_bound u n) (all n).once; known = λ h. none (times_bound u n) ((all n).known h) })
   where
     plain : (k : ℕ) → k ≤ 1 → k + 0 ≤ 1
     plain k h = omega (arith, h)
 
     none : (k : ℕ) → k ≡ 0 → k + 0 ≡ 0
     none k h = omega (arith, h)
-bound_once u b (Some row) its is all before n = by_test (row.0 == n) same apart
+bound_once u b (Some row) fresh its is all before n = by_test (row.0 == n) same apart
   where
     new : (times_bound u row.0 ≡ 0) × ((book_in u).next_row ≡ row.0 + 1)
     new = new_once u b row is before
@@ -117,7 +119,7 @@ bound_once u b (Some row) its is all before n = by_test (row.0 == n) same apart
     same e =
         let at : row.0 ≡ n = eqb-true row.0 n e in
         let none : times_bound u n ≡ 0 = ap (times_bound u) (sym at) ∙ new.0 in
-        record { once = rw (its, e) (one (times_bound u n) none); known = λ h. absurd (too_low (book_in u).next_row row.0 n new.1 at h) }
+        record { once = rw (fresh, its, e) (one (times_bound u n) none); known = λ h. absurd (too_low (book_in u).next_row row.0 n new.1 at h) }
       where
         one : (k : ℕ) → k ≡ 0 → k + 1 ≤ 1
         one k h = omega (arith, h)
@@ -126,13 +128,23 @@ bound_once u b (Some row) its is all before n = by_test (row.0 == n) same apart
         too_low next r n e f h = omega (arith, e, f, h)
 
     apart : (row.0 == n) ≡ false → IsBoundOnce (Bound b ∷ u) n
-    apart e = record { once = rw (its, e) (plain (times_bound u n) (all n).once); known = λ h. rw (its, e) (none (times_bound u n) ((all n).known h)) }
+    apart e = record { once = rw (fresh, its, e) (plain (times_bound u n) (all n).once); known = λ h. rw (fresh, its, e) (none (times_bound u n) ((all n).known h)) }
       where
         plain : (k : ℕ) → k ≤ 1 → k + 0 ≤ 1
         plain k h = omega (arith, h)
 
         none : (k : ℕ) → k ≡ 0 → k + 0 ≡ 0
         none k h = omega (arith, h)
+
+-- a row that is taken up was bound before
+taken_once : (u : List Entry) (b : Binding) → b.taken_up ≡ true → EachRowIsBoundOnce u → EachRowIsBoundOnce (Bound b ∷ u)
+taken_once u b marked all n = rw marked (record { once = plain (times_bound u n) (all n).once; known = λ h. none (times_bound u n) ((all n).known h) })
+  where
+    plain : (k : ℕ) → k ≤ 1 → k + 0 ≤ 1
+    plain k h = omega (arith, h)
+
+    none : (k : ℕ) → k ≡ 0 → k + 0 ≡ 0
+    none k h = omega (arith, h)
 
 batch_once : (acts : List Act) {full : List ℕ} (t : List Entry) → EachRowIsBoundOnce t → EachRowIsBoundOnce (Booked acts full ∷ t)
 batch_once acts t all n = record { once = (all n).once; known = λ h. (all n).known (below (rises acts (book_in t)) h) }
@@ -190,9 +202,14 @@ took_rows c k t was = record { admitted = was.admitted; once = λ n. record { on
 batch_rows : (t : List Entry) (acts : List Act) {full : List ℕ} → Rows t → Rows (Booked acts full ∷ t)
 batch_rows t acts was = record { admitted = was.admitted; once = batch_once acts t was.once; before = was.once }
 
-bound_rows : (u : List Entry) (b : Option Binding) → ((x : Binding) → b ≡ Some x → RowIsAdmitted u x) → Rows u → Rows (with_bound b u)
+bound_rows : (u : List Entry) (b : Option Binding) → ((x : Binding) → b ≡ Some x → (x.taken_up ≡ false) × IsAdmittedUnder u x x.row) → Rows u → Rows (with_bound b u)
 bound_rows u None is was = was
-bound_rows u (Some x) is was = record { admitted = (is x refl, was.admitted); once = bound_once u x x.row refl (is x refl) was.once was.before; before = tt }
+bound_rows u (Some x) is was =
+    let now = is x refl in
+    record { admitted = (subst (λ (up : Bool). IsAdmittedUnless up u x) (sym now.0) now.1, was.admitted); once = bound_once u x x.row now.0 refl now.1 was.once was.before; before = tt }
+
+taken_rows : (u : List Entry) (b : Binding) → b.taken_up ≡ true → Rows u → Rows (Bound b ∷ u)
+taken_rows u b marked was = record { admitted = (subst (λ (up : Bool). IsAdmittedUnless up u b) (sym marked) tt, was.admitted); once = taken_once u b marked was.once; before = tt }
 
 goes_rows : (ps : List Put) (t : List Entry) → Rows t → Rows (goes ps t)
 goes_rows [] t was = was
@@ -209,8 +226,9 @@ handled_rows id t s was =
     let at : List Entry = booked t s.event in
     let u : List Entry = heard id at s in
     let came : Rows u = ends_rows id (due t s.event) (Did s ∷ at) (did_rows s at (booked_keeps Rows t s.event (λ acts w. batch_rows t acts w) was)) in
-    let bound : Rows (with_bound (bound_by at u s.event) u) = bound_rows u (bound_by at u s.event) (λ x is. bound_row id t s.event x is) came in
-    all_keep Rows goes_rows (replied id at s) (goes_rows (own_row id at u s.event) (with_bound (bound_by at u s.event) u) bound)
+    let bound : Rows (with_bound (bound_by at u s.event) u) = bound_rows u (bound_by at u s.event) (λ x is. (bound_fresh id t s.event x is, bound_row id t s.event x is)) came in
+    all_keep Rows goes_rows (resumed at s.event (replied id at s))
+    (resumed_marked Rows taken_rows at s.event (replied id at s) (goes_rows (own_row id at u s.event) (with_bound (bound_by at u s.event) u) bound))
 
 pub moves_rows : (id : List ℕ) (ms : List Move) (t u : List Entry) → Rows t → Goes id ms t u → Rows u
 moves_rows id [] t u was went = subst (λ (w : List Entry). Rows w) (sym went) was

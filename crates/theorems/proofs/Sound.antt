@@ -1,5 +1,5 @@
 -- What the laws require of each entry, and that they still hold after an entry that satisfies it.
-use Rattle.std.proofs.Common.{◌≡◌, ℕ, Bool, true, false, List, [], ◌∷◌, ◌++◌}
+use Rattle.std.proofs.Common.{◌≡◌, sym, subst, ℕ, Bool, true, false, List, [], ◌∷◌, ◌++◌}
 use Rattle.std.specs.Prelude.{Option}
 use Rattle.amqp_model.specs.declared.perf.Disposition.{Disposition}
 use Rattle.amqp_model.specs.declared.perf.Perf.{Perf}
@@ -15,7 +15,7 @@ use Rattle.book_model.specs.declared.act.Act.{Act}
 use Rattle.router_trace.specs.Trace.{Entry, Put, Did, Out, Took, Bound, Booked, Step, goes, each_to}
 use Rattle.theorems.specs.Each.{EachOut, EachBound}
 use Rattle.theorems.specs.Carried.{CarriesWhatWasBound}
-use Rattle.theorems.specs.Came.{Handled, just_handled, BindsMessage}
+use Rattle.theorems.specs.Came.{Handled, just_handled, TakesUp, BindsAs, BindsOrTakesUp}
 use Rattle.theorems.specs.Told.{role_tells, TellsAsGiven}
 use Rattle.theorems.proofs.Tests.{none_not_some}
 use Rattle.theorems.proofs.Carrying.{Unstarted, did_unstarted, out_unstarted, bound_unstarted}
@@ -25,7 +25,7 @@ use Rattle.theorems.proofs.Carrying.{Unstarted, did_unstarted, out_unstarted, bo
 pub record Sound (t : List Entry) : Type 0 where
   pub carries : EachOut CarriesWhatWasBound t
   pub tells : EachOut TellsAsGiven t
-  pub binds : EachBound BindsMessage t
+  pub binds : EachBound BindsOrTakesUp t
   pub unstarted : Unstarted t
 
 none_yet : (g : Beginning) (below : List Entry) → Unstarted (opened g below)
@@ -50,8 +50,12 @@ took_sound c n t sound = record { carries = sound.carries; tells = sound.tells; 
 pub batch_sound : (t : List Entry) (acts : List Act) {full : List ℕ} → Sound t → Sound (Booked acts full ∷ t)
 batch_sound t acts sound = record { carries = sound.carries; tells = sound.tells; binds = sound.binds; unstarted = sound.unstarted }
 
-pub bound_sound : (b : Binding) (t : List Entry) → BindsMessage t b → Sound t → Sound (Bound b ∷ t)
+pub bound_sound : (b : Binding) (t : List Entry) → BindsOrTakesUp t b → Sound t → Sound (Bound b ∷ t)
 bound_sound b t is sound = record { carries = sound.carries; tells = sound.tells; binds = (is, sound.binds); unstarted = bound_unstarted t b sound.unstarted }
+
+-- a row that is taken up
+pub taken_sound : (t : List Entry) (b : Binding) → b.taken_up ≡ true → TakesUp t b → Sound t → Sound (Bound b ∷ t)
+taken_sound t b marked takes sound = bound_sound b t (subst (λ (up : Bool). BindsAs up t b) (sym marked) takes) sound
 
 -- an item that satisfies the laws
 

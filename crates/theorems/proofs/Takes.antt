@@ -1,7 +1,11 @@
 -- Takes make no difference: without them, a trace whose outboxes were never full is what its events alone make.
 use Rattle.std.proofs.Common.{◌≡◌, ◌∙◌, sym, ap, refl, subst, ℕ, false, List, [], ◌∷◌}
 use Rattle.std.specs.Prelude.{Option, Some, None}
+use Rattle.amqp_model.specs.declared.perf.Attach.{Attach as AnAttach}
+use Rattle.amqp_model.specs.declared.perf.Perf.{Perf}
+use Rattle.amqp_model.specs.declared.perf.Perf.TheVariants as perf
 use Rattle.amqp_model.specs.declared.item.Item.{Item}
+use Rattle.amqp_model.specs.declared.item.Item.TheVariants as item
 use Rattle.amqp_conn.specs.declared.conn.Conn.{Conn}
 use Rattle.router_trace.specs.Trace.{Beginning}
 use Rattle.router_trace.specs.Configuration.{beginning}
@@ -13,21 +17,25 @@ use Rattle.router_trace.specs.Connection.{conn, due, is_full, live}
 use Rattle.state_sessions.specs.Windows.{windows_over}
 use Rattle.state_messages.specs.Messages.{with_bound}
 use Rattle.router_state.specs.Tables.{beats_over}
+use Rattle.reply_rows.specs.declared.answer.Answer.{Answer}
+use Rattle.reply_rows.specs.declared.answer.Answer.TheVariants.{Nothing, Attach}
 use Rattle.reply_rows.specs.Rows.{down_reply}
 use Rattle.router_reply.specs.Replies.{ends, row_found, item_put, item_row, own_row, bound_for, item_bound, bound_by, replied_after}
 use Rattle.router_after.specs.After.{widened, followed}
-use Rattle.router_reply.specs.Acts.{journaled, booked, found_journal, full_at}
+use Rattle.router_reply.specs.Acts.{journaled, book_in, booked, found_journal, full_at, answer_by, answer_to_event}
+use Rattle.router_reply.specs.Resuming.{key_taken, key_by, key_in, resumed_key, rows_for, with_rows, resumed_by, resumed}
 use Rattle.router_core.specs.Replies.{answered, handled}
 use Rattle.core_machine.specs.Moves.{took_one}
 use Rattle.router_core.specs.Moves.{Goes, outs}
 use Rattle.core_machine.specs.Moves.{Move, handles, takes}
 use Rattle.theorems.specs.Takes.{untaken, events_of, NeverFull}
 use Rattle.router_core.proofs.Booking.{booked_keeps}
-use Rattle.theorems.proofs.Untaken.{untaken_goes, same_outs, same_beats, same_windows}
-use Rattle.theorems.proofs.UntakenPassed.{untaken_bound, same_passed}
-use Rattle.theorems.proofs.UntakenRows.{same_put, same_bound_for}
-use Rattle.theorems.proofs.UntakenActs.{plain_acts, plain_full_at, plain_answer_of, same_journaled, same_full, same_acts, same_answer}
+use Rattle.theorems.proofs.Untaken.{untaken_goes, same_outs, same_journaled, same_beats, same_windows}
+use Rattle.theorems.proofs.UntakenPassed.{untaken_bound, untaken_rows, same_passed}
+use Rattle.theorems.proofs.UntakenRows.{same_put, same_bound_for, same_consumer_key}
+use Rattle.theorems.proofs.UntakenActs.{plain_acts, plain_full_at, plain_answer_of, same_full, same_acts, same_answer}
 use Rattle.router_core.proofs.Following.{passed_on, each_keeps, all_keep}
+use Rattle.router_core.proofs.Resuming.{resumed_keeps}
 use Rattle.theorems.proofs.Plain.{plain, plain_live, Calm, calm_goes, none_due, same_live, stood_found, live_found}
 
 -- what an event finds after its acts is the same in a trace without its takes: the journal, the row that its acts admit, and whether the journal is full
@@ -64,8 +72,19 @@ plain_followed x = plain_widened (passed_on x)
 abbrev pub plain_replied : List ℕ → List Entry → Step → List Entry
 plain_replied id x s = goes (plain_row id x (Did s ∷ x) s.event) (with_bound (plain_bound x (Did s ∷ x) s.event) (Did s ∷ x))
 
+abbrev pub plain_answer_by : List Entry → ℕ → Item → Option Conn → Answer
+plain_answer_by x c i None = Nothing
+plain_answer_by x c i (Some p) = plain_answer_of x c p i
+
+abbrev pub plain_answer_to : List Entry → Event → Answer
+plain_answer_to x (event.Item c i) = plain_answer_by x c.0 i (plain x c.0)
+plain_answer_to x _ = Nothing
+
+abbrev pub plain_resumed : List Entry → Event → List Entry → List Entry
+plain_resumed x e y = resumed_by x e (plain_answer_to x e) y
+
 abbrev pub plain_answered : List ℕ → List Entry → Step → List Entry
-plain_answered id x s = plain_followed (plain_replied id x s)
+plain_answered id x s = plain_followed (plain_resumed x s.event (plain_replied id x s))
 
 abbrev pub plain_booked : List Entry → Event → List Entry
 plain_booked x e = Booked (plain_acts (journaled x) x e) [] ∷ x
@@ -107,6 +126,47 @@ same_bound t u (event.Tick ms) calm none same = refl
 same_bound t u (event.Up c p) calm none same = refl
 same_bound t u event.Start calm none same = refl
 
+-- the rows that its attach takes up
+
+same_answer_by : (t : List Entry) (c : ℕ) (i : Item) (v : Option Conn) → FindsAlike t (event.Item (record { 0 = c }) i) → answer_by t c i v ≡ plain_answer_by (untaken t) c i v
+same_answer_by t c i None same = refl
+same_answer_by t c i (Some p) same = same_answer t c p i same.journal same.full
+
+same_answer_to : (t : List Entry) (e : Event) → Calm t → due t e ≡ [] → FindsAlike t e → answer_to_event t e ≡ plain_answer_to (untaken t) e
+same_answer_to t (event.Item c i) calm none same =
+    ap (answer_by t c.0 i) (stood_found t (event.Item c i) calm none c.0) ∙ same_answer_by t c.0 i (plain (untaken t) c.0) same
+same_answer_to t (event.Down c) calm none same = refl
+same_answer_to t (event.Tick ms) calm none same = refl
+same_answer_to t (event.Up c p) calm none same = refl
+same_answer_to t event.Start calm none same = refl
+
+same_key_taken : (t : List Entry) (c : ℕ) (a : AnAttach) (y : Answer) → key_taken t c a y ≡ key_taken (untaken t) c a y
+same_key_taken t c a (Attach own) = same_consumer_key t c a
+same_key_taken t c a _ = refl
+
+same_key_by : (t : List Entry) (c : ℕ) (body : Perf) (y : Answer) → key_by t c body y ≡ key_by (untaken t) c body y
+same_key_by t c (perf.Attach a) y = same_key_taken t c a y
+same_key_by t c _ y = refl
+
+same_key_in : (t : List Entry) (c : ℕ) (i : Item) (y : Answer) → key_in t c i y ≡ key_in (untaken t) c i y
+same_key_in t c (item.Frame sasl channel body payload) y = same_key_by t c body y
+same_key_in t c _ y = refl
+
+same_resumed_key : (t : List Entry) (e : Event) (y : Answer) → resumed_key t e y ≡ resumed_key (untaken t) e y
+same_resumed_key t (event.Item c i) y = same_key_in t c.0 i y
+same_resumed_key t (event.Down c) y = refl
+same_resumed_key t (event.Tick ms) y = refl
+same_resumed_key t (event.Up c p) y = refl
+same_resumed_key t event.Start y = refl
+
+same_resumed : (t u : List Entry) (e : Event) → Calm t → due t e ≡ [] → FindsAlike t e → untaken (resumed t e u) ≡ plain_resumed (untaken t) e (untaken u)
+same_resumed t u e calm none same =
+    untaken_rows (resumed_key t e (answer_to_event t e)) (rows_for (book_in t) (resumed_key t e (answer_to_event t e))) u
+    ∙ (λ j. with_rows (key j) (rows_for (same_journaled t j).book (key j)) (untaken u))
+  where
+    key : resumed_key t e (answer_to_event t e) ≡ resumed_key (untaken t) e (plain_answer_to (untaken t) e)
+    key = ap (resumed_key t e) (same_answer_to t e calm none same) ∙ same_resumed_key t e (plain_answer_to (untaken t) e)
+
 same_widened : (t : List Entry) → Calm t → untaken (widened t) ≡ plain_widened (untaken t)
 same_widened t calm =
     untaken_goes (windows_over t (live t)) t
@@ -132,13 +192,16 @@ same_answered id t s calm roomy same =
     in let row : List Put = own_row id t u s.event
     in let behind : List Entry = goes row (with_bound bound u)
     in let calm_row : Calm behind = calm_goes row (with_bound bound u) (calm_bound bound u (roomy, calm))
-    in let both : Calm (followed behind) × (untaken (followed behind) ≡ plain_answered id (untaken t) s) = (
-      all_keep Calm calm_goes behind calm_row,
-      same_followed behind calm_row
-          ∙ ap plain_followed (untaken_goes row (with_bound bound u)
-          ∙ (λ j. goes (same_row id t u s.event calm none same j) ((untaken_bound bound u ∙ ap (λ (b : Option Binding). with_bound b (untaken u)) (same_bound t u s.event calm none same)) j))),
+    in let bound_rows : List Entry = resumed t s.event behind
+    in let calm_rows : Calm bound_rows = resumed_keeps Calm (λ b v calm. calm) t s.event behind calm_row
+    in let both : Calm (followed bound_rows) × (untaken (followed bound_rows) ≡ plain_answered id (untaken t) s) = (
+      all_keep Calm calm_goes bound_rows calm_rows,
+      same_followed bound_rows calm_rows
+          ∙ ap plain_followed (same_resumed t behind s.event calm none same
+          ∙ ap (plain_resumed (untaken t) s.event) (untaken_goes row (with_bound bound u)
+          ∙ (λ j. goes (same_row id t u s.event calm none same j) ((untaken_bound bound u ∙ ap (λ (b : Option Binding). with_bound b (untaken u)) (same_bound t u s.event calm none same)) j)))),
     )
-    in subst (λ (x : List Entry). Calm (followed (replied_after id t x s.event)) × (untaken (followed (replied_after id t x s.event)) ≡ plain_answered id (untaken t) s))
+    in subst (λ (x : List Entry). Calm (followed (resumed t s.event (replied_after id t x s.event))) × (untaken (followed (resumed t s.event (replied_after id t x s.event))) ≡ plain_answered id (untaken t) s))
     (sym (ap (λ (ks : List ℕ). ends id ks (Did s ∷ t)) none)) both
 
 -- an event with its acts

@@ -11,6 +11,7 @@ use Rattle.router_trace.specs.Sessions.{unless_close, offered, offered_at, answe
 use Rattle.state_sessions.specs.Windows.{flows_below, windows_over}
 use Rattle.router_state.specs.Tables.{beat_if, beats_over}
 use Rattle.reply_rows.specs.Finding.{free_for}
+use Rattle.router_reply.specs.Acts.{Journaled, with_acts, journaled}
 use Rattle.router_core.specs.Moves.{outs}
 use Rattle.theorems.specs.Takes.{untaken}
 
@@ -101,6 +102,16 @@ same_session (Took d n ∷ t) c o = same_session t c o
 same_session (Bound b ∷ t) c o = same_session t c o
 same_session (Booked acts full ∷ t) c o = same_session t c o
 same_session (Began g ∷ t) c o = refl
+
+-- the journal
+pub same_journaled : (t : List Entry) → journaled t ≡ journaled (untaken t)
+same_journaled [] = refl
+same_journaled (Did s ∷ t) = same_journaled t
+same_journaled (Out d i ∷ t) = same_journaled t
+same_journaled (Took d n ∷ t) = same_journaled t
+same_journaled (Bound b ∷ t) = same_journaled t
+same_journaled (Booked acts full ∷ t) = ap (λ (j : Journaled). with_acts j acts) (same_journaled t)
+same_journaled (Began g ∷ t) = refl
 
 -- what rows need of them
 

@@ -29,7 +29,7 @@ use Rattle.journal_store.specs.Store.{exceeds}
 use Rattle.router_trace.specs.declared.event.Event.{Event}
 use Rattle.router_trace.specs.declared.event.Event.TheVariants as event
 use Rattle.router_trace.specs.declared.handle.Attachment.{Attachment}
-use Rattle.router_trace.specs.Trace.{Entry, Did, Out, Took, Bound, Booked, Began, did}
+use Rattle.router_trace.specs.Trace.{Entry, Booked, did}
 use Rattle.router_trace.specs.Connection.{due}
 use Rattle.router_trace.specs.Deliveries.{last_of, none_if_ended}
 use Rattle.router_trace.specs.LinkFrames.{plain_answer}
@@ -46,10 +46,10 @@ use Rattle.reply_rows.specs.declared.answer.Answer.TheVariants.{Nothing, Attach,
 use Rattle.reply_rows.specs.Booking.{wants_durable, answer_at}
 use Rattle.router_reply.specs.Admitting.{without_acts, terminus_for, admission_of, admitted_to, whole_admission, part_admission, taken_admission, unless_ends, event_admission, admits}
 use Rattle.router_reply.specs.Deciding.{lost, stolen_from, stolen_for, ended_by, listed, event_changes, as_kept, decided, settled_on, sent_from, closed_terminus, resumed_terminus, forgotten_by, forgotten_in, forgotten, made_for, terminus_by, terminus_in, terminus_of_event}
-use Rattle.router_reply.specs.Acts.{Journaled, live_answer, event_answer, answer_acts, planned_acts, admitted_acts, or_admits, event_acts, finds_full, with_acts, journaled, book_in, acts_of, before_acts, found_journal, full_at, answer_of}
+use Rattle.router_reply.specs.Acts.{Journaled, live_answer, event_answer, answer_acts, planned_acts, admitted_acts, or_admits, event_acts, finds_full, journaled, book_in, acts_of, before_acts, found_journal, full_at, answer_of}
 use Rattle.theorems.specs.Takes.{untaken}
 use Rattle.theorems.proofs.Plain.{plain, Calm, stood_found}
-use Rattle.theorems.proofs.Untaken.{same_theirs}
+use Rattle.theorems.proofs.Untaken.{same_theirs, same_journaled}
 use Rattle.theorems.proofs.UntakenDeliveries.{same_bindings, same_delivery}
 use Rattle.theorems.proofs.UntakenLinks.{same_key_at, same_link, same_link_place, same_holder}
 use Rattle.theorems.proofs.UntakenRows.{same_answer_at, same_consumer_at, same_claimed_id}
@@ -285,15 +285,6 @@ same_admitted false b t e calm none = ap (admits b) (same_admission b t e calm n
 
 pub same_event_acts : (full : Bool) (b : BookView) (t : List Entry) (e : Event) → Calm t → due t e ≡ [] → event_acts full b t e ≡ plain_event_acts full b (untaken t) e
 same_event_acts full b t e calm none = λ j. or_admits (same_planned full b t e calm none j) (same_admitted full b t e calm none j)
-
-pub same_journaled : (t : List Entry) → journaled t ≡ journaled (untaken t)
-same_journaled [] = refl
-same_journaled (Did s ∷ t) = same_journaled t
-same_journaled (Out d i ∷ t) = same_journaled t
-same_journaled (Took d n ∷ t) = same_journaled t
-same_journaled (Bound b ∷ t) = same_journaled t
-same_journaled (Booked acts full ∷ t) = ap (λ (j : Journaled). with_acts j acts) (same_journaled t)
-same_journaled (Began g ∷ t) = refl
 
 pub same_full : (t : List Entry) (e : Event) → Calm t → due t e ≡ [] → finds_full (journaled t) t e ≡ plain_full (journaled (untaken t)) (untaken t) e
 same_full t e calm none =

@@ -7,7 +7,7 @@ use Rattle.router_trace.specs.declared.binding.Origin.{Origin}
 use Rattle.router_trace.specs.declared.handle.Attachment.{Attachment}
 use Rattle.router_trace.specs.Trace.{Entry, Did, Out, Took, Bound, Booked, Began}
 use Rattle.router_trace.specs.Links.{is_lost, has_number, attachments, newest_by, numbered}
-use Rattle.router_trace.specs.Deliveries.{Delivery, none_if_ended, ended_first, channels_found, bindings, counters, name_of, name_in, same_name, number_named, unless_called, delivery, bound, unless_over, after_event, after_put, sending_by, sending, named_by, named, next_id_by, next_id, stands_on}
+use Rattle.router_trace.specs.Deliveries.{Delivery, none_if_ended, ended_first, channels_found, bindings, counters, name_of, name_in, same_name, number_named, unless_called, delivery, bound, called, unless_over, after_event, after_put, sending_by, sending, named_by, named, next_id_by, next_id, stands_on}
 use Rattle.router_trace.specs.DeliveryFrames.{next_frame, largest_out, rest_of, first_transfer, later_transfer}
 use Rattle.router_trace.specs.Claims.{Claim, bind_claim, claim_at, claim_after, claims}
 use Rattle.router_trace.specs.Numbers.{Placed, first_below, first_placed}
@@ -96,6 +96,9 @@ same_delivery (Took c k ∷ t) n = same_delivery t n
 same_delivery (Bound b ∷ t) n = λ j. if same_bindings t j + 1 == n then Some (bound (same_name_in t b j) b) else unless_called (same_name_in t b j) (same_delivery t n j)
 same_delivery (Booked acts full ∷ t) n = same_delivery t n
 same_delivery (Began g ∷ t) n = refl
+
+pub same_called : (t : List Entry) (name : DeliveryName) → called t name ≡ called (untaken t) name
+same_called t name = λ j. option_and_then (λ n. same_delivery t n j) (same_numbers t name j)
 
 pub same_claims : (t : List Entry) (c o id : ℕ) → claims t c o id ≡ claims (untaken t) c o id
 same_claims [] c o id = refl

@@ -2,12 +2,14 @@
 use Rattle.std.proofs.Common.{◌≡◌, ◌∙◌, ap, refl, ℕ, ◌+◌, List, [], ◌∷◌, ◌==◌}
 use Rattle.std.specs.Prelude.{Option, Some, None, is_some, option_map, unwrap_or, if◌then◌else◌}
 use Rattle.amqp_model.specs.declared.perf.Attach.{Attach as AnAttach}
+use Rattle.book_model.specs.declared.terminus.LinkKey.{LinkKey}
 use Rattle.router_trace.specs.declared.handle.Asked.{Asked}
 use Rattle.router_trace.specs.declared.handle.Attachment.{Attachment}
 use Rattle.router_trace.specs.Trace.{Entry, Did, Out, Took, Bound, Booked, Began}
 use Rattle.router_trace.specs.Links.{Link, durable_key, is_durable_at, holds_durable, asked, asked_at, is_lost, answers_by, answered_handle, their_handle_at, their_handle_after, their_handle, is_taken, attachments, key_of, key_at, link_at, link_after, link, has_number, if_attached, same_key, newest_by, last_of_key, holder, link_place_by, link_place, handle_max_at, told_handle_max, most_after, highest_handle, is_free_handle, first_free_below, free_handle}
 use Rattle.router_trace.specs.Peers.{user_at, user, container_at, Container, container, largest_frame}
 use Rattle.router_trace.specs.Sessions.{unless_close}
+use Rattle.state_messages.specs.Asking.{is_consumer, if_consumer, consumer_with}
 use Rattle.theorems.specs.Takes.{untaken}
 use Rattle.theorems.proofs.Untaken.{same_theirs}
 
@@ -115,24 +117,33 @@ same_link_place t c o p = λ j. link_place_by (same_handle t c o p j) (λ h. sam
 
 -- the last attachment with a key, and the link that has the key
 
-same_last : (u : List Entry) (e : ℕ) (b : AnAttach) (t : List Entry) → last_of_key t (key_at u e b) ≡ last_of_key (untaken t) (key_at u e b)
-same_last u e b [] = refl
-same_last u e b (Did s ∷ t) = same_last u e b t
-same_last u e b (Out d i ∷ t) =
-    λ j. newest_by i d (same_attachments t j + 1) (λ a. same_key (same_key_at t d a j) (key_at u e b)) (same_last u e b t j)
-same_last u e b (Took d n ∷ t) = same_last u e b t
-same_last u e b (Bound x ∷ t) = same_last u e b t
-same_last u e b (Booked acts full ∷ t) = same_last u e b t
-same_last u e b (Began g ∷ t) = refl
+same_last : (k : LinkKey) (t : List Entry) → last_of_key t k ≡ last_of_key (untaken t) k
+same_last k [] = refl
+same_last k (Did s ∷ t) = same_last k t
+same_last k (Out d i ∷ t) = λ j. newest_by i d (same_attachments t j + 1) (λ a. same_key (same_key_at t d a j) k) (same_last k t j)
+same_last k (Took d n ∷ t) = same_last k t
+same_last k (Bound x ∷ t) = same_last k t
+same_last k (Booked acts full ∷ t) = same_last k t
+same_last k (Began g ∷ t) = refl
 
 same_attached : (t : List Entry) (v : Option Attachment) → if_attached t v ≡ if_attached (untaken t) v
 same_attached t None = refl
 same_attached t (Some a) = λ j. if has_number a.number (same_link t a.conn.0 a.channel a.handle j) then Some a else None
 
+pub same_held : (t : List Entry) (k : LinkKey) → holder t k ≡ holder (untaken t) k
+same_held t k = same_attached t (last_of_key t k) ∙ ap (if_attached (untaken t)) (same_last k t)
+
 pub same_holder : (t : List Entry) (c : ℕ) (a : AnAttach) → holder t (key_at t c a) ≡ holder (untaken t) (key_at (untaken t) c a)
-same_holder t c a =
-    same_attached t (last_of_key t (key_at t c a))
-    ∙ ap (if_attached (untaken t)) (same_last t c a t ∙ ap (last_of_key (untaken t)) (same_key_at t c a))
+same_holder t c a = same_held t (key_at t c a) ∙ ap (holder (untaken t)) (same_key_at t c a)
+
+-- the consumer that has a key
+
+same_if_consumer : (t : List Entry) (v : Option Attachment) → if_consumer t v ≡ if_consumer (untaken t) v
+same_if_consumer t None = refl
+same_if_consumer t (Some a) = λ j. if is_consumer (same_link t a.conn.0 a.channel a.handle j) then Some a else None
+
+pub same_consumer_with : (t : List Entry) (k : LinkKey) → consumer_with t k ≡ consumer_with (untaken t) k
+same_consumer_with t k = same_if_consumer t (holder t k) ∙ ap (if_consumer (untaken t)) (same_held t k)
 
 -- durable links
 same_durable_at : (t : List Entry) (x : Option Attachment) → is_durable_at t x ≡ is_durable_at (untaken t) x

@@ -1,20 +1,57 @@
 -- What takes don't change: what follows an event's rows is the same in a trace without its takes.
-use Rattle.std.proofs.Common.{◌≡◌, ◌∙◌, ap, refl, List}
+use Rattle.std.proofs.Common.{◌≡◌, ◌∙◌, ap, refl, ℕ, true, List, [], ◌∷◌}
 use Rattle.std.specs.Prelude.{Option, Some, None}
+use Rattle.book_model.specs.declared.row.RowNumber.{RowNumber}
+use Rattle.book_model.specs.declared.terminus.LinkKey.{LinkKey}
 use Rattle.router_trace.specs.declared.binding.Binding.{Binding}
-use Rattle.router_trace.specs.Trace.{Entry, Put, goes}
+use Rattle.router_trace.specs.declared.binding.DeliveryName.TheVariants.{Row}
+use Rattle.router_trace.specs.declared.handle.Attachment.{Attachment}
+use Rattle.router_trace.specs.Trace.{Entry, Bound, Put, goes}
+use Rattle.router_trace.specs.Deliveries.{origin_in}
 use Rattle.router_trace.specs.Following.{tells, sends_due, drains_due}
-use Rattle.state_messages.specs.Messages.{grants_due, with_bound}
+use Rattle.state_messages.specs.Asking.{consumer_with}
+use Rattle.state_messages.specs.Messages.{grants_due, taken_up_by, with_bound}
 use Rattle.router_after.specs.After.{told, sent, drained}
+use Rattle.router_reply.specs.declared.resuming.WaitingRow.{WaitingRow}
+use Rattle.router_reply.specs.Resuming.{bound_to, bound_if, with_rows}
 use Rattle.theorems.specs.Takes.{untaken}
 use Rattle.router_core.proofs.Following.{due_alike, passed_on}
 use Rattle.theorems.proofs.Untaken.{untaken_goes}
-use Rattle.theorems.proofs.UntakenDeliveries.{same_tells, same_sends, same_drains}
+use Rattle.theorems.proofs.UntakenDeliveries.{same_called, same_tells, same_sends, same_drains}
 use Rattle.theorems.proofs.UntakenGrants.{same_grants}
+use Rattle.theorems.proofs.UntakenLinks.{same_consumer_with}
+use Rattle.theorems.proofs.UntakenRows.{same_lasts}
 
 pub untaken_bound : (b : Option Binding) (t : List Entry) → untaken (with_bound b t) ≡ with_bound b (untaken t)
 untaken_bound None t = refl
 untaken_bound (Some b) t = refl
+
+-- the rows that are taken up
+
+same_taken_up : (t : List Entry) (row : RowNumber) (format : ℕ) (payload : List ℕ) (at : Attachment) → taken_up_by t row format payload at ≡ taken_up_by (untaken t) row format payload at
+same_taken_up t row format payload at = λ j. record {
+  consumer = at;
+  origin = origin_in (same_called t (Row row) j);
+  row = Some row;
+  lasting = same_lasts t at j;
+  format = format;
+  payload = payload;
+  taken_up = true;
+}
+
+untaken_bound_to : (at : Attachment) (rs : List WaitingRow) (t u : List Entry) → untaken t ≡ u → untaken (bound_to at rs t) ≡ bound_to at rs u
+untaken_bound_to at [] t u e = e
+untaken_bound_to at (r ∷ rs) t u e =
+    untaken_bound_to at rs (Bound (taken_up_by t r.number r.format r.payload at) ∷ t) (Bound (taken_up_by u r.number r.format r.payload at) ∷ u)
+    (λ j. Bound ((same_taken_up t r.number r.format r.payload at ∙ ap (λ (v : List Entry). taken_up_by v r.number r.format r.payload at) e) j) ∷ e j)
+
+untaken_if : (at : Option Attachment) (rs : List WaitingRow) (t : List Entry) → untaken (bound_if at rs t) ≡ bound_if at rs (untaken t)
+untaken_if None rs t = refl
+untaken_if (Some at) rs t = untaken_bound_to at rs t (untaken t) refl
+
+pub untaken_rows : (k : Option LinkKey) (rs : List WaitingRow) (t : List Entry) → untaken (with_rows k rs t) ≡ with_rows k rs (untaken t)
+untaken_rows None rs t = refl
+untaken_rows (Some k) rs t = untaken_if (consumer_with t k) rs t ∙ ap (λ (at : Option Attachment). bound_if at rs (untaken t)) (same_consumer_with t k)
 
 abbrev IsUntaken : List Entry → List Entry → Type 0
 IsUntaken t u = untaken t ≡ u

@@ -3,6 +3,7 @@
 use Rattle.std.proofs.Common.{◌≡◌, ◌∙◌, ap, refl, ℕ, ◌^◌, Bool, true, false, List, [], ◌∷◌, ◌++◌}
 use Rattle.std.specs.Prelude.{Option, Some, None, ◌&&◌, ◌||◌, not, is_some, is_none, nat_lt, filter, option_map, option_and_then, unwrap_or, if◌then◌else◌}
 use Rattle.amqp_model.specs.declared.perf.Attach.{Attach as AnAttach}
+use Rattle.amqp_model.specs.declared.state.UnsettledDelivery.{UnsettledDelivery}
 use Rattle.amqp_model.specs.declared.perf.Disposition.{Disposition as ADisposition}
 use Rattle.amqp_model.specs.declared.perf.Perf.{Perf}
 use Rattle.amqp_model.specs.declared.perf.Perf.TheVariants as perf
@@ -37,9 +38,10 @@ use Rattle.reply_rows.specs.Rows.{Finds, said, item_reply}
 use Rattle.reply_rows.specs.Finding.{finds}
 use Rattle.reply_rows.specs.Booking.{wants_durable, wanted_address, new_terminus, has_room, durable_refusal, book_refusal, booked_attach, stands_from, repeats, booked_transfer, booked, answer_at}
 use Rattle.reply_transfers.specs.Transfers.{claimed_id, settled_answers, from_link, origin_of, lasts_on, may_pass, consumer_for, fresh_bound, whole_bound, let_go, unless_many, ignored_put, released_by, released, unbound_put, whole_put, part_put, part_bound}
-use Rattle.router_reply.specs.Replies.{stolen_by, attach_answer, taken_after, taken, refused, row_found, bound_for, links_put, item_put}
+use Rattle.router_reply.specs.Resuming.{receives, consumer_key, rows_for, map_of}
+use Rattle.router_reply.specs.Replies.{map_for, stolen_by, attach_answer, taken_after, taken, refused, row_found, bound_for, links_put, item_put}
 use Rattle.theorems.specs.Takes.{untaken}
-use Rattle.theorems.proofs.Untaken.{untaken_goes, same_place, same_free}
+use Rattle.theorems.proofs.Untaken.{untaken_goes, same_journaled, same_place, same_free}
 use Rattle.theorems.proofs.UntakenDeliveries.{same_named, same_delivery, same_claims, same_numbered}
 use Rattle.theorems.proofs.UntakenGrants.{same_distribution, same_choice}
 use Rattle.theorems.proofs.UntakenLinks.{same_key_at, same_largest, same_free_handle, same_link, same_link_place, same_holder}
@@ -90,16 +92,25 @@ same_answer_at full b t c p i =
 
 -- an attach
 
-same_taken_after : (t : List Entry) (c own : ℕ) (a : AnAttach) (stolen : List Put) → taken_after t c own a stolen ≡ taken_after (untaken t) c own a stolen
-same_taken_after t c own a stolen = λ j. stolen ++ each_to c (attach_answer (same_largest t c j) own (behind j) a)
+same_taken_after : (t : List Entry) (c own : ℕ) (ours : List UnsettledDelivery) (a : AnAttach) (stolen : List Put)
+    → taken_after t c own ours a stolen ≡ taken_after (untaken t) c own ours a stolen
+same_taken_after t c own ours a stolen = λ j. stolen ++ each_to c (attach_answer (same_largest t c j) own (behind j) ours a)
   where
     behind : free_handle (goes stolen t) c own ≡ free_handle (goes stolen (untaken t)) c own
     behind = same_free_handle (goes stolen t) c own ∙ ap (λ (u : List Entry). free_handle u c own) (untaken_goes stolen t)
 
-same_taken : (t : List Entry) (c own : ℕ) (a : AnAttach) → taken t c own a ≡ taken (untaken t) c own a
-same_taken t c own a =
-    same_taken_after t c own a (stolen_by (holder t (key_at t c (answer_to a 0))))
-    ∙ ap (λ (x : Option Attachment). taken_after (untaken t) c own a (stolen_by x)) (same_holder t c (answer_to a 0))
+same_taken : (t : List Entry) (c own : ℕ) (ours : List UnsettledDelivery) (a : AnAttach) → taken t c own ours a ≡ taken (untaken t) c own ours a
+same_taken t c own ours a =
+    same_taken_after t c own ours a (stolen_by (holder t (key_at t c (answer_to a 0))))
+    ∙ ap (λ (x : Option Attachment). taken_after (untaken t) c own ours a (stolen_by x)) (same_holder t c (answer_to a 0))
+
+-- the rows that it takes up
+
+pub same_consumer_key : (t : List Entry) (c : ℕ) (a : AnAttach) → consumer_key t c a ≡ consumer_key (untaken t) c a
+same_consumer_key t c a = λ j. if wants_durable a && receives a.role then Some (same_key_at t c (plain_answer a 0) j) else None
+
+same_map : (t : List Entry) (c own : ℕ) (a : AnAttach) → map_for t c a (Attach own) ≡ map_for (untaken t) c a (Attach own)
+same_map t c own a = λ j. map_of (rows_for (same_journaled t j).book (same_consumer_key t c a j))
 
 -- a whole delivery
 
@@ -157,13 +168,13 @@ same_part_put t c own handle row (Some (part.Whole d payload)) = same_whole_put 
 same_part_put t c own handle row (Some part.TooLarge) = same_let_go t c own handle MessageSizeExceeded
 same_part_put t c own handle row _ = refl
 
-same_lasts : (t : List Entry) (at : Attachment) → lasts t at ≡ lasts (untaken t) at
+pub same_lasts : (t : List Entry) (at : Attachment) → lasts t at ≡ lasts (untaken t) at
 same_lasts t at = ap (λ (l : Option Link). is_some (durable_key l)) (same_link t at.conn.0 at.channel at.handle)
 
 same_binding : (t : List Entry) (origin : Option Origin) (row : Option RowNumber) (format : ℕ) (payload : List ℕ) (at : Attachment)
     → binding_to t origin row format payload at ≡ binding_to (untaken t) origin row format payload at
 same_binding t origin row format payload at =
-    λ j. record { consumer = at; origin = origin; row = row; lasting = same_lasts t at j; format = format; payload = payload }
+    λ j. record { consumer = at; origin = origin; row = row; lasting = same_lasts t at j; format = format; payload = payload; taken_up = false }
 
 same_binding_for : (t : List Entry) (from : Attachment) (origin : Option Origin) (row : Option RowNumber) (format : ℕ) (payload : List ℕ)
     → binding_for t from origin row format payload ≡ binding_for (untaken t) from origin row format payload
@@ -209,7 +220,8 @@ same_links t u c (item.Frame sasl channel body payload) a rows = by_perf body a
   where
     by_attach : (x : AnAttach) (a : Answer)
         → links_put t u c (item.Frame sasl channel (perf.Attach x) payload) a ≡ links_put (untaken t) (untaken u) c (item.Frame sasl channel (perf.Attach x) payload) a
-    by_attach x (Attach own) = same_taken u c own x
+    by_attach x (Attach own) =
+        (λ j. taken u c own (same_map t c own x j) x) ∙ same_taken u c own (map_for (untaken t) c x (Attach own)) x
     by_attach x (Refuse own handle e) = ap (λ (n : ℕ). each_to c (refused n own handle e x)) (same_largest u c)
     by_attach x _ = refl
 

@@ -47,8 +47,12 @@ IsAdmittedUnder t b None = Unit {0}
 IsAdmittedUnder t b (Some row) = IsAdmitted t b row
 
 -- a row that is taken up again was admitted before (`TakesUp`)
+abbrev pub IsAdmittedUnless : Bool → Trace → Binding → Type 0
+IsAdmittedUnless true t b = Unit {0}
+IsAdmittedUnless false t b = IsAdmittedUnder t b b.row
+
 abbrev pub RowIsAdmitted : Trace → Binding → Type 0
-RowIsAdmitted t b = if b.taken_up then Unit {0} else IsAdmittedUnder t b b.row
+RowIsAdmitted t b = IsAdmittedUnless b.taken_up t b
 
 -- how often the row with a number was bound, but for the times when it was taken up again
 abbrev pub is_row : Option RowNumber → ℕ → Bool

@@ -1,6 +1,6 @@
 -- Messages received (AMQP 1.0 part 2, sections 2.6.14 and 2.7.5): a producer's delivery is complete with the frame that says that no more
 -- are to come.
-use Rattle.std.specs.Prelude.{◌≡◌, ℕ, ◌+◌, Bool, true, false, if◌then◌else◌, is_some, List, [], ◌∷◌, ◌++◌, Option, Some, None, unwrap_or}
+use Rattle.std.specs.Prelude.{◌≡◌, ℕ, ◌+◌, Bool, true, false, is_some, List, [], ◌∷◌, ◌++◌, Option, Some, None, unwrap_or}
 use Rattle.amqp_model.specs.declared.perf.Perf.TheVariants as perf
 use Rattle.amqp_model.specs.declared.perf.Transfer.{Transfer}
 use Rattle.amqp_model.specs.declared.item.Item.TheVariants as item
@@ -107,8 +107,8 @@ pub record BindsMessage (t : Trace) (b : Binding) : Type 0 where
   pub has_row : HasRowOn (lasts_on (Some producer)) b.origin b.row
   pub lasting : b.lasting ≡ lasts t b.consumer
 
--- A row is bound again when a consumer's durable link takes it up: the book has it, undecided, for the terminus of that link. It is bound as the book has
--- it, and its producer's delivery is that of the delivery which it had until then.
+-- A row is bound again when a consumer's durable link takes it up: the book has it, undecided, for the terminus of that
+-- link. It is bound as the book has it, and its producer's delivery is that of the delivery which it had until then.
 pub record TakesUp (t : Trace) (b : Binding) : Type 0 where
   pub row : ARow
   pub number : b.row ≡ Some row.number
@@ -127,8 +127,12 @@ pub record TakesUp (t : Trace) (b : Binding) : Type 0 where
   pub lasting : b.lasting ≡ lasts t b.consumer
 
 -- What is bound is a message, or a row that is taken up again.
+abbrev pub BindsAs : Bool → Trace → Binding → Type 0
+BindsAs true t b = TakesUp t b
+BindsAs false t b = BindsMessage t b
+
 abbrev pub BindsOrTakesUp : Trace → Binding → Type 0
-BindsOrTakesUp t b = if b.taken_up then TakesUp t b else BindsMessage t b
+BindsOrTakesUp t b = BindsAs b.taken_up t b
 
 -- So each delivery is of a message that was received completely and was bound, or of a row that was taken up.
 pub record CameAndWasBound (u : Trace) (n : ℕ) (d : Delivery) : Type 0 where

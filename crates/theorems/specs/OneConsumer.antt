@@ -10,9 +10,9 @@ use Rattle.router_trace.specs.Deliveries.{Delivery, has_row, bindings, name_in, 
 abbrev pub IsOrNone : Option Origin → Option Origin → Type 0
 IsOrNone origin from = (origin ≡ from) ⊎ (origin ≡ None)
 
--- A delivery is of a message: it goes to the link of the consumer that the message was bound to, with the payload received, and it has no other
--- origin. It is presettled exactly if the message has no origin and isn't a row that is taken up again, and outlives its consumer's connection exactly if it has a row and the consumer's link
--- is durable.
+-- A delivery is of a message: it goes to the link of the consumer that the message was bound to, with the payload
+-- received, and it has no other origin. It is presettled exactly if the message has no origin and isn't a row that is
+-- taken up again, and outlives its consumer's connection exactly if it has a row and the consumer's link is durable.
 pub record IsOf (b : Binding) (d : Delivery) : Type 0 where
   pub consumer : d.link ≡ b.consumer
   pub payload : d.payload ≡ b.payload

@@ -39,7 +39,7 @@ ADeliveryHasOneConsumer = StaysWithConsumer × NeverComesBack × OfMessages
 abbrev pub FramesCarryWhatWasBound : Type 0
 FramesCarryWhatWasBound = Always (EachOut CarriesWhatWasBound) × Always FramesJoin
 
--- A message is bound when it has come whole, as it came, and only once, but that its row may be taken up again.
+-- A message is bound when it has come whole, as it came, and only once, except that its row may be taken up again.
 abbrev pub MessagesAreBoundOnce : Type 0
 MessagesAreBoundOnce = Always (EachBound BindsOrTakesUp) × Always EachDeliveryCame
 
@@ -67,7 +67,7 @@ TheLockKeepsThem d =
 abbrev pub DurableLinksAreKeptFirst : Type 0
 DurableLinksAreKeptFirst = Always (EachOut IsKeptFirst)
 
--- A durable message is in the book, whole, before it is bound; each row is bound at most once, and each new one is.
+-- A durable message is in the book, whole, before it is bound; each row is bound once, except where it is taken up again.
 abbrev pub DurableMessagesAreKeptFirst : Type 0
 DurableMessagesAreKeptFirst = Always (EachBound RowIsAdmitted) × Always EachRowIsBoundOnce × AlwaysFrom EachNewRowIsBound
 

@@ -76,8 +76,10 @@ pub fn frames_carry_what_was_bound()
 
 /// In every trace of the router a message is bound when it is complete: the last frame of its delivery has just been
 /// received. What is bound is what its frames carried, and it is bound once, with the row that the acts of that event
-/// admit; on a durable link it has one, unless its producer has settled it. So each delivery is of such a message
-/// (AMQP 1.0 part 2, sections 2.6.14 and 2.7.5). Lists of events have such traces.
+/// admit; on a durable link it has one, unless its producer has settled it. Only a row that a consumer's durable link
+/// takes up again is bound once more: the book has it, undecided, for that link, and it is bound as the book has it,
+/// to that link. So each delivery is of such a message, or of such a row (AMQP 1.0 part 2, sections 2.6.13, 2.6.14 and
+/// 2.7.5). Lists of events have such traces.
 pub fn messages_are_bound_once()
     ensures { MessagesAreBoundOnce }
 {}
@@ -126,9 +128,9 @@ pub fn durable_links_are_kept_first()
 /// In every trace of the router a message that has a row is bound once the book has admitted it: before the event
 /// that completed it stands one act, the admission of that message under a new row, from the terminus of its
 /// producer's durable link. `Core::handle` has the acts on the disk before it puts anything out, so no consumer gets
-/// a durable message that a crash could lose. Each row is bound at most once, and each that the book gave since the
-/// router was opened is bound (AMQP 1.0 part 2, section 2.6.12, and part 3, sections 3.5.3 to 3.5.5). Lists of events
-/// have such traces.
+/// a durable message that a crash could lose. Each row is bound at most once, but for the times when its consumer's
+/// link takes it up again, and each that the book gave since the router was opened is bound (AMQP 1.0 part 2, section
+/// 2.6.12, and part 3, sections 3.5.3 to 3.5.5). Lists of events have such traces.
 pub fn durable_messages_are_kept_first()
     ensures { DurableMessagesAreKeptFirst }
 {}

@@ -1,5 +1,5 @@
 use Rattle.theorems.specs.Each.{EachBound}
-use Rattle.theorems.specs.Came.{BindsMessage, EachDeliveryCame}
+use Rattle.theorems.specs.Came.{BindsOrTakesUp, EachDeliveryCame}
 use Rattle.theorems.proofs.Always.{holds_always}
 use Rattle.theorems.proofs.AllSound.{trace_sound, all_came}
 use Rattle.theorems.proofs.Lives.{lives_sound}
@@ -7,6 +7,6 @@ use Rattle.theorems.proofs.theorems.messages_are_bound_once.Goals as goal
 
 pub returns : goal.returns
 returns c = (
-  holds_always (EachBound BindsMessage) (λ id g u trace. (trace_sound id g u trace).binds) (λ id lives u all. (lives_sound id lives u all).binds),
+  holds_always (EachBound BindsOrTakesUp) (λ id g u trace. (trace_sound id g u trace).binds) (λ id lives u all. (lives_sound id lives u all).binds),
   holds_always EachDeliveryCame (λ id g u trace. all_came u (trace_sound id g u trace).binds) (λ id lives u all. all_came u (lives_sound id lives u all).binds),
 )
