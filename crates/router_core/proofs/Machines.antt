@@ -7,11 +7,11 @@ use Rattle.gate_journal.specs.Journal.{batch_count}
 use Rattle.journal_store.specs.Store.{Stands, batches_after, disk_of, journal_of}
 use Rattle.journal_store.specs.declared.store.Store.{Store}
 use Rattle.router_trace.specs.declared.event.Event.{Event}
-use Rattle.router_trace.specs.Trace.{Entry, Trace, step_of}
+use Rattle.router_trace.specs.Trace.{Entry, step_of}
 use Rattle.router_reply.specs.Acts.{Journaled, acts_of, book_after_event, book_in, booked, journaled}
 use Rattle.core_machine.specs.Meaning.{BookAt}
 use Rattle.router_core.specs.declared.router.Core.{Core}
-use Rattle.router_core.specs.Handling.{BeforeOrAfterEvent, Fits, id_of, kept_book, store_of}
+use Rattle.router_core.specs.Handling.{BeforeOrAfterEvent, Fits, store_of}
 use Rattle.router_core.specs.Machine.{KeepsBook, LeavesBook, core_meaning}
 use Rattle.router_core.specs.Replies.{Replies, handled}
 use Rattle.router_core.proofs.Books.{view_answered}

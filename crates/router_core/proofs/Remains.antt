@@ -1,5 +1,5 @@
 -- What a crash leaves while a list of events is run.
-use Rattle.std.proofs.Common.{◌≡◌, refl, sym, subst, ℕ, Bool, true, false, List, [], ◌∷◌, ◌++◌, ◌⊎◌, ◌≤◌, length, inl, inr, ⊎_elim, Result, Ok, Err, IfErr}
+use Rattle.std.proofs.Common.{◌≡◌, refl, sym, subst, ℕ, Bool, true, false, List, [], ◌∷◌, ◌++◌, ◌≤◌, length, inl, inr, ⊎_elim, Result, Err, IfErr}
 use Rattle.disk_core.specs.Disk.{LeavesOnly}
 use Rattle.disk_core.specs.DiskLaws.{widened, joined}
 use Rattle.book_model.specs.Book.{BookView}

@@ -1,5 +1,5 @@
 -- The rows that an event's attach takes up are bound one after another: what a binding keeps, all of them keep.
-use Rattle.std.proofs.Common.{◌≡◌, ◌∙◌, ap, refl, subst, ℕ, List, [], ◌∷◌}
+use Rattle.std.proofs.Common.{◌≡◌, ◌∙◌, ap, refl, subst, List, [], ◌∷◌}
 use Rattle.std.specs.Prelude.{Option, Some, None}
 use Rattle.book_model.specs.Book.{BookView}
 use Rattle.book_model.specs.declared.terminus.LinkKey.{LinkKey}

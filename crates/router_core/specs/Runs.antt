@@ -1,5 +1,5 @@
 -- A list of events, run one after another; after each, all outboxes are emptied.
-use Rattle.std.specs.Prelude.{◌≡◌, ◌⊎◌, ℕ, ◌+◌, true, false, List, [], ◌∷◌, ◌++◌, map, length, Some}
+use Rattle.std.specs.Prelude.{◌≡◌, ◌⊎◌, ℕ, ◌+◌, true, false, List, [], ◌∷◌, ◌++◌, map, length}
 use Rattle.amqp_model.specs.declared.item.Item.{Item}
 use Rattle.router_trace.specs.declared.event.Event.{Event}
 use Rattle.router_trace.specs.declared.event.ConnectionId.{ConnectionId}

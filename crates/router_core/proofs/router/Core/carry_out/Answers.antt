@@ -22,13 +22,13 @@ pub returns-clause-fits : goal.returns-clause-fits
 returns-clause-fits g c = λ t f taken.
     let core = c.args.self.now in
     let e = c.args.event in
-    let acts : c.in-Ok.acts.items ≡ acts_of t e = c.in-Ok.ensures.acts t f taken in
+    let acts : c.in-Ok.field-0.acts.items ≡ acts_of t e = c.in-Ok.ensures.acts t f taken in
     let ready : IsReady (state_of c.write.new.self) (booked t e) e c.prepare.new.ready =
     subst (λ (s : State). IsReady s (booked t e) e c.prepare.new.ready) (sym (ap state_of c.write.ensures.rest)) (c.in-Ok.ensures.ready t f taken) in
     let row : c.row_in-row.result ≡ row_found (booked t e) = c.row_in-row.ensures ∙ ap row_in (c.deref.ensures.value ∙ acts) in
     let same : id_of c.write.new.self ≡ id_of core = ap id_of c.write.ensures.rest ∙ ap id_of c.prepare.ensures.rest in
     let journal : Journals c.write.new.self (booked t e) =
-    journals_after c.prepare.new.self c.write.new.self t e c.in-Ok.acts.items (journals_stored core c.prepare.new.self t (ap store_of c.prepare.ensures.rest) f.journal) acts
+    journals_after c.prepare.new.self c.write.new.self t e c.in-Ok.field-0.acts.items (journals_stored core c.prepare.new.self t (ap store_of c.prepare.ensures.rest) f.journal) acts
     c.in-Ok-write.ensures.book c.in-Ok-write.ensures.count c.in-Ok-write.ensures.used c.in-Ok-write.ensures.kept in
     let tables : TablesFit (state_of c.answer.new.self) (handled (id_of core) t (step_of e)) =
     subst (λ (id : List ℕ). TablesFit (state_of c.answer.new.self) (answered id (booked t e) (step_of e))) same (c.in-Ok-answer.ensures.tables (booked t e) ready row journal.book) in
@@ -43,7 +43,7 @@ pub returns-clause-any_moment : goal.returns-clause-any_moment
 returns-clause-any_moment g c = λ t f taken stands.
     let core = c.args.self.now in
     let e = c.args.event in
-    let acts = c.in-Ok.acts.items in
+    let acts = c.in-Ok.field-0.acts.items in
     let same = ap store_of c.prepare.ensures.rest in
     let run = subst (λ (s : Store _). Stands g.D.Disk.seen g.D.Disk.may_leave s → LeavesOnly g.D.Disk.moment g.D.Disk.left_since (disk_of s) (disk_of (store_of c.write.new.self))
     (λ file. OpensTo file (book_of s) ⊎ OpensTo file (effects (book_of s) acts))) same c.write.ensures.any_moment stands in
@@ -54,7 +54,7 @@ pub returns-in_default-answer-clause-any_moment : goal.returns-in_default-answer
 returns-in_default-answer-clause-any_moment g c = λ t f taken stands.
     let core = c.args.self.now in
     let e = c.args.event in
-    let acts = c.in-Ok.acts.items in
+    let acts = c.in-Ok.field-0.acts.items in
     let same = ap store_of c.prepare.ensures.rest in
     let run = subst (λ (s : Store _). Stands g.D.Disk.seen g.D.Disk.may_leave s → LeavesOnly g.D.Disk.moment g.D.Disk.left_since (disk_of s) (disk_of (store_of c.write.new.self))
     (λ file. OpensTo file (book_of s) ⊎ OpensTo file (effects (book_of s) acts))) same c.write.ensures.any_moment stands in
@@ -65,7 +65,7 @@ pub returns-in-Err-clause-any_moment : goal.returns-in-Err-clause-any_moment
 returns-in-Err-clause-any_moment g c = λ t f taken stands.
     let core = c.args.self.now in
     let e = c.args.event in
-    let acts = c.in-Ok.acts.items in
+    let acts = c.in-Ok.field-0.acts.items in
     let same = ap store_of c.prepare.ensures.rest in
     let run = subst (λ (s : Store _). Stands g.D.Disk.seen g.D.Disk.may_leave s → LeavesOnly g.D.Disk.moment g.D.Disk.left_since (disk_of s) (disk_of (store_of c.write.new.self))
     (λ file. OpensTo file (book_of s) ⊎ OpensTo file (effects (book_of s) acts))) same c.write.ensures.any_moment stands in
