@@ -79,17 +79,21 @@ pub(crate) fn behind_head(bytes: &[u8]) -> Option<&[u8]>
 
 /// What was found in a file.
 #[derive(Drop)]
-pub(crate) struct Found {
+pub struct Found {
     /// The book after the batches.
-    pub(crate) book: Book,
-    /// The place of the gate that ends them.
-    pub(crate) place: usize,
+    pub book: Book,
+    /// The place of the gate that ends them, in bytes from the file's beginning.
+    pub place: usize,
     /// Their number.
-    pub(crate) count: u64,
+    pub count: u64,
 }
 
 /// The batches of a file above a book, from the gate behind its head: up to the first gate that isn't open.
-pub(crate) fn walk(
+///
+/// # Errors
+///
+/// `Damaged` where an open gate has no batch; `Memory`.
+pub fn walk(
     alloc: Global,
     start: Book,
     bytes: &[u8],

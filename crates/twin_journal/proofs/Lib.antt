@@ -1,0 +1,4 @@
+pub mod Active
+pub mod Checked
+pub mod Moments
+pub mod Spelled
