@@ -5,8 +5,15 @@ use Rattle.disk_core.specs.Twin.{Contents}
 use Rattle.book_model.specs.Book.{BookView}
 use Rattle.book_model.specs.Restoring.{acts_of_book}
 use Rattle.journal_codec.specs.Batches.{HaveOutcomes, HaveTermini}
+use Rattle.journal_codec.specs.Format.{in_4}
 use Rattle.twin_journal.specs.Checkpoints.{IsStamp}
 use Rattle.twin_journal.specs.Format.{largest, stamp_bytes}
+
+-- Bytes begin with a checkpoint's bytes after their length, and something follows them: at least a gate.
+pub record IsSized (bytes checkpoint behind : List ℕ) : Type 0 where
+  pub is : bytes ≡ in_4 (length checkpoint) ++ (checkpoint ++ behind)
+  pub short : length checkpoint < 2 ^ 32
+  pub some : behind ≢ []
 
 -- Bytes begin with an epoch, a base and a checkpoint's bytes, and something follows them: at least a gate.
 pub record AreFields (bytes : List ℕ) (epoch base : ℕ) (checkpoint behind : List ℕ) : Type 0 where

@@ -5,3 +5,4 @@ mod checkpoint;
 mod device;
 mod gate;
 mod numbers;
+mod stamp;

@@ -25,6 +25,7 @@ pub(crate) fn put_8(out: &mut Vec<u8>, number: u64) -> Result<(), AllocError>
 /// The number of four bytes at the front, and what follows it.
 pub(crate) fn number_4(bytes: &[u8]) -> Option<(u32, &[u8])>
     ensures some { IfSome result (λ x. bytes.now ≡ in_4 x.0 ++ x.1.now) }
+    ensures fits { IfSome result (λ x. x.0 < 2 ^ 32) }
     ensures none { IfNone result (length bytes.now < 4) }
 {
     match bytes.split_first_chunk::<4>() {
