@@ -1,13 +1,15 @@
 -- What is found in the bytes of a side, and that it was found by reads alone.
 use Rattle.std.specs.Prelude.{◌≡◌, ◌≢◌, ℕ, ◌<◌, ◌≤◌, ◌^◌, List, [], ◌∷◌, ◌++◌, length}
 use Rattle.disk_core.specs.Disk.{NoMore, LeavesOnly}
-use Rattle.disk_core.specs.Twin.{Contents}
+use Rattle.disk_core.specs.Twin.{other, Contents}
 use Rattle.book_model.specs.Book.{BookView}
 use Rattle.book_model.specs.Restoring.{acts_of_book}
 use Rattle.journal_codec.specs.Batches.{HaveOutcomes, HaveTermini}
 use Rattle.journal_codec.specs.Format.{in_4}
 use Rattle.twin_journal.specs.Checkpoints.{IsStamp}
 use Rattle.twin_journal.specs.Format.{largest, stamp_bytes}
+use Rattle.twin_journal.specs.Sides.{IsActive, IsGate}
+use Rattle.twin_journal.specs.declared.whole.ActiveSide.{ActiveSide}
 
 -- Bytes begin with a checkpoint's bytes after their length, and something follows them: at least a gate.
 pub record IsSized (bytes checkpoint behind : List ℕ) : Type 0 where
@@ -46,3 +48,9 @@ pub record IsWritten (b : BookView) : Type 0 where
 pub record IsUnwritten {T : Type 0} (moment : T → ℕ) (left_since : T → ℕ → Contents → Type 0) (may_leave : T → Contents → Type 0) (old new : T) : Type 0 where
   pub crash : NoMore (may_leave old) (may_leave new)
   pub any_moment : LeavesOnly moment left_since old new (may_leave old)
+
+-- The bytes of the active side of two files were read, and whether the other side's gate is open.
+pub record IsRead (active : ActiveSide) (contents : Contents) : Type 0 where
+  pub bytes : active.bytes.items ≡ contents active.side
+  pub is_active : IsActive contents active.side
+  pub idle : IsGate active.idle_open (contents (other active.side))

@@ -68,3 +68,8 @@ is_open (Open epoch) = true
 -- the side with the higher one of two epochs
 abbrev pub newer_side : ℕ → ℕ → Option Side
 newer_side first second = if nat_lt second first then Some First else if nat_lt first second then Some Second else None
+
+-- a side whose gate is open, or isn't
+abbrev pub IsGate : Bool → List ℕ → Type 0
+IsGate true file = IsOpen file
+IsGate false file = IsShut file

@@ -1,7 +1,7 @@
 //! Synced changes of one side.
 ghost use Rattle.std.specs.Prelude.{◌≡◌, ◌+◌, ◌++◌, ℕ, List, OnOk, length, take};
-ghost use Rattle.disk_core.specs.Disk.{overwritten, between, from, Only, LeavesOnly, HasCause};
-ghost use Rattle.disk_core.specs.Twin.{other, Contents};
+ghost use Rattle.disk_core.specs.Disk.{overwritten, between, from, NoMore, Only, LeavesOnly, HasCause};
+ghost use Rattle.disk_core.specs.Twin.{other, OnSide};
 ghost use Rattle.disk_core.specs.TwinLaws.{SpoiltOn};
 
 use disk_core::{DiskFault, Side, Twin};
@@ -33,7 +33,9 @@ pub(crate) fn refill<T: Twin>(
     bytes: &[u8],
 ) -> Result<(), DiskFault>
     ensures written { OnOk result (T.seen twin.new side ≡ overwritten at bytes.now (take at (T.seen twin.old side))) }
+    ensures pinned { OnOk result (Only (T.seen twin.new side) (OnSide side (T.may_leave twin.new))) }
     ensures other { T.seen twin.new (other side) ≡ T.seen twin.old (other side) }
+    ensures other_crash { NoMore (OnSide (other side) (T.may_leave twin.old)) (OnSide (other side) (T.may_leave twin.new)) }
     ensures durable { OnOk result (Only (T.seen twin.old) (T.may_leave twin.old)
         → Only (T.seen twin.new) (T.may_leave twin.new)) }
     ensures moments { Only (T.seen twin.old) (T.may_leave twin.old) → LeavesOnly T.moment T.left_since twin.old twin.new

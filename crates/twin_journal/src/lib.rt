@@ -3,6 +3,11 @@
 
 mod checkpoint;
 mod device;
+mod figures;
+mod fresh;
 mod gate;
 mod numbers;
 mod stamp;
+mod whole;
+
+pub use fresh::format;

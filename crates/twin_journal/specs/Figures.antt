@@ -1,0 +1,37 @@
+-- The figures of a journal, and what they say of its two files.
+use Rattle.std.specs.Prelude.{◌≡◌, ℕ, ◌+◌, Bool, true, false, List, ◌∷◌, ◌++◌, length}
+use Rattle.disk_core.specs.Disk.{Only}
+use Rattle.disk_core.specs.Twin.{other, Contents}
+use Rattle.book_model.specs.declared.act.Act.{Act}
+use Rattle.book_model.specs.Book.{BookView}
+use Rattle.journal_codec.specs.Batches.{book_after}
+use Rattle.journal_codec.specs.Format.{front_from}
+use Rattle.twin_journal.specs.declared.figures.Figures.{Figures}
+use Rattle.twin_journal.specs.Format.{magic}
+use Rattle.twin_journal.specs.Holding.{HoldsOn}
+use Rattle.twin_journal.specs.Sides.{IsShut, IsOlder}
+
+-- an idle side, by whether its gate is open
+abbrev pub IsIdleAs : Bool → ℕ → List ℕ → Type 0
+IsIdleAs true epoch file = IsOlder epoch file
+IsIdleAs false epoch file = IsShut file
+
+-- The figures are those of two files, which hold these batches above this book.
+pub record Fits (figures : Figures) (contents : Contents) (stamp : List ℕ) (start : BookView) (bs : List (List Act)) : Type 0 where
+  pub on : HoldsOn figures.side contents figures.epoch figures.base figures.size stamp start bs
+  pub idle : IsIdleAs figures.idle_open figures.epoch (contents (other figures.side))
+  pub is_place : figures.place ≡ length (front_from (magic ++ 1 ∷ stamp) bs)
+  pub count : figures.count ≡ length bs
+
+-- They fit what a read gives, and a crash leaves just that.
+pub record IsAt (figures : Figures) (seen : Contents) (may_leave : Contents → Type 0) (stamp : List ℕ) (start : BookView) (bs : List (List Act)) : Type 0 where
+  pub fits : Fits figures seen stamp start bs
+  pub durable : Only seen may_leave
+
+-- They were found in two files, with the book that the batches leave.
+pub record IsFound (figures : Figures) (contents : Contents) (book : BookView) : Type 0 where
+  pub stamp : List ℕ
+  pub start : BookView
+  pub batches : List (List Act)
+  pub fits : Fits figures contents stamp start batches
+  pub book_is : book ≡ book_after start batches
