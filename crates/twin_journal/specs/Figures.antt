@@ -21,7 +21,7 @@ pub record Fits (figures : Figures) (contents : Contents) (stamp : List ℕ) (st
   pub on : HoldsOn figures.side contents figures.epoch figures.base figures.size stamp start bs
   pub idle : IsIdleAs figures.idle_open figures.epoch (contents (other figures.side))
   pub is_place : figures.place ≡ length (front_from (magic ++ 1 ∷ stamp) bs)
-  pub count : figures.count ≡ length bs
+  pub last : figures.last ≡ figures.base + length bs
 
 -- They fit what a read gives, and a crash leaves just that.
 pub record IsAt (figures : Figures) (seen : Contents) (may_leave : Contents → Type 0) (stamp : List ℕ) (start : BookView) (bs : List (List Act)) : Type 0 where

@@ -2,6 +2,8 @@ pub mod Checkpoints
 pub mod Figures
 pub mod Format
 pub mod Holding
+pub mod Journal
 pub mod Judging
+pub mod Listed
 pub mod Reading
 pub mod Sides

@@ -7,7 +7,8 @@ use Rattle.book_model.specs.Restoring.{acts_of_book}
 use Rattle.journal_codec.specs.Batches.{HaveOutcomes, HaveTermini}
 use Rattle.journal_codec.specs.Format.{in_4}
 use Rattle.twin_journal.specs.Checkpoints.{IsStamp}
-use Rattle.twin_journal.specs.Format.{largest, stamp_bytes}
+use Rattle.gate_journal.specs.Scanning.{BeginsWith}
+use Rattle.twin_journal.specs.Format.{magic, largest, stamp_bytes}
 use Rattle.twin_journal.specs.Sides.{IsActive, IsGate}
 use Rattle.twin_journal.specs.declared.whole.ActiveSide.{ActiveSide}
 
@@ -31,6 +32,12 @@ pub record BeginsWithStamp (bytes : List ℕ) (epoch base size : ℕ) (book : Bo
   pub is_stamp : IsStamp stamp epoch base size book
   pub is : bytes ≡ stamp ++ behind
   pub some : behind ≢ []
+
+-- A side begins with a head, and something follows it.
+pub record HasHead (bytes : List ℕ) (epoch base size : ℕ) (book : BookView) (behind : List ℕ) : Type 0 where
+  pub stamp : List ℕ
+  pub is_stamp : IsStamp stamp epoch base size book
+  pub begins : BeginsWith (magic ++ 1 ∷ stamp) bytes behind
 
 -- what a side gets behind its gate: epoch, base and checkpoint, and a closed gate
 pub record IsFill (bytes : List ℕ) (epoch base : ℕ) (book : BookView) : Type 0 where

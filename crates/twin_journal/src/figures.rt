@@ -16,8 +16,8 @@ pub(crate) struct Figures {
     pub(crate) size: usize,
     /// The place of the gate that ends the journal, in bytes from the beginning of the active side.
     pub(crate) place: usize,
-    /// The number of batches after the checkpoint.
-    pub(crate) count: u64,
+    /// The number of the last batch.
+    pub(crate) last: u64,
     /// Whether the gate of the idle side is open.
     pub(crate) idle_open: bool,
 }

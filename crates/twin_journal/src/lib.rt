@@ -6,8 +6,14 @@ mod device;
 mod figures;
 mod fresh;
 mod gate;
+mod journal;
+mod listing;
 mod numbers;
+mod opened;
 mod stamp;
 mod whole;
 
 pub use fresh::format;
+pub use gate_journal::{Entry, JournalFault, OpenFault};
+pub use journal::Journal;
+pub use listing::{Checkpoint, Listing, list};
