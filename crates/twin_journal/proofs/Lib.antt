@@ -3,6 +3,9 @@ pub mod Checked
 pub mod Beginnings
 pub mod Firsts
 pub mod Found
+pub mod Idle
 pub mod Moments
+pub mod Renewed
 pub mod Spelled
 pub mod Stamped
+pub mod Written

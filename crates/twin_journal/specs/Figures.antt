@@ -1,5 +1,5 @@
 -- The figures of a journal, and what they say of its two files.
-use Rattle.std.specs.Prelude.{◌≡◌, ℕ, ◌+◌, Bool, true, false, List, ◌∷◌, ◌++◌, length}
+use Rattle.std.specs.Prelude.{◌≡◌, ◌≢◌, ℕ, ◌+◌, Bool, true, false, List, ◌∷◌, ◌++◌, length}
 use Rattle.disk_core.specs.Disk.{Only}
 use Rattle.disk_core.specs.Twin.{other, Contents}
 use Rattle.book_model.specs.declared.act.Act.{Act}
@@ -7,6 +7,7 @@ use Rattle.book_model.specs.Book.{BookView}
 use Rattle.journal_codec.specs.Batches.{book_after}
 use Rattle.journal_codec.specs.Format.{front_from}
 use Rattle.twin_journal.specs.declared.figures.Figures.{Figures}
+use Rattle.twin_journal.specs.Checkpoints.{IsStamp}
 use Rattle.twin_journal.specs.Format.{magic}
 use Rattle.twin_journal.specs.Holding.{HoldsOn}
 use Rattle.twin_journal.specs.Sides.{IsShut, IsOlder}
@@ -35,3 +36,19 @@ pub record IsFound (figures : Figures) (contents : Contents) (book : BookView) :
   pub batches : List (List Act)
   pub fits : Fits figures contents stamp start batches
   pub book_is : book ≡ book_after start batches
+
+-- a side with these bytes behind its gate, which isn't open
+pub record IsFilled (fill file : List ℕ) : Type 0 where
+  pub gate : ℕ
+  pub shut : gate ≢ 1
+  pub is : file ≡ magic ++ gate ∷ fill
+
+-- The figures once the idle side is the active one, with a checkpoint of this book, and no batches yet.
+pub record IsRenewed (figures next : Figures) (stamp : List ℕ) (book : BookView) : Type 0 where
+  pub side : next.side ≡ other figures.side
+  pub epoch : next.epoch ≡ figures.epoch + 1
+  pub base : next.base ≡ figures.last
+  pub is_stamp : IsStamp stamp next.epoch next.base next.size book
+  pub is_place : next.place ≡ 9 + length stamp
+  pub last : next.last ≡ figures.last
+  pub idle : next.idle_open ≡ true

@@ -10,6 +10,7 @@ mod journal;
 mod listing;
 mod numbers;
 mod opened;
+mod renew;
 mod stamp;
 mod whole;
 
