@@ -4,6 +4,7 @@ pub mod Beginnings
 pub mod Firsts
 pub mod Found
 pub mod Idle
+pub mod Kept
 pub mod Moments
 pub mod Renewed
 pub mod Spelled

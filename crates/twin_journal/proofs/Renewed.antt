@@ -9,7 +9,7 @@ use Rattle.disk_core.specs.Twin.{other, Contents}
 use Rattle.disk_core.specs.TwinLaws.{SpoiltOn}
 use Rattle.book_model.specs.declared.act.Act.{Act}
 use Rattle.book_model.specs.Book.{BookView}
-use Rattle.journal_codec.specs.Batches.{HoldsFrom, AllApply}
+use Rattle.journal_codec.specs.Batches.{HoldsFrom, AllApply, book_after}
 use Rattle.journal_codec.specs.Format.{blocks, front_from}
 use Rattle.gate_journal.proofs.Fronts.{front_none}
 use Rattle.twin_journal.specs.declared.figures.Figures.{Figures}
@@ -19,6 +19,8 @@ use Rattle.twin_journal.specs.Format.{magic}
 use Rattle.twin_journal.specs.Holding.{HoldsOn, TwinHolds}
 use Rattle.twin_journal.specs.Sides.{IsShut, HasEpoch, IsOlder, IsIdle}
 use Rattle.twin_journal.proofs.Found.{stamp_epoch, as_idle}
+use Rattle.twin_journal.specs.Reading.{IsWritten, IsFill}
+use Rattle.twin_journal.proofs.Written.{after_written}
 use Rattle.twin_journal.proofs.Idle.{gate_spoilt, gate_written, tail_written, shut_tail, older_gate, older_shut}
 
 pub not_not : (b : Bool) → not b ≡ false → b ≡ true
@@ -172,3 +174,41 @@ module _ (figures : Figures) (seen : Contents) (may_leave : Contents → Type 0)
           };
           durable = only;
         }
+
+-- Whether the idle side's gate is open is of no account for the next figures.
+pub renewed_shut : (figures next : Figures) (stamp : List ℕ) (book : BookView) → IsRenewed figures next stamp book → IsRenewed (record figures { idle_open = false }) next stamp book
+renewed_shut figures next stamp book is = record {
+  side = is.side;
+  epoch = is.epoch;
+  base = is.base;
+  is_stamp = is.is_stamp;
+  is_place = is.is_place;
+  last = is.last;
+  idle = is.idle;
+}
+
+-- the next figures, and what is written for them
+pub record Ready (figures next : Figures) (bytes : List ℕ) (book : BookView) : Type 0 where
+  pub stamp : List ℕ
+  pub renewed : IsRenewed figures next stamp book
+  pub is : bytes ≡ stamp ++ 0 ∷ []
+
+pub ready : (figures : Figures) (seen : Contents) (may_leave : Contents → Type 0) (stamp : List ℕ) (start book : BookView) (bs : List (List Act)) → IsAt figures seen may_leave stamp start bs → book_after start bs ≡ book
+    → (bytes : List ℕ) (side : Side) (epoch size place : ℕ) → (IsWritten book → IsFill bytes epoch figures.last size book) → side ≡ other figures.side → epoch ≡ figures.epoch + 1 → place ≡ 8 + length bytes
+    → Ready figures (record { side = side; epoch = epoch; base = figures.last; size = size; place = place; last = figures.last; idle_open = true }) bytes book
+ready figures seen may_leave stamp start book bs at leaves bytes side epoch size place filled sides epochs places =
+    let on = at.fits.on in
+    let fill = filled (subst IsWritten leaves (after_written on.is_stamp.checkpoint start bs on.is_stamp.is_checkpoint on.holds.valid)) in
+    record {
+      stamp = fill.stamp;
+      renewed = record {
+        side = sides;
+        epoch = epochs;
+        base = refl;
+        is_stamp = fill.is_stamp;
+        is_place = omega (arith, places, ap length fill.is, length-append fill.stamp (0 ∷ []));
+        last = refl;
+        idle = refl;
+      };
+      is = fill.is;
+    }

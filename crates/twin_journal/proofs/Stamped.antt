@@ -4,7 +4,7 @@ use Rattle.std.specs.Prelude.{IfNone}
 use Rattle.std.proofs.lemmas.List.{take_at, drop_at}
 use Rattle.book_model.specs.Book.{BookView}
 use Rattle.journal_codec.specs.Format.{in_4, in_8}
-use Rattle.journal_codec.proofs.Spelled.{length-in_4}
+use Rattle.journal_codec.proofs.Spelled.{length-in_4, length-in_8}
 use Rattle.twin_journal.specs.Checkpoints.{IsCheckpoint, IsStamp, NoStamp}
 use Rattle.twin_journal.specs.Format.{largest, stamp_bytes}
 use Rattle.twin_journal.specs.Reading.{IsSized, AreFields, IsFill}
@@ -131,19 +131,31 @@ no_stamp bytes epoch base checkpoint behind are none second lower size stamp boo
     none book (subst (λ (l : List ℕ). IsCheckpoint l book) (sym same.checkpoints) is.is_checkpoint)
 
 -- what is written behind a gate
-pub filled : (bytes checkpoint : List ℕ) (epoch base size : ℕ) (book : BookView) → epoch ≤ largest → base ≤ largest → size < 2 ^ 32 → size ≡ length checkpoint → IsCheckpoint checkpoint book
-    → bytes ≡ in_8 epoch ++ in_8 base ++ in_4 size ++ checkpoint ++ 0 ∷ [] → IsFill bytes epoch base book
+pub filled_length : (checkpoint : List ℕ) (epoch base size : ℕ) → length (in_8 epoch ++ in_8 base ++ in_4 size ++ checkpoint ++ 0 ∷ []) ≡ length checkpoint + 21
+filled_length checkpoint epoch base size =
+    omega (
+      arith,
+      length-append (in_8 epoch ++ in_8 base ++ in_4 size ++ checkpoint) (0 ∷ []),
+      length-append (in_8 epoch ++ in_8 base ++ in_4 size) checkpoint,
+      length-append (in_8 epoch ++ in_8 base) (in_4 size),
+      length-append (in_8 epoch) (in_8 base),
+      length-in_8 epoch,
+      length-in_8 base,
+      length-in_4 size,
+    )
+
+pub filled : (bytes checkpoint : List ℕ) (epoch base size count : ℕ) (book : BookView) → epoch ≤ largest → base ≤ largest → size < 2 ^ 32 → size ≡ length checkpoint → count ≡ length checkpoint → IsCheckpoint checkpoint book
+    → bytes ≡ in_8 epoch ++ in_8 base ++ in_4 size ++ checkpoint ++ 0 ∷ [] → IsFill bytes epoch base count book
 unfolding stamp_bytes
-filled bytes checkpoint epoch base size book epoch_fits base_fits short size_is is e = record {
+filled bytes checkpoint epoch base size count book epoch_fits base_fits short size_is count_is is e = record {
   stamp = stamp_bytes epoch base checkpoint;
-  size = length checkpoint;
   is_stamp = record {
     checkpoint = checkpoint;
     is = refl;
     epoch_fits = epoch_fits;
     base_fits = base_fits;
     short = subst (λ (n : ℕ). n < 2 ^ 32) size_is short;
-    size_is = refl;
+    size_is = count_is;
     is_checkpoint = is;
   };
   is = e ∙ ap (λ (n : ℕ). in_8 epoch ++ in_8 base ++ in_4 n ++ checkpoint ++ 0 ∷ []) size_is;

@@ -1,5 +1,5 @@
 -- The figures of a journal, and what they say of its two files.
-use Rattle.std.specs.Prelude.{◌≡◌, ◌≢◌, ℕ, ◌+◌, Bool, true, false, List, ◌∷◌, ◌++◌, length}
+use Rattle.std.specs.Prelude.{◌≡◌, ◌≢◌, ℕ, ◌+◌, Bool, true, false, List, [], ◌∷◌, ◌++◌, length}
 use Rattle.disk_core.specs.Disk.{Only}
 use Rattle.disk_core.specs.Twin.{other, Contents}
 use Rattle.book_model.specs.declared.act.Act.{Act}
@@ -28,6 +28,11 @@ pub record Fits (figures : Figures) (contents : Contents) (stamp : List ℕ) (st
 pub record IsAt (figures : Figures) (seen : Contents) (may_leave : Contents → Type 0) (stamp : List ℕ) (start : BookView) (bs : List (List Act)) : Type 0 where
   pub fits : Fits figures seen stamp start bs
   pub durable : Only seen may_leave
+
+-- They fit it, and there are no batches behind a checkpoint of this book.
+pub record StartsAt (figures : Figures) (seen : Contents) (may_leave : Contents → Type 0) (book : BookView) : Type 0 where
+  pub stamp : List ℕ
+  pub at : IsAt figures seen may_leave stamp book []
 
 -- They were found in two files, with the book that the batches leave.
 pub record IsFound (figures : Figures) (contents : Contents) (book : BookView) : Type 0 where

@@ -4,6 +4,8 @@ use Rattle.std.specs.Prelude.{ℕ, List, [], ◌∷◌, ◌++◌, length}
 use Rattle.disk_core.specs.Twin.{Contents}
 use Rattle.disk_core.specs.declared.side.Side.TheVariants.{First, Second}
 use Rattle.book_model.specs.declared.act.Act.{Act}
+use Rattle.book_model.specs.Book.{BookView}
+use Rattle.book_model.specs.Restoring.{acts_of_book}
 use Rattle.journal_codec.specs.Format.{in_4, in_8, acts_bytes}
 
 -- AMQRJ002
@@ -17,6 +19,10 @@ largest = 4611686018427387904
 -- a book as bytes: the numbers of the terminus and the row that come next in it, and acts
 abbrev pub checkpoint_bytes : ℕ → ℕ → List Act → List ℕ
 checkpoint_bytes next_terminus next_row acts = in_8 next_terminus ++ in_8 next_row ++ acts_bytes acts
+
+-- how many bytes a book's own acts make
+abbrev pub checkpoint_size : BookView → ℕ
+checkpoint_size b = length (checkpoint_bytes b.next_terminus b.next_row (acts_of_book b))
 
 -- what a head has behind its gate: epoch, base, and a checkpoint after its length
 unfoldable pub stamp_bytes : ℕ → ℕ → List ℕ → List ℕ

@@ -40,9 +40,8 @@ pub record HasHead (bytes : List ℕ) (epoch base size : ℕ) (book : BookView) 
   pub begins : BeginsWith (magic ++ 1 ∷ stamp) bytes behind
 
 -- what a side gets behind its gate: epoch, base and checkpoint, and a closed gate
-pub record IsFill (bytes : List ℕ) (epoch base : ℕ) (book : BookView) : Type 0 where
+pub record IsFill (bytes : List ℕ) (epoch base size : ℕ) (book : BookView) : Type 0 where
   pub stamp : List ℕ
-  pub size : ℕ
   pub is_stamp : IsStamp stamp epoch base size book
   pub is : bytes ≡ stamp ++ 0 ∷ []
 

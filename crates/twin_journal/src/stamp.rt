@@ -1,6 +1,7 @@
 //! What a head has behind its gate: epoch, base and checkpoint.
-ghost use Rattle.std.specs.Prelude.{List, ℕ, IfSome, IfNone, IfOk, IsErrOf};
+ghost use Rattle.std.specs.Prelude.{◌≡◌, ◌+◌, List, ℕ, length, IfSome, IfNone, IfOk, IsErrOf};
 ghost use Rattle.twin_journal.specs.Checkpoints.{NoStamp};
+ghost use Rattle.twin_journal.specs.Format.{checkpoint_size};
 ghost use Rattle.twin_journal.specs.Reading.{IsSized, AreFields, BeginsWithStamp, IsWritten, IsFill};
 
 use crate::checkpoint::{checkpoint_of, read_checkpoint};
@@ -8,9 +9,6 @@ use crate::numbers::{LARGEST, number_4, put_4, put_8, small_number};
 use book_core::Book;
 use journal_codec::ReadFault;
 use std::alloc::{AllocError, Global};
-
-/// The bytes of epoch, base and the length of a checkpoint.
-pub(crate) const BEFORE_CHECKPOINT: usize = 20;
 
 /// What a head says.
 #[derive(Drop)]
@@ -94,13 +92,29 @@ pub(crate) fn read_stamp(alloc: Global, bytes: &[u8]) -> Result<(Stamp, &[u8]), 
     }
 }
 
-/// What a side gets behind its gate: epoch, base, the checkpoint of a book, and a closed gate.
+/// What a side gets behind its gate.
+#[derive(Drop)]
+pub(crate) struct Fill {
+    /// Epoch, base, a checkpoint, and a closed gate.
+    pub(crate) bytes: Vec<u8>,
+    /// The bytes of the checkpoint.
+    pub(crate) size: usize,
+}
+
+/// What a side gets behind its gate for a checkpoint of this book.
 ///
 /// # Errors
 ///
 /// `AllocError` where memory is refused, a number is too large to be read again, or an act can't be encoded.
-pub(crate) fn fill_of(alloc: Global, epoch: u64, base: u64, book: &Book) -> Result<Vec<u8>, AllocError>
-    ensures fill { IfOk result (λ v. IsWritten book.now → IsFill v.items epoch base book.now) }
+pub(crate) fn fill_of(
+    alloc: Global,
+    epoch: u64,
+    base: u64,
+    book: &Book,
+) -> Result<Fill, AllocError>
+    ensures fill { IfOk result (λ f. IsWritten book.now → IsFill f.bytes.items epoch base f.size book.now) }
+    ensures size { IfOk result (λ f. f.size ≡ checkpoint_size book.now) }
+    ensures len { IfOk result (λ f. length f.bytes.items ≡ f.size + 21) }
 {
     if epoch > LARGEST || base > LARGEST {
         return Err(AllocError);
@@ -109,11 +123,14 @@ pub(crate) fn fill_of(alloc: Global, epoch: u64, base: u64, book: &Book) -> Resu
     let Ok(size) = u32::try_from(checkpoint.len()) else {
         return Err(AllocError);
     };
-    let mut fill = Vec::new(alloc);
-    put_8(&mut fill, epoch)?;
-    put_8(&mut fill, base)?;
-    put_4(&mut fill, size)?;
-    fill.extend_from_slice(checkpoint.as_slice())?;
-    fill.push(0)?;
-    Ok(fill)
+    let mut bytes = Vec::new(alloc);
+    put_8(&mut bytes, epoch)?;
+    put_8(&mut bytes, base)?;
+    put_4(&mut bytes, size)?;
+    bytes.extend_from_slice(checkpoint.as_slice())?;
+    bytes.push(0)?;
+    Ok(Fill {
+        bytes,
+        size: checkpoint.len(),
+    })
 }
