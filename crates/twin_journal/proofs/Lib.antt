@@ -9,4 +9,5 @@ pub mod Moments
 pub mod Renewed
 pub mod Spelled
 pub mod Stamped
+pub mod Stored
 pub mod Written

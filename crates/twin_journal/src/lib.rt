@@ -12,6 +12,7 @@ mod numbers;
 mod opened;
 mod renew;
 mod stamp;
+mod store;
 mod whole;
 
 pub use fresh::format;
