@@ -1,12 +1,16 @@
 pub mod Active
-pub mod Checked
+pub mod Appended
 pub mod Beginnings
+pub mod Checked
 pub mod Firsts
 pub mod Found
 pub mod Idle
+pub mod Keeping
 pub mod Kept
 pub mod Moments
+pub mod Ordered
 pub mod Renewed
+pub mod Sizes
 pub mod Spelled
 pub mod Stamped
 pub mod Stored

@@ -6,4 +6,5 @@ pub mod Journal
 pub mod Judging
 pub mod Listed
 pub mod Reading
+pub mod Room
 pub mod Sides

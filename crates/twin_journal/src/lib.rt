@@ -1,6 +1,7 @@
 //! The journal over two files.
 #![tactic(auto)]
 
+mod added;
 mod checkpoint;
 mod device;
 mod figures;
@@ -10,7 +11,9 @@ mod journal;
 mod listing;
 mod numbers;
 mod opened;
+mod plan;
 mod renew;
+mod room;
 mod stamp;
 mod store;
 mod whole;

@@ -1,16 +1,17 @@
-use Rattle.std.proofs.Common.{◌⊎◌, ◌∙◌, sym, ap, subst, [], ℕ}
+use Rattle.std.proofs.Common.{◌⊎◌, sym, subst, [], ℕ}
 use Rattle.disk_core.specs.Disk.{LeavesOnly}
 use Rattle.disk_core.specs.DiskLaws.{widened}
 use Rattle.disk_core.specs.Twin.{Contents}
-use Rattle.gate_journal.specs.Reserve.{reserve}
 use Rattle.twin_journal.specs.Holding.{TwinHolds, OpensTo}
-use Rattle.twin_journal.proofs.Kept.{after_none, opens_either}
+use Rattle.twin_journal.specs.Room.{Suits}
+use Rattle.twin_journal.proofs.Keeping.{renewed_suits}
+use Rattle.twin_journal.proofs.Kept.{opens_either}
 use Rattle.twin_journal.proofs.journal.Journal.checkpoint.Goals as goal
 
 pub returns-in-Ok-clause-done : goal.returns-in-Ok-clause-done
 returns-in-Ok-clause-done g c base start bs keeps leaves =
     let s = c.in-Ok.ensures.done keeps.stamp start bs keeps.at leaves in
-    record { stamp = s.stamp; at = s.at; base_is = c.in-Ok.ensures.base; kept = keeps.kept ∙ ap reserve (leaves ∙ sym (after_none c.args.book.now)) }
+    record { stamp = s.stamp; at = s.at; base_is = c.in-Ok.ensures.base; suits = renewed_suits c.args.self.now.needs c.in-Ok.figures.size c.args.book.now (subst (Suits c.args.self.now.needs) leaves keeps.suits) c.in-Ok.ensures.size }
 
 pub returns-in-Ok-clause-any_moment : goal.returns-in-Ok-clause-any_moment
 returns-in-Ok-clause-any_moment g c base start bs keeps leaves =
