@@ -1,5 +1,5 @@
 -- Which side is active.
-use Rattle.std.proofs.Common.{◌≡◌, ◌≢◌, ◌⊎◌, inl, inr, ⊎_elim, ℕ, ◌<◌, ◌≤◌, Bool, true, false, List, ◌∷◌, ◌++◌, length, Option, Some, None, refl, sym, ap, ◌∙◌, subst, arith, length-append}
+use Rattle.std.proofs.Common.{◌≡◌, inr, ⊎_elim, ℕ, ◌<◌, Bool, true, false, List, ◌∷◌, ◌++◌, length, Option, Some, None, refl, sym, ap, ◌∙◌, subst, arith, length-append}
 use Rattle.std.specs.Prelude.{nat_lt, if◌then◌else◌, IfNone}
 use Rattle.std.proofs.lemmas.List.{append_cancel_left}
 use Rattle.disk_core.specs.declared.side.Side.{Side}
@@ -7,15 +7,15 @@ use Rattle.disk_core.specs.declared.side.Side.TheVariants.{First, Second}
 use Rattle.disk_core.specs.Twin.{other, Contents}
 use Rattle.journal_codec.specs.Format.{in_8}
 use Rattle.journal_codec.proofs.Spelled.{length-in_8}
-use Rattle.journal_codec.proofs.Tools.{is_less, is_not_less}
+use Rattle.journal_codec.proofs.Tools.{is_not_less}
 use Rattle.twin_journal.specs.declared.gate.Gate.{Gate}
 use Rattle.twin_journal.specs.declared.gate.Gate.TheVariants.{Shut, Open}
 use Rattle.twin_journal.specs.Format.{magic}
-use Rattle.twin_journal.specs.Sides.{IsShut, IsOpen, HasEpoch, IsOlder, IsNewer, IsActive, NoneActive, Says, newer_side}
+use Rattle.twin_journal.specs.Sides.{IsShut, IsOpen, HasEpoch, IsActive, NoneActive, Says, newer_side}
 use Rattle.twin_journal.proofs.Spelled.{same_8}
 
 -- What follows the magic.
-same_behind : (file r s : List ℕ) → file ≡ magic ++ r → file ≡ magic ++ s → r ≡ s
+pub same_behind : (file r s : List ℕ) → file ≡ magic ++ r → file ≡ magic ++ s → r ≡ s
 same_behind file r s e f = append_cancel_left magic r s (sym e ∙ f)
 
 pub shut_or_open : (file : List ℕ) → IsShut file → IsOpen file → ⊥
@@ -46,7 +46,7 @@ pub record Both (one two : List ℕ) : Type 0 where
   pub has_second : HasEpoch second two
   pub lower : second < first
 
-epochs : (contents : Contents) (side : Side) → IsActive contents side → IsOpen (contents (other side)) → Both (contents side) (contents (other side))
+pub epochs : (contents : Contents) (side : Side) → IsActive contents side → IsOpen (contents (other side)) → Both (contents side) (contents (other side))
 epochs contents side active open' =
     ⊎_elim (λ shut. absurd (shut_or_open (contents (other side)) shut open'))
     (λ newer. record { first = newer.epoch; second = newer.older.older; has_first = newer.has; has_second = newer.older.has; lower = newer.older.lower })
@@ -65,7 +65,6 @@ both_open contents first second same First active =
 both_open contents first second same Second active =
     let both = epochs contents Second active first in
     omega (arith, both.lower, same both.second both.first both.has_second both.has_first)
-
 
 -- both sides are open, and one ends too early for an epoch
 not_shut : (file : List ℕ) (gate : Gate) → (gate ≡ Shut → ⊥) → Says file gate → IsOpen file

@@ -1,12 +1,11 @@
 -- A new journal.
-use Rattle.std.proofs.Common.{◌≡◌, inl, ℕ, List, [], ◌∷◌, ◌++◌, length, refl, sym, ap, ◌∙◌, arith}
+use Rattle.std.proofs.Common.{◌≡◌, inl, ℕ, List, [], ◌∷◌, ◌++◌, length, refl, ◌∙◌, arith}
 use Rattle.std.proofs.Math.Path.{fun_ext}
-use Rattle.disk_core.specs.declared.side.Side.{Side}
 use Rattle.disk_core.specs.declared.side.Side.TheVariants.{First, Second}
 use Rattle.disk_core.specs.Disk.{overwritten}
 use Rattle.disk_core.specs.Twin.{Contents}
 use Rattle.disk_core.specs.TwinLaws.{by_side}
-use Rattle.book_model.specs.Book.{BookView, empty_book}
+use Rattle.book_model.specs.Book.{empty_book}
 use Rattle.book_laws.proofs.KeptSound.{empty_sound}
 use Rattle.journal_codec.specs.Format.{in_4, in_8}
 use Rattle.gate_journal.proofs.Fronts.{fresh_holds}

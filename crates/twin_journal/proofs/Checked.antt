@@ -1,8 +1,8 @@
 -- A checkpoint's bytes are those of one book only.
-use Rattle.std.proofs.Common.{◌≡◌, ◌≢◌, ℕ, ◌≤◌, List, ◌++◌, None, refl, sym, ap, ◌∙◌, subst, append_assoc, arith}
+use Rattle.std.proofs.Common.{◌≡◌, ◌≢◌, ℕ, ◌≤◌, List, ◌++◌, None, sym, ap, ◌∙◌, append_assoc}
 use Rattle.book_model.specs.declared.act.Act.{Act}
 use Rattle.book_model.specs.Book.{BookView}
-use Rattle.book_model.specs.Restoring.{acts_of_book, restore_fault, restored}
+use Rattle.book_model.specs.Restoring.{acts_of_book, restore_fault}
 use Rattle.book_model.specs.Sound.{IsSound}
 use Rattle.book_laws.proofs.Listed.{list_reads, list_restores}
 use Rattle.journal_codec.specs.Format.{in_8, acts_bytes}

@@ -1,5 +1,5 @@
 -- What the first bytes of a side say of all of it.
-use Rattle.std.proofs.Common.{◌≡◌, ◌≢◌, ◌⊎◌, inl, inr, ⊎_elim, ℕ, ◌+◌, ◌<◌, List, [], ◌∷◌, ◌++◌, length, take, drop, Option, Some, None, refl, sym, ap, ◌∙◌, arith, append_assoc, length-append, length-take, take-append-drop}
+use Rattle.std.proofs.Common.{◌≡◌, inl, inr, ⊎_elim, ℕ, List, ◌∷◌, ◌++◌, length, take, drop, Some, None, refl, sym, ap, ◌∙◌, arith, append_assoc, length-append, length-take, take-append-drop}
 use Rattle.std.proofs.lemmas.List.{take_at, take-take}
 use Rattle.disk_core.specs.declared.side.Side.TheVariants.{First, Second}
 use Rattle.disk_core.specs.Disk.{part}
@@ -9,7 +9,7 @@ use Rattle.journal_codec.specs.Format.{in_8}
 use Rattle.twin_journal.specs.declared.gate.Gate.{Gate}
 use Rattle.twin_journal.specs.declared.gate.Gate.TheVariants.{Shut, Open}
 use Rattle.twin_journal.specs.Format.{magic}
-use Rattle.twin_journal.specs.Sides.{IsNoSide, IsShut, IsOpen, HasEpoch, Says, NoneActive}
+use Rattle.twin_journal.specs.Sides.{IsNoSide, Says, NoneActive}
 use Rattle.twin_journal.specs.Judging.{IsDamagedAt}
 
 -- what was read into a buffer
@@ -36,7 +36,7 @@ module _ (file : List ℕ) where
   no_side_whole none =
       ⊎_elim (λ short. inl (omega (arith, short, length-take 17 file))) (λ other. inr (λ e. other (take-take 8 17 file (omega arith) ∙ e))) none
 
-no_side : (file rest : List ℕ) (gate : ℕ) → file ≡ magic ++ gate ∷ rest → IsNoSide file → ⊥
+pub no_side : (file rest : List ℕ) (gate : ℕ) → file ≡ magic ++ gate ∷ rest → IsNoSide file → ⊥
 no_side file rest gate e none =
     ⊎_elim (λ short. omega (arith, short, ap length e, length-append magic (gate ∷ rest))) (λ other. other (ap (take 8) e)) none
 

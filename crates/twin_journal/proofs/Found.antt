@@ -1,9 +1,9 @@
 -- What is found in the active side.
-use Rattle.std.proofs.Common.{◌≡◌, inl, inr, ⊎_elim, ℕ, ◌+◌, Bool, true, false, List, ◌∷◌, ◌++◌, length, refl, sym, ap, ◌∙◌, subst, append_assoc}
+use Rattle.std.proofs.Common.{◌≡◌, inl, inr, ⊎_elim, ℕ, ◌+◌, Bool, true, false, List, ◌∷◌, ◌++◌, length, sym, ap, ◌∙◌, subst}
 use Rattle.disk_core.specs.declared.side.Side.{Side}
 use Rattle.disk_core.specs.Twin.{other, Contents}
 use Rattle.book_model.specs.Book.{BookView}
-use Rattle.journal_codec.specs.Batches.{HoldsFrom, book_after}
+use Rattle.journal_codec.specs.Batches.{HoldsFrom}
 use Rattle.journal_codec.specs.Format.{in_4, in_8}
 use Rattle.gate_journal.specs.declared.fault.OpenFault.{OpenFault}
 use Rattle.gate_journal.specs.declared.fault.OpenFault.TheVariants as opening
@@ -11,12 +11,11 @@ use Rattle.gate_journal.specs.declared.listing.Entry.{Entry}
 use Rattle.gate_journal.specs.Listed.{IsListedFrom}
 use Rattle.gate_journal.specs.Opening.{IsFoundFrom, IsDamagedFrom}
 use Rattle.gate_journal.specs.Scanning.{BeginsWith, StopsFrom}
-use Rattle.twin_journal.specs.declared.figures.Figures.{Figures}
 use Rattle.twin_journal.specs.declared.listing.Checkpoint.{Checkpoint}
 use Rattle.twin_journal.specs.declared.whole.ActiveSide.{ActiveSide}
 use Rattle.twin_journal.specs.Checkpoints.{IsStamp}
 use Rattle.twin_journal.specs.Figures.{IsIdleAs, IsFound}
-use Rattle.twin_journal.specs.Format.{magic, stamp_bytes}
+use Rattle.twin_journal.specs.Format.{magic}
 use Rattle.twin_journal.specs.Judging.{Explains, IsHeadFault}
 use Rattle.twin_journal.specs.Listed.{IsListed}
 use Rattle.twin_journal.specs.Reading.{HasHead, IsRead}

@@ -1,15 +1,14 @@
 -- The idle side while it is written.
-use Rattle.std.proofs.Common.{◌≡◌, ◌≢◌, ◌⊎◌, inl, inr, ⊎_elim, ℕ, zero, suc, ◌+◌, ◌-◌, ◌<◌, ◌≤◌, ◌^◌, Bool, true, false, List, [], ◌∷◌, ◌++◌, length, take, drop, refl, sym, ap, ◌∙◌, subst, arith, append_assoc, length-append, length-take}
-use Rattle.std.specs.Prelude.{slice_get, nat_le, nat_lt, ◌&&◌}
+use Rattle.std.proofs.Common.{◌≡◌, inl, inr, ℕ, zero, suc, ◌+◌, ◌<◌, ◌^◌, false, List, [], ◌∷◌, ◌++◌, length, take, drop, refl, sym, ap, ◌∙◌, arith, append_assoc, length-append}
 use Rattle.std.proofs.lemmas.Bool.Decides.{nat_tests}
 use Rattle.std.proofs.lemmas.List.{append-nil, drop_all}
-use Rattle.disk_core.specs.Disk.{overwritten, between, from, Agrees, Spoilt}
+use Rattle.disk_core.specs.Disk.{overwritten, between, from, Agrees}
 use Rattle.disk_core.specs.DiskLaws.{overwritten_inside}
 use Rattle.disk_core.specs.SpoiltLaws.{spoilt_of}
 use Rattle.journal_codec.specs.Format.{in_8}
 use Rattle.journal_codec.proofs.Spelled.{length-in_8}
 use Rattle.twin_journal.specs.Format.{magic}
-use Rattle.twin_journal.specs.Sides.{IsShut, HasEpoch, IsOlder, IsIdle}
+use Rattle.twin_journal.specs.Sides.{IsShut, IsOlder, IsIdle}
 
 one_byte : (l : List ℕ) → length l ≡ 1 → (n : ℕ) × (l ≡ n ∷ [])
 one_byte [] e = absurd (omega (arith, e))

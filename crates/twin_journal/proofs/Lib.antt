@@ -14,4 +14,5 @@ pub mod Sizes
 pub mod Spelled
 pub mod Stamped
 pub mod Stored
+pub mod Unique
 pub mod Written

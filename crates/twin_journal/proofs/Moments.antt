@@ -1,12 +1,12 @@
 -- What a crash leaves of two files, one of which is being changed.
-use Rattle.std.proofs.Common.{◌≡◌, ℕ, ◌+◌, ◌≤◌, Bool, true, false, List, length, Result, Ok, Err, refl, sym, ◌∙◌, ap, subst, arith}
-use Rattle.std.specs.Prelude.{slice_get, nat_le, nat_lt, ◌||◌, OnOk}
+use Rattle.std.proofs.Common.{◌≡◌, ℕ, Bool, false, List, Result, Ok, Err, sym, ◌∙◌, ap, subst, arith}
+use Rattle.std.specs.Prelude.{slice_get, ◌||◌, OnOk}
 use Rattle.std.proofs.lemmas.Bool.Decides.{nat_tests}
 use Rattle.disk_core.specs.declared.side.Side.{Side}
-use Rattle.disk_core.specs.Disk.{between, from, Agrees, Spares, Opens, NoMore, Only, Elapses, LeavesOnly}
-use Rattle.disk_core.specs.DiskLaws.{started, goes_on}
+use Rattle.disk_core.specs.Disk.{between, from, Agrees, Spares, Opens, NoMore, Only, LeavesOnly}
+use Rattle.disk_core.specs.DiskLaws.{started}
 use Rattle.disk_core.specs.Twin.{other, Contents, OnSide}
-use Rattle.disk_core.specs.TwinLaws.{SpoiltOn, spoilt_on, only_side, only_both, less_side, on_each}
+use Rattle.disk_core.specs.TwinLaws.{SpoiltOn, spoilt_on, only_both, less_side, on_each}
 
 -- Two files that a crash leaves whole.
 module _ {D : Type 0} (moment : D → ℕ) (left_since : D → ℕ → Contents → Type 0) (may_leave : D → Contents → Type 0) (seen : D → Contents) (side : Side) (old : D)

@@ -1,5 +1,5 @@
 -- The idle side becomes the active one.
-use Rattle.std.proofs.Common.{◌≡◌, ◌≢◌, ◌⊎◌, inl, inr, ⊎_elim, ℕ, zero, suc, ◌+◌, ◌<◌, ◌≤◌, Bool, true, false, List, [], ◌∷◌, ◌++◌, length, take, refl, sym, ap, ◌∙◌, subst, arith, append_assoc, length-append}
+use Rattle.std.proofs.Common.{◌≡◌, ◌⊎◌, inl, inr, ℕ, zero, suc, ◌+◌, ◌<◌, Bool, true, false, List, [], ◌∷◌, ◌++◌, length, take, refl, sym, ap, ◌∙◌, subst, arith, append_assoc, length-append}
 use Rattle.std.specs.Prelude.{not}
 use Rattle.std.proofs.lemmas.List.{append-nil}
 use Rattle.disk_core.specs.declared.side.Side.{Side}
@@ -13,7 +13,6 @@ use Rattle.journal_codec.specs.Batches.{HoldsFrom, AllApply, book_after}
 use Rattle.journal_codec.specs.Format.{blocks, front_from}
 use Rattle.gate_journal.proofs.Fronts.{front_none}
 use Rattle.twin_journal.specs.declared.figures.Figures.{Figures}
-use Rattle.twin_journal.specs.Checkpoints.{IsStamp}
 use Rattle.twin_journal.specs.Figures.{IsIdleAs, Fits, IsAt, IsFilled, IsRenewed}
 use Rattle.twin_journal.specs.Format.{magic}
 use Rattle.twin_journal.specs.Holding.{HoldsOn, TwinHolds}

@@ -1,9 +1,8 @@
 -- A checkpoint grows by no more than the bytes of the acts.
-use Rattle.std.proofs.Common.{◌≡◌, ℕ, zero, suc, ◌+◌, ◌<◌, ◌≤◌, Bool, true, false, cond, not, List, [], ◌∷◌, ◌++◌, length, Option, Some, None, refl, sym, ap, ◌∙◌, subst, arith, length-append}
-use Rattle.std.specs.Prelude.{filter, filter_map, is_some, map, ◌==◌, if◌then◌else◌}
+use Rattle.std.proofs.Common.{◌≡◌, ℕ, ◌+◌, ◌<◌, ◌≤◌, Bool, true, false, cond, not, List, [], ◌∷◌, ◌++◌, length, Option, Some, None, refl, sym, ap, subst, arith, length-append}
+use Rattle.std.specs.Prelude.{filter, is_some, map, ◌==◌, if◌then◌else◌}
 use Rattle.std.specs.List.{cons_option, flat_map}
 use Rattle.std.proofs.lemmas.Bool.Decides.{nat_tests}
-use Rattle.amqp_model.specs.declared.state.DeliveryState.{DeliveryState}
 use Rattle.amqp_model.specs.PerfSpelling.{state_spelling}
 use Rattle.book_model.specs.declared.act.Act.{Act}
 use Rattle.book_model.specs.declared.act.Act.TheVariants.{Make, Admit, Decide, Forget, Drop}
@@ -19,7 +18,7 @@ use Rattle.journal_codec.specs.Format.{in_2, in_8, act_bytes, acts_bytes}
 use Rattle.journal_codec.proofs.Spelled.{length-in_2, length-in_8}
 use Rattle.gate_journal.specs.Ordered.{IsOrdered, number_of_row}
 use Rattle.gate_journal.proofs.Ordered.{ordered_step}
-use Rattle.twin_journal.specs.Format.{checkpoint_bytes, checkpoint_size}
+use Rattle.twin_journal.specs.Format.{checkpoint_size}
 
 abbrev size : List Act → ℕ
 size acts = length (acts_bytes acts)

@@ -1,12 +1,12 @@
 -- Numbers as bytes.
-use Rattle.std.proofs.Common.{◌≡◌, ℕ, ◌+◌, ◌<◌, ◌≤◌, ◌^◌, List, ◌++◌, length, take, drop, get_or, refl, sym, ap, ◌∙◌, arith, length-append, length-take, take-append-drop}
+use Rattle.std.proofs.Common.{◌≡◌, ℕ, ◌+◌, ◌<◌, ◌≤◌, ◌^◌, List, ◌++◌, length, take, drop, refl, sym, ap, ◌∙◌, arith, length-append, take-append-drop}
 use Rattle.std.specs.Int.{w32, w64, to_be_bytes, from_be_bytes}
-use Rattle.std.proofs.lemmas.List.{get_or-take, length-take-le}
+use Rattle.std.proofs.lemmas.List.{length-take-le}
 use Rattle.std.proofs.lemmas.Nat.{be_bytes_4, be_bytes_8}
 use Rattle.journal_codec.specs.Format.{in_4, in_8}
 use Rattle.journal_codec.specs.Reading.{number_at}
 use Rattle.journal_codec.proofs.Tools.{AreBytes, bytes_take, done, same_read, same_rest, back_4, back_8}
-use Rattle.journal_codec.proofs.Spelled.{length-in_4, length-in_8}
+use Rattle.journal_codec.proofs.Spelled.{length-in_8}
 use Rattle.twin_journal.specs.Format.{largest}
 
 pub in_4_is : (n : ℕ) → to_be_bytes w32 n ≡ in_4 n

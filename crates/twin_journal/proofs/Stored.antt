@@ -1,6 +1,6 @@
 -- A batch that is written to the active side.
-use Rattle.std.proofs.Common.{◌≡◌, ◌⊎◌, inl, inr, ⊎_elim, ℕ, ◌+◌, List, [], ◌∷◌, ◌++◌, length, None, sym, ap, ◌∙◌, subst, arith, length-append}
-use Rattle.disk_core.specs.Disk.{overwritten, between, Agrees, Only}
+use Rattle.std.proofs.Common.{◌≡◌, ◌⊎◌, inl, inr, ⊎_elim, ℕ, ◌+◌, List, [], ◌∷◌, ◌++◌, length, None, sym, ◌∙◌, subst, arith, length-append}
+use Rattle.disk_core.specs.Disk.{overwritten, between, Only}
 use Rattle.disk_core.specs.Twin.{other, Contents, OnSide}
 use Rattle.disk_core.specs.TwinLaws.{SpoiltOn, only_side}
 use Rattle.book_model.specs.declared.act.Act.{Act}
@@ -10,7 +10,7 @@ use Rattle.journal_codec.specs.Batches.{HoldsFrom, IsBatch, book_after}
 use Rattle.gate_journal.specs.Stands.{IsAtFrom}
 use Rattle.gate_journal.proofs.Outcomes.{first_leaves, second_leaves, stored}
 use Rattle.twin_journal.specs.declared.figures.Figures.{Figures}
-use Rattle.twin_journal.specs.Figures.{IsIdleAs, Fits, IsAt}
+use Rattle.twin_journal.specs.Figures.{IsIdleAs, IsAt}
 use Rattle.twin_journal.specs.Format.{magic}
 use Rattle.twin_journal.specs.Holding.{HoldsOn, TwinHolds}
 use Rattle.twin_journal.specs.Sides.{IsIdle}

@@ -1,6 +1,6 @@
 -- A book that batches leave above a checkpoint can be written: each outcome in it is one, and each consumer has a number above 0.
-use Rattle.std.proofs.Common.{◌≡◌, ℕ, ◌+◌, Bool, true, false, cond, List, [], ◌∷◌, ◌++◌, Option, Some, None, refl, sym, ap, subst}
-use Rattle.std.specs.Prelude.{filter_map, is_some, map, ◌==◌, if◌then◌else◌}
+use Rattle.std.proofs.Common.{◌≡◌, ℕ, Bool, true, false, cond, List, [], ◌∷◌, ◌++◌, Option, Some, None, refl, sym, subst}
+use Rattle.std.specs.Prelude.{is_some, map, ◌==◌, if◌then◌else◌}
 use Rattle.std.specs.List.{cons_option, flat_map}
 use Rattle.amqp_model.specs.declared.state.DeliveryState.{DeliveryState}
 use Rattle.book_model.specs.declared.act.Act.{Act}
@@ -9,8 +9,8 @@ use Rattle.book_model.specs.declared.row.Row.{Row}
 use Rattle.book_model.specs.declared.row.RowNumber.{RowNumber}
 use Rattle.book_model.specs.declared.terminus.Terminus.{Terminus}
 use Rattle.book_model.specs.Book.{BookView, empty_book, effect, effects, admitted, decided, forgotten, with_row}
-use Rattle.book_model.specs.Restoring.{acts_of_book, row_acts, admission_of, decide_acts, forget_acts, restored, restore_effect, raised, book_read}
-use Rattle.journal_codec.specs.Batches.{IsOutcome, IsAboveZero, IsWritable, AreWritable, HasOutcome, HasTerminus, HaveOutcomes, HaveTermini, AllApply, book_after}
+use Rattle.book_model.specs.Restoring.{row_acts, decide_acts, forget_acts, restore_effect, raised, book_read}
+use Rattle.journal_codec.specs.Batches.{IsOutcome, IsAboveZero, IsWritable, AreWritable, HaveOutcomes, HaveTermini, AllApply, book_after}
 use Rattle.twin_journal.specs.Checkpoints.{IsCheckpoint}
 use Rattle.twin_journal.specs.Reading.{IsWritten}
 

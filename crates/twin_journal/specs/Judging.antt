@@ -1,7 +1,7 @@
 -- Why two files can't be opened.
 use Rattle.std.specs.Prelude.{◌≡◌, ◌⊎◌, ℕ, List, ◌∷◌, ◌++◌}
 use Rattle.disk_core.specs.declared.side.Side.{Side}
-use Rattle.disk_core.specs.Twin.{other, Contents}
+use Rattle.disk_core.specs.Twin.{Contents}
 use Rattle.book_model.specs.Book.{BookView}
 use Rattle.gate_journal.specs.declared.fault.OpenFault.{OpenFault}
 use Rattle.gate_journal.specs.declared.fault.OpenFault.TheVariants.{NotAJournal, Damaged, Disk, Memory}

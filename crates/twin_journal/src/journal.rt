@@ -1,6 +1,6 @@
 //! The journal.
 ghost use Rattle.std.specs.Prelude.{◌≡◌, ◌≢◌, ◌⊎◌, ◌↔◌, ◌+◌, ◌<◌, ◌≤◌, ◌++◌, [], ◌∷◌, ℕ, List, length, None, if◌then◌else◌, true, false, OnOk, OnErr, IfOk, IfErr, IsErrOf};
-ghost use Rattle.disk_core.specs.Disk.{LeavesOnly, NoMore};
+ghost use Rattle.disk_core.specs.Disk.{Elapses, LeavesOnly, NoMore};
 ghost use Rattle.book_model.specs.declared.act.Act.{Act as AnAct};
 ghost use Rattle.book_model.specs.Book.{BookView, first_fault, effects};
 ghost use Rattle.journal_codec.specs.Batches.{HaveOutcomes, book_after};
@@ -19,7 +19,7 @@ use crate::room::{JOURNAL_LIMIT, needs_of};
 use crate::whole::read_active;
 use book_core::Book;
 use book_model::Act;
-use disk_core::Twin;
+use disk_core::{CrashTwin, Twin};
 use gate_journal::{JournalFault, OpenFault};
 use std::alloc::{AllocError, Global};
 
@@ -219,5 +219,21 @@ impl<T: Twin> Journal<T> {
         ensures { result ≡ twin_of self }
     {
         self.twin
+    }
+}
+
+impl<T: CrashTwin> Journal<T> {
+    /// After this many more calls of the twin, on either side, every call fails, on a twin that has a fuse.
+    pub fn fuse(&mut self, calls: u64)
+        ensures seen { T.Twin.seen (twin_of self.new) ≡ T.Twin.seen (twin_of self.old) }
+        ensures crash { NoMore (T.Twin.may_leave (twin_of self.old)) (T.Twin.may_leave (twin_of self.new)) }
+        ensures time { Elapses (T.Twin.moment (twin_of self.old)) (T.Twin.moment (twin_of self.new))
+            (T.Twin.left_since (twin_of self.old)) (T.Twin.left_since (twin_of self.new))
+            (T.Twin.may_leave (twin_of self.new)) }
+        ensures failures { T.Twin.failures (twin_of self.new) ≡ T.Twin.failures (twin_of self.old) }
+        ensures set { T.lets_through (twin_of self.new) ≡ T.fused calls }
+        ensures figures { self.new ≡ record self.old { twin = twin_of self.new } }
+    {
+        self.twin.fuse(calls);
     }
 }

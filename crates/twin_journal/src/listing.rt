@@ -52,7 +52,10 @@ fn list_side(alloc: Global, active: &ActiveSide) -> Result<Listing, OpenFault>
     let bytes = active.bytes.as_slice();
     let (stamp, behind) = read_head(alloc, bytes)?;
     let Stamp {
-        epoch, base, book, ..
+        epoch,
+        base,
+        book,
+        ..
     } = stamp;
     let checkpoint = Checkpoint {
         epoch,

@@ -106,12 +106,7 @@ pub(crate) struct Fill {
 /// # Errors
 ///
 /// `AllocError` where memory is refused, a number is too large to be read again, or an act can't be encoded.
-pub(crate) fn fill_of(
-    alloc: Global,
-    epoch: u64,
-    base: u64,
-    book: &Book,
-) -> Result<Fill, AllocError>
+pub(crate) fn fill_of(alloc: Global, epoch: u64, base: u64, book: &Book) -> Result<Fill, AllocError>
     ensures fill { IfOk result (λ f. IsWritten book.now → IsFill f.bytes.items epoch base f.size book.now) }
     ensures size { IfOk result (λ f. f.size ≡ checkpoint_size book.now) }
     ensures len { IfOk result (λ f. length f.bytes.items ≡ f.size + 21) }

@@ -13,11 +13,7 @@ use crate::figures::Figures;
 use disk_core::{DiskFault, Twin};
 
 /// Stores a batch, given as these bytes with a closed gate after it, after the gate that ends the active side.
-pub(crate) fn store<T: Twin>(
-    twin: &mut T,
-    figures: Figures,
-    block: &[u8],
-) -> Result<(), DiskFault>
+pub(crate) fn store<T: Twin>(twin: &mut T, figures: Figures, block: &[u8]) -> Result<(), DiskFault>
     ensures done { OnOk result ((stamp : List ℕ) (start : BookView) (bs : List (List Act)) (acts : List Act)
         → IsAt figures (T.seen twin.old) (T.may_leave twin.old) stamp start bs → block.now ≡ batch acts ++ 0 ∷ []
         → IsBatch acts → first_fault (book_after start bs) acts ≡ None

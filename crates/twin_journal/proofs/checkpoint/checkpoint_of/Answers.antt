@@ -1,8 +1,6 @@
 use Rattle.std.proofs.Common.{◌≡◌, ◌++◌, ◌∙◌, arith, ap, List, ℕ}
 use Rattle.book_model.specs.Restoring.{acts_of_book}
 use Rattle.journal_codec.specs.Format.{in_8, acts_bytes}
-use Rattle.journal_codec.specs.Batches.{AreWritable}
-use Rattle.twin_journal.specs.Format.{checkpoint_bytes}
 use Rattle.twin_journal.proofs.Checked.{listed_book}
 use Rattle.twin_journal.proofs.checkpoint.checkpoint_of.Goals as goal
 

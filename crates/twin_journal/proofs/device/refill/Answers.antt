@@ -1,4 +1,4 @@
-use Rattle.std.proofs.Common.{◌≡◌, ◌∙◌, ℕ, ◌+◌, length}
+use Rattle.std.proofs.Common.{◌≡◌, ◌∙◌, ◌+◌, length}
 use Rattle.disk_core.specs.Disk.{between, from}
 use Rattle.disk_core.specs.DiskLaws.{goes_on}
 use Rattle.disk_core.specs.Twin.{other}

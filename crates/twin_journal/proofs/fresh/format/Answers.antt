@@ -1,8 +1,7 @@
-use Rattle.std.proofs.Common.{◌≡◌, [], sym, subst}
+use Rattle.std.proofs.Common.{[], sym, subst}
 use Rattle.disk_core.specs.declared.side.Side.TheVariants.{First, Second}
 use Rattle.disk_core.specs.Twin.{Contents}
 use Rattle.book_model.specs.Book.{empty_book}
-use Rattle.twin_journal.specs.Format.{fresh}
 use Rattle.twin_journal.specs.Holding.{TwinHolds}
 use Rattle.twin_journal.proofs.Beginnings.{fresh_both, fresh_holds_none}
 use Rattle.twin_journal.proofs.Moments.{on_ok, synced}

@@ -1,4 +1,4 @@
-use Rattle.std.proofs.Common.{◌∙◌, ap, arith, length, ◌+◌}
+use Rattle.std.proofs.Common.{◌∙◌, arith, ◌+◌}
 use Rattle.twin_journal.proofs.Renewed.{ready}
 use Rattle.twin_journal.proofs.renew.renew.Goals as goal
 

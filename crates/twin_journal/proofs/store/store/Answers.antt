@@ -1,4 +1,4 @@
-use Rattle.std.proofs.Common.{◌⊎◌, inl, ◌++◌, ◌∷◌, [], List}
+use Rattle.std.proofs.Common.{◌⊎◌, inl, ◌++◌, ◌∷◌, []}
 use Rattle.disk_core.specs.DiskLaws.{widened, joined}
 use Rattle.disk_core.specs.Twin.{Contents}
 use Rattle.twin_journal.specs.Holding.{TwinHolds}
