@@ -74,11 +74,7 @@ pub fn answer(
 }
 
 /// Takes two files with these bytes.
-fn take(
-    alloc: Global,
-    scene: &mut Option<StopTwin>,
-    words: &str,
-) -> Result<String, CaseFault> {
+fn take(alloc: Global, scene: &mut Option<StopTwin>, words: &str) -> Result<String, CaseFault> {
     let (first, second) = words.split_once(' ').ok_or(CaseFault::Word)?;
     let twin = MemTwin::holding(alloc, bytes_of(alloc, first)?, bytes_of(alloc, second)?)?;
     set(scene, FuseTwin::new(twin));
@@ -212,11 +208,7 @@ fn append_text(
 }
 
 /// Opens the journal and makes a checkpoint; the words say after how many calls each call on the twin fails.
-fn renewed(
-    alloc: Global,
-    scene: &mut Option<StopTwin>,
-    words: &str,
-) -> Result<String, CaseFault> {
+fn renewed(alloc: Global, scene: &mut Option<StopTwin>, words: &str) -> Result<String, CaseFault> {
     let calls = calls_of(words)?;
     match Journal::open(alloc, taken(scene)?) {
         Ok((mut journal, book)) => {
@@ -265,7 +257,10 @@ fn lines_of(alloc: Global, listing: &Listing) -> Result<String, CaseFault> {
     let base = listing.checkpoint.base;
     let rows = listing.checkpoint.rows;
     let termini = listing.checkpoint.termini;
-    writeln!(lines, "epoch {epoch} base {base} rows {rows} termini {termini}")?;
+    writeln!(
+        lines,
+        "epoch {epoch} base {base} rows {rows} termini {termini}"
+    )?;
     for entry in &listing.entries {
         let place = entry.place;
         let kind = entry.act.kind();

@@ -93,12 +93,7 @@ pub struct Found {
 /// # Errors
 ///
 /// `Damaged` where an open gate has no batch; `Memory`.
-pub fn walk(
-    alloc: Global,
-    start: Book,
-    bytes: &[u8],
-    from_gate: &[u8],
-) -> Result<Found, OpenFault>
+pub fn walk(alloc: Global, start: Book, bytes: &[u8], from_gate: &[u8]) -> Result<Found, OpenFault>
     requires within { length from_gate.now ≤ length bytes.now }
     ensures found { IfOk result (λ f. (head : List ℕ) → BeginsWith head bytes.now from_gate.now
         → IsFoundFrom head start bytes.now f.book f.place f.count) }

@@ -53,7 +53,7 @@ epochs contents side active open' =
     active.alone_or_newer
 
 -- neither side is active where both are shut
-both_shut : (contents : Contents) → IsShut (contents First) → IsShut (contents Second) → NoneActive contents
+pub both_shut : (contents : Contents) → IsShut (contents First) → IsShut (contents Second) → NoneActive contents
 both_shut contents first second First active = shut_or_open (contents First) first active.opened
 both_shut contents first second Second active = shut_or_open (contents Second) second active.opened
 
@@ -83,13 +83,13 @@ second_short contents first second f s one two =
 
 -- both are, with their epochs
 module _ (contents : Contents) (a b : ℕ) (one : HasEpoch a (contents First)) (two : HasEpoch b (contents Second)) where
-  first_newer : b < a → IsActive contents First
+  pub first_newer : b < a → IsActive contents First
   first_newer lower = record { opened = epoch_open (contents First) a one; alone_or_newer = inr (record { epoch = a; has = one; older = record { older = b; has = two; lower = lower } }) }
 
-  second_newer : a < b → IsActive contents Second
+  pub second_newer : a < b → IsActive contents Second
   second_newer lower = record { opened = epoch_open (contents Second) b two; alone_or_newer = inr (record { epoch = b; has = two; older = record { older = a; has = one; lower = lower } }) }
 
-  neither_newer : a ≡ b → NoneActive contents
+  pub neither_newer : a ≡ b → NoneActive contents
   neither_newer same =
       both_open contents (epoch_open (contents First) a one) (epoch_open (contents Second) b two)
       (λ c d has too. one_epoch (contents First) c a has one ∙ same ∙ one_epoch (contents Second) b d two too)

@@ -2,6 +2,7 @@ pub mod Active
 pub mod Appended
 pub mod Beginnings
 pub mod Checked
+pub mod Decided
 pub mod Firsts
 pub mod Found
 pub mod Idle

@@ -1,13 +1,18 @@
 -- Numbers as bytes.
-use Rattle.std.proofs.Common.{◌≡◌, ℕ, ◌+◌, ◌<◌, ◌≤◌, ◌^◌, List, ◌++◌, length, take, drop, refl, sym, ap, ◌∙◌, arith, length-append, take-append-drop}
+use Rattle.std.proofs.Common.{◌≡◌, ℕ, ◌+◌, ◌<◌, ◌≤◌, ◌^◌, List, ◌++◌, length, take, drop, refl, sym, ap, ◌∙◌, arith, length-append, length-drop, take-append-drop, false}
+use Rattle.std.specs.Prelude.{nat_lt}
+use Rattle.std.proofs.lemmas.Bool.Decides.{nat_tests}
 use Rattle.std.specs.Int.{w32, w64, to_be_bytes, from_be_bytes}
 use Rattle.std.proofs.lemmas.List.{length-take-le}
 use Rattle.std.proofs.lemmas.Nat.{be_bytes_4, be_bytes_8}
 use Rattle.journal_codec.specs.Format.{in_4, in_8}
 use Rattle.journal_codec.specs.Reading.{number_at}
-use Rattle.journal_codec.proofs.Tools.{AreBytes, bytes_take, done, same_read, same_rest, back_4, back_8}
+use Rattle.journal_codec.proofs.Tools.{AreBytes, bytes_take, done, same_read, same_rest, back_4, back_8, forth_4, forth_8}
 use Rattle.journal_codec.proofs.Spelled.{length-in_8}
 use Rattle.twin_journal.specs.Format.{largest}
+
+not_less : (a b : ℕ) → b ≤ a → nat_lt a b ≡ false
+not_less a b le = grind (arith, nat_tests)
 
 pub in_4_is : (n : ℕ) → to_be_bytes w32 n ≡ in_4 n
 unfolding in_4
@@ -35,6 +40,19 @@ pub read_8 : (bytes field rest : List ℕ) (n : ℕ) → AreBytes bytes → fiel
 read_8 bytes field rest n are front back len is =
     let long : length (take 8 bytes) ≡ 8 = length-take-le 8 bytes (omega (arith, len)) in
     sym (take-append-drop 8 bytes) ∙ ap (λ (l : List ℕ). l ++ drop 8 bytes) (sym (spelled_8 (take 8 bytes) n long (bytes_take 8 bytes are) (is ∙ ap (from_be_bytes w64) front))) ∙ ap (λ (l : List ℕ). in_8 n ++ l) (sym back)
+
+-- the number at the front of enough bytes
+pub front_4 : (bytes : List ℕ) → AreBytes bytes → 4 ≤ length bytes → bytes ≡ in_4 (from_be_bytes w32 (take 4 bytes)) ++ drop 4 bytes
+front_4 bytes are long = read_4 bytes (take 4 bytes) (drop 4 bytes) (from_be_bytes w32 (take 4 bytes)) are refl refl (omega (arith, long, length-drop 4 bytes)) refl
+
+pub front_8 : (bytes : List ℕ) → AreBytes bytes → 8 ≤ length bytes → bytes ≡ in_8 (from_be_bytes w64 (take 8 bytes)) ++ drop 8 bytes
+front_8 bytes are long = read_8 bytes (take 8 bytes) (drop 8 bytes) (from_be_bytes w64 (take 8 bytes)) are refl refl (omega (arith, long, length-drop 8 bytes)) refl
+
+pub fits_4 : (bytes : List ℕ) → AreBytes bytes → 4 ≤ length bytes → from_be_bytes w32 (take 4 bytes) < 2 ^ 32
+fits_4 bytes are long = (forth_4 bytes (drop 4 bytes) (from_be_bytes w32 (take 4 bytes)) are (rw (not_less (length bytes) 4 long) refl)).fits
+
+pub fits_8 : (bytes : List ℕ) → AreBytes bytes → 8 ≤ length bytes → from_be_bytes w64 (take 8 bytes) < 2 ^ 64
+fits_8 bytes are long = (forth_8 bytes (drop 8 bytes) (from_be_bytes w64 (take 8 bytes)) are (rw (not_less (length bytes) 8 long) refl)).fits
 
 -- Bytes at the front are those of one number only.
 pub record Same (a b : ℕ) (r s : List ℕ) : Type 0 where

@@ -1,5 +1,5 @@
 -- Two files are one thing only: they open to one book, or they are damaged at one place, or they are no journal.
-use Rattle.std.proofs.Common.{◌≡◌, ◌≢◌, ◌⊎◌, inl, inr, ⊎_elim, ℕ, ◌+◌, ◌<◌, ◌≤◌, List, [], ◌∷◌, ◌++◌, length, None, refl, sym, ap, ◌∙◌, subst, arith, append_assoc, length-append}
+use Rattle.std.proofs.Common.{◌≡◌, ◌≢◌, ◌⊎◌, inl, inr, ⊎_elim, ℕ, ◌+◌, ◌≤◌, List, [], ◌∷◌, ◌++◌, length, None, refl, sym, ap, ◌∙◌, subst, arith, append_assoc, length-append}
 use Rattle.disk_core.specs.declared.side.Side.{Side}
 use Rattle.disk_core.specs.declared.side.Side.TheVariants.{First, Second}
 use Rattle.disk_core.specs.Twin.{other, Contents}
@@ -17,12 +17,12 @@ use Rattle.gate_journal.specs.declared.fault.OpenFault.TheVariants.{NotAJournal}
 use Rattle.gate_journal.specs.Opening.{IsDamagedFrom}
 use Rattle.gate_journal.proofs.Judged.{whole_or_damaged, one_damage}
 use Rattle.gate_journal.proofs.Unique.{one_list_from}
-use Rattle.twin_journal.specs.Checkpoints.{IsCheckpoint, IsStamp, NoStamp}
+use Rattle.twin_journal.specs.Checkpoints.{IsCheckpoint, IsStamp}
 use Rattle.twin_journal.specs.Format.{magic, stamp_bytes, checkpoint_size}
 use Rattle.twin_journal.specs.Holding.{HoldsOn, TwinHolds, OpensTo}
 use Rattle.twin_journal.specs.Judging.{Explains, IsDamagedAt, IsUndecided, IsHeadless, IsBroken}
-use Rattle.twin_journal.specs.Sides.{IsNoSide, IsShut, IsOpen, HasEpoch, IsOlder, IsActive}
-use Rattle.twin_journal.proofs.Active.{epochs, one_epoch, shut_or_open, epoch_open, same_behind}
+use Rattle.twin_journal.specs.Sides.{IsNoSide, IsActive}
+use Rattle.twin_journal.proofs.Active.{epochs, one_epoch, same_behind}
 use Rattle.twin_journal.proofs.Checked.{behind_first, behind_second, spelled_parts}
 use Rattle.twin_journal.proofs.Firsts.{no_side}
 use Rattle.twin_journal.proofs.Found.{stamp_epoch}
@@ -126,7 +126,7 @@ same_list contents base lower start book bs cs h i =
       bases = same.bases;
       starts = same.starts;
       lists = one_list_from (magic ++ 1 ∷ h.stamp) start (contents h.side) bs cs h.on.holds
-      (subst (λ (b : BookView). HoldsFrom (magic ++ 1 ∷ h.stamp) b (contents h.side) cs) (sym same.starts) (subst (λ (l : List ℕ). HoldsFrom (magic ++ 1 ∷ l) book (contents h.side) cs) (sym same.stamps) too));
+          (subst (λ (b : BookView). HoldsFrom (magic ++ 1 ∷ h.stamp) b (contents h.side) cs) (sym same.starts) (subst (λ (l : List ℕ). HoldsFrom (magic ++ 1 ∷ l) book (contents h.side) cs) (sym same.stamps) too));
     }
 
 pub same_book : (contents : Contents) (b c : BookView) → OpensTo contents b → OpensTo contents c → b ≡ c

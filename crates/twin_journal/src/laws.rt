@@ -1,5 +1,5 @@
 //! Laws of the journal's definitions. Each is the clause of a function that does nothing.
-ghost use Rattle.std.specs.Prelude.{◌≡◌, ◌<◌, ◌≤◌, ◌+◌, ◌⊎◌, ℕ, List, None, length};
+ghost use Rattle.std.specs.Prelude.{◌≡◌, ◌<◌, ◌≤◌, ◌+◌, ◌⊎◌, ℕ, List, None, get_or, length};
 ghost use Rattle.disk_core.specs.declared.side.Side.{Side};
 ghost use Rattle.disk_core.specs.Twin.{Contents};
 ghost use Rattle.book_model.specs.declared.act.Act.{Act};
@@ -33,8 +33,12 @@ pub fn opens_to_one_book()
     ensures sound { (contents : Contents) (book : BookView) → OpensTo contents book → IsSound book }
 {}
 
-/// Two files that open to a book are neither damaged nor no journal, and files are damaged at one place only.
+/// For two files of bytes exactly one is true: they open to a book, they are damaged at a place, or they are no journal. And
+/// they are damaged at only one place.
 pub fn one_judgement()
+    ensures some { (contents : Contents) → ((side : Side) (place : ℕ) → get_or (contents side) place 0 < 256)
+        → ((book : BookView) × OpensTo contents book)
+        ⊎ (((place : ℕ) × IsDamagedAt contents place) ⊎ Explains contents NotAJournal) }
     ensures opens_or_damaged { (contents : Contents) (book : BookView) (place : ℕ) → OpensTo contents book → IsDamagedAt contents place → ⊥ }
     ensures opens_or_none { (contents : Contents) (book : BookView) → OpensTo contents book → Explains contents NotAJournal → ⊥ }
     ensures damaged_or_none { (contents : Contents) (place : ℕ) → IsDamagedAt contents place → Explains contents NotAJournal → ⊥ }
