@@ -1,5 +1,7 @@
 //! Batches of acts, as a journal accepts them: not empty, of outcomes, within the limit, and applying to its book.
-ghost use Rattle.std.specs.Prelude.{◌≡◌, true, OnOk};
+ghost use Rattle.std.specs.Prelude.{◌≡◌, ◌≢◌, ◌≤◌, [], length, None, true, OnOk};
+ghost use Rattle.book_model.specs.Book.{first_fault};
+ghost use Rattle.journal_codec.specs.Format.{acts_bytes};
 ghost use Rattle.journal_codec.specs.Batches.{HasOutcome, HaveOutcomes};
 
 use crate::acts::acts_of;
@@ -7,7 +9,7 @@ use amqp_model::DeliveryState;
 use book_core::Book;
 use book_model::{Act, BookFault};
 use case_files::CaseFault;
-use disk_core::Disk;
+use disk_core::{Disk, Twin};
 use gate_journal::laws::terminal_states_are_outcomes;
 use gate_journal::{Entry, Journal, JournalFault, acts_len};
 use std::alloc::Global;
@@ -16,6 +18,28 @@ use std::slice;
 
 /// The most bytes of a batch's acts.
 const MOST_BYTES: usize = 4_194_304;
+
+/// A journal to which batches are appended.
+pub trait Appends {
+    /// Appends a batch to the journal of this book, and gives its number.
+    fn append(&mut self, book: &Book, acts: &[Act]) -> Result<u64, JournalFault>
+        requires some { acts.now ≢ [] }
+        requires small { length (acts_bytes acts.now) ≤ 4194304 }
+        requires outcomes { HaveOutcomes acts.now }
+        requires applies { first_fault book.now acts.now ≡ None };
+}
+
+impl<D: Disk> Appends for Journal<D> {
+    fn append(&mut self, book: &Book, acts: &[Act]) -> Result<u64, JournalFault> {
+        Journal::append(self, book, acts)
+    }
+}
+
+impl<T: Twin> Appends for twin_journal::Journal<T> {
+    fn append(&mut self, book: &Book, acts: &[Act]) -> Result<u64, JournalFault> {
+        twin_journal::Journal::append(self, book, acts)
+    }
+}
 
 /// The outcome of appending a batch.
 #[derive(Clone, Copy)]
@@ -61,9 +85,9 @@ fn apply_both(book: &mut Book, trial: &mut Book, acts: &[Act]) -> Result<(), Cas
 ///
 /// `Word` and `Bytes` where the text isn't in the form, or a batch is empty, too long, or decides by a state that the
 /// journal's callers have to prove an outcome; `Memory`.
-pub fn append_batches<D: Disk>(
+pub fn append_batches<J: Appends>(
     alloc: Global,
-    journal: &mut Journal<D>,
+    journal: &mut J,
     book: &mut Book,
     trial: &mut Book,
     text: &str,
@@ -83,9 +107,9 @@ pub fn append_batches<D: Disk>(
 }
 
 /// Appends a batch to the journal, and applies it to its book and to the other, which shows whether it applies.
-fn store<D: Disk>(
+fn store<J: Appends>(
     alloc: Global,
-    journal: &mut Journal<D>,
+    journal: &mut J,
     book: &mut Book,
     trial: &mut Book,
     acts: &[Act],

@@ -155,7 +155,11 @@ fn sizes(alloc: Global, book: &Book, room: i128) -> Result<String, CaseFault> {
 }
 
 /// Why a journal can't be opened.
-fn why_not(alloc: Global, fault: OpenFault) -> Result<String, CaseFault> {
+///
+/// # Errors
+///
+/// `Memory`.
+pub fn why_not(alloc: Global, fault: OpenFault) -> Result<String, CaseFault> {
     Ok(format!(in alloc; "{fault}")?)
 }
 

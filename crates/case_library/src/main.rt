@@ -1,4 +1,5 @@
-//! Tries the cases that ask one library: values, performatives, frames, configurations, books, disks, twins and journals.
+//! Tries the cases that ask one library: values, performatives, frames, configurations, books, disks, twins and journals on disks
+//! and twins.
 //! `docs/cases.md` describes their form.
 #![tactic(auto)]
 
@@ -11,6 +12,7 @@ mod frames;
 mod journals;
 mod performatives;
 mod scene;
+mod twin_journals;
 mod twins;
 mod values;
 

@@ -1,6 +1,7 @@
 //! Scenes: what the questions of a case file are about.
 use crate::disks::{self, AnyDisk};
 use crate::journals::{self, StopDisk};
+use crate::twin_journals::{self, StopTwin};
 use crate::twins::{self, AnyTwin};
 use crate::{books, configurations, frames, performatives, values};
 use book_core::Book;
@@ -27,6 +28,8 @@ pub enum Subject {
     Twin(Option<AnyTwin>),
     /// The disk of a journal, where one was taken.
     Journal(Option<StopDisk>),
+    /// The twin of a journal, where one was taken.
+    TwinJournal(Option<StopTwin>),
 }
 
 impl Scene for Subject {
@@ -40,6 +43,7 @@ impl Scene for Subject {
             "disks" => Some(Subject::Disk(None)),
             "twins" => Some(Subject::Twin(None)),
             "journals" => Some(Subject::Journal(None)),
+            "twin_journals" => Some(Subject::TwinJournal(None)),
             _ => None,
         }
     }
@@ -55,6 +59,7 @@ impl Scene for Subject {
             Subject::Disk(scene) => disks::answer(rt, scene, case),
             Subject::Twin(scene) => twins::answer(rt, scene, case),
             Subject::Journal(scene) => journals::answer(alloc, scene, case),
+            Subject::TwinJournal(scene) => twin_journals::answer(alloc, scene, case),
         }
     }
 }

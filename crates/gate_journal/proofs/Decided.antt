@@ -22,7 +22,7 @@ by_result : {A P : Type 0} (r : Result A ReadFault) → ((x : A) → r ≡ Ok x 
 by_result (Ok x) f g = f x refl
 by_result (Err fault) f g = g fault refl
 
-by_option : {P : Type 0} (o : Option BookFault) → (o ≡ None → P) → ((fault : BookFault) → o ≡ Some fault → P) → P
+pub by_option : {P : Type 0} (o : Option BookFault) → (o ≡ None → P) → ((fault : BookFault) → o ≡ Some fault → P) → P
 by_option None f g = f refl
 by_option (Some fault) f g = g fault refl
 
@@ -30,22 +30,22 @@ by_list : {P : Type 0} (l : List ℕ) → (l ≡ [] → P) → (0 < length l →
 by_list [] f g = f refl
 by_list (x ∷ l) f g = g (omega arith)
 
-by_number : {P : Type 0} (m n : ℕ) → (m ≡ n → P) → (m ≢ n → P) → P
+pub by_number : {P : Type 0} (m n : ℕ) → (m ≡ n → P) → (m ≢ n → P) → P
 by_number m n f g = by_test (m == n) (λ t. f (grind (arith, nat_tests))) (λ t. g (λ same. absurd (grind (arith, nat_tests))))
 
-are_front : (front rest : List ℕ) → AreBytes (front ++ rest) → AreBytes front
+pub are_front : (front rest : List ℕ) → AreBytes (front ++ rest) → AreBytes front
 are_front front rest h = let P : List ℕ → Type 0 = λ l. AreBytes l in subst P (take_at front rest (length front) refl) (bytes_take (length front) (front ++ rest) h)
 
-are_back : (bytes front rest : List ℕ) → bytes ≡ front ++ rest → AreBytes bytes → AreBytes rest
+pub are_back : (bytes front rest : List ℕ) → bytes ≡ front ++ rest → AreBytes bytes → AreBytes rest
 are_back bytes front rest e h = let P : List ℕ → Type 0 = λ l. AreBytes l in bytes_behind front rest (subst P e h)
 
 -- Acts, or none.
-record IsActs (bytes : List ℕ) : Type 0 where
-  acts : List Act
-  writable : AreWritable acts
-  is : bytes ≡ acts_bytes acts
+pub record IsActs (bytes : List ℕ) : Type 0 where
+  pub acts : List Act
+  pub writable : AreWritable acts
+  pub is : bytes ≡ acts_bytes acts
 
-decide_acts : (fuel : ℕ) (bytes : List ℕ) (acts : List Act) (rest : List ℕ) → AreBytes bytes → length rest ≤ fuel → bytes ≡ acts_bytes acts ++ rest → AreWritable acts → IsActs bytes ⊎ NoActs bytes
+pub decide_acts : (fuel : ℕ) (bytes : List ℕ) (acts : List Act) (rest : List ℕ) → AreBytes bytes → length rest ≤ fuel → bytes ≡ acts_bytes acts ++ rest → AreWritable acts → IsActs bytes ⊎ NoActs bytes
 decide_acts zero bytes acts rest are short e h =
     by_list rest
     (λ none. inl (record { acts = acts; writable = h; is = e ∙ ap (λ (l : List ℕ). acts_bytes acts ++ l) none ∙ append-nil (acts_bytes acts) }))

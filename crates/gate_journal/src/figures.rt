@@ -17,7 +17,7 @@ pub(crate) struct Figures {
 }
 
 /// A sum; none where it is too large for its type.
-pub(crate) fn total(parts: &[u64]) -> Option<u64>
+pub fn total(parts: &[u64]) -> Option<u64>
     ensures { IfSome result (λ n. n ≡ sum parts.now) }
 {
     let mut total = 0u64;
@@ -66,9 +66,9 @@ fn reserve_of_rows(book: &Book) -> Option<u64>
     Some(total)
 }
 
-/// What a journal keeps free for a book.
+/// What a journal keeps free for a book; none where it is too much for its type.
 #[tactic(auto, unfolding(crate::specs::Reserve::reserve))]
-pub(crate) fn reserve_of(book: &Book) -> Option<u64>
+pub fn reserve_of(book: &Book) -> Option<u64>
     ensures { IfSome result (λ n. n ≡ reserve book.now) }
 {
     let rows = reserve_of_rows(book)?;
@@ -76,8 +76,8 @@ pub(crate) fn reserve_of(book: &Book) -> Option<u64>
     rows.checked_add(termini)
 }
 
-/// By how much acts make the reserve larger.
-pub(crate) fn growth_by(acts: &[Act]) -> Option<u64>
+/// By how much acts make the reserve larger; none where it is too much for its type.
+pub fn growth_by(acts: &[Act]) -> Option<u64>
     ensures { IfSome result (λ n. n ≡ sum_by growth acts.now) }
 {
     let mut total = 0u64;
@@ -87,8 +87,8 @@ pub(crate) fn growth_by(acts: &[Act]) -> Option<u64>
     Some(total)
 }
 
-/// By how much acts make the reserve smaller.
-pub(crate) fn release_by(acts: &[Act]) -> Option<u64>
+/// By how much acts make the reserve smaller; none where it is too much for its type.
+pub fn release_by(acts: &[Act]) -> Option<u64>
     ensures { IfSome result (λ n. n ≡ sum_by release acts.now) }
 {
     let mut total = 0u64;

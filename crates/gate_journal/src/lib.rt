@@ -14,7 +14,9 @@ mod store;
 mod whole;
 
 pub use fault::{JournalFault, OpenFault};
+pub use figures::{growth_by, release_by, reserve_of, total};
 pub use fresh::format;
 pub use journal::Journal;
 pub use journal_codec::{acts_len, kept_outcome};
-pub use listing::{Entry, Listing, list};
+pub use listing::{Entry, Listing, list, list_from};
+pub use scan::{Found, walk};

@@ -45,7 +45,11 @@ fn add(entries: &mut Vec<Entry>, place: usize, acts: Vec<Act>) -> Result<(), All
 }
 
 /// The acts of a file's batches above a book, from the gate behind its head.
-fn list_from(
+///
+/// # Errors
+///
+/// `Damaged` where an open gate has no batch; `Memory`.
+pub fn list_from(
     alloc: Global,
     start: Book,
     bytes: &[u8],

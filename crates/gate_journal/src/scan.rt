@@ -79,22 +79,21 @@ pub(crate) fn behind_head(bytes: &[u8]) -> Option<&[u8]>
 
 /// What was found in a file.
 #[derive(Drop)]
-pub(crate) struct Found {
+pub struct Found {
     /// The book after the batches.
-    pub(crate) book: Book,
-    /// The place of the gate that ends them.
-    pub(crate) place: usize,
+    pub book: Book,
+    /// The place of the gate that ends them, in bytes from the file's beginning.
+    pub place: usize,
     /// Their number.
-    pub(crate) count: u64,
+    pub count: u64,
 }
 
 /// The batches of a file above a book, from the gate behind its head: up to the first gate that isn't open.
-pub(crate) fn walk(
-    alloc: Global,
-    start: Book,
-    bytes: &[u8],
-    from_gate: &[u8],
-) -> Result<Found, OpenFault>
+///
+/// # Errors
+///
+/// `Damaged` where an open gate has no batch; `Memory`.
+pub fn walk(alloc: Global, start: Book, bytes: &[u8], from_gate: &[u8]) -> Result<Found, OpenFault>
     requires within { length from_gate.now ≤ length bytes.now }
     ensures found { IfOk result (λ f. (head : List ℕ) → BeginsWith head bytes.now from_gate.now
         → IsFoundFrom head start bytes.now f.book f.place f.count) }

@@ -8,7 +8,11 @@ use book_model::Act;
 use std::alloc::Global;
 
 /// The acts that make up all of these bytes.
-fn read_acts(alloc: Global, bytes: &[u8]) -> Result<Vec<Act>, ReadFault>
+///
+/// # Errors
+///
+/// `Misspelt` where the bytes are those of no acts; `Memory`.
+pub fn read_acts(alloc: Global, bytes: &[u8]) -> Result<Vec<Act>, ReadFault>
     ensures spelled { IfOk result (λ v. bytes.now ≡ acts_bytes v.items) }
     ensures writable { IfOk result (λ v. AreWritable v.items) }
     ensures none { IsErrOf result ReadFault.Misspelt → NoActs bytes.now }

@@ -5,6 +5,6 @@ mod batch;
 mod read;
 mod spell;
 
-pub use batch::read_batch;
+pub use batch::{read_acts, read_batch};
 pub use read::{ReadFault, kept_outcome};
-pub use spell::{acts_len, block_of};
+pub use spell::{acts_len, block_of, put_acts};

@@ -146,7 +146,11 @@ fn put_act(alloc: Global, out: &mut Vec<u8>, act: &Act) -> Result<(), AllocError
 }
 
 /// Appends the bytes of acts.
-fn put_acts(alloc: Global, out: &mut Vec<u8>, acts: &[Act]) -> Result<(), AllocError>
+///
+/// # Errors
+///
+/// `AllocError` where memory is refused, or an act can't be encoded.
+pub fn put_acts(alloc: Global, out: &mut Vec<u8>, acts: &[Act]) -> Result<(), AllocError>
     ensures put { OnOk result (out.new.items ≡ out.old.items ++ acts_bytes acts.now) }
     ensures writable { OnOk result (HaveOutcomes acts.now → HaveTermini acts.now → AreWritable acts.now) }
 {

@@ -1,0 +1,10 @@
+pub mod Checkpoints
+pub mod Figures
+pub mod Format
+pub mod Holding
+pub mod Journal
+pub mod Judging
+pub mod Listed
+pub mod Reading
+pub mod Room
+pub mod Sides
