@@ -679,8 +679,8 @@ impl<D: Crash> Core<D> {
     }
 }
 
-/// The reply to an event that was handled, by the book after its acts; then the rows that its attach takes up are bound,
-/// and last comes what follows.
+/// The reply to an event that was handled, by the book after its acts; then the rows that its attach takes up are
+/// bound, and last comes what follows.
 fn reply_to(
     state: &mut State,
     book: &Book,
