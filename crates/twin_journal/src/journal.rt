@@ -1,5 +1,5 @@
 //! The journal.
-ghost use Rattle.std.specs.Prelude.{◌≡◌, ◌≢◌, ◌⊎◌, ◌↔◌, ◌+◌, ◌<◌, ◌≤◌, ◌++◌, [], ◌∷◌, ℕ, List, length, None, if◌then◌else◌, true, false, OnOk, OnErr, IfOk, IfErr, IsErrOf};
+ghost use Rattle.std.specs.Prelude.{◌≡◌, ◌≢◌, ◌⊎◌, ◌↔◌, ◌+◌, ◌<◌, ◌≤◌, ◌++◌, [], ◌∷◌, ℕ, List, length, None, if◌then◌else◌, true, false, IsTrue, OnOk, OnErr, IfOk, IfErr, IsErrOf};
 ghost use Rattle.disk_core.specs.Disk.{Elapses, LeavesOnly, NoMore};
 ghost use Rattle.book_model.specs.declared.act.Act.{Act as AnAct};
 ghost use Rattle.book_model.specs.Book.{BookView, first_fault, effects};
@@ -14,6 +14,7 @@ ghost use Rattle.twin_journal.specs.Room.{IsFull, room};
 use crate::added::append_batch;
 use crate::figures::{Figures, Needs};
 use crate::opened::scan;
+use crate::plan::plan_batch;
 use crate::renew::renew;
 use crate::room::{JOURNAL_LIMIT, needs_of};
 use crate::whole::read_active;
@@ -183,6 +184,23 @@ impl<T: Twin> Journal<T> {
                 self.failed = true;
                 Err(fault)
             }
+        }
+    }
+
+    /// Whether `append` answers `Full` to a batch of acts that apply to the journal's book: it costs more than nothing, and more
+    /// than the room.
+    ///
+    /// # Errors
+    ///
+    /// `AllocError` where memory was refused, or an act can't be encoded.
+    pub fn is_full(&self, book: &Book, acts: &[Act]) -> Result<bool, AllocError>
+        requires applies { first_fault book.now acts.now ≡ None }
+        ensures { IfOk result (λ full. SuitsBook self.now book.now → IsTrue full ↔ IsFull book.now acts.now) }
+    {
+        match plan_batch(self.alloc, self.figures, self.needs, book, acts) {
+            Ok(_plan) => Ok(false),
+            Err(JournalFault::Full) => Ok(true),
+            Err(_) => Err(AllocError),
         }
     }
 
