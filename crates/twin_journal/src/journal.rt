@@ -35,9 +35,9 @@ pub struct Journal<T: Twin> {
 }
 
 impl<T: Twin> Journal<T> {
-    /// Opens the journal on two files, and gives the book after its batches. It begins with a sync of both, so that a crash
-    /// leaves what was read. At an `Err` the files are dropped: `Disk` comes where they failed, `Memory` where memory was
-    /// refused.
+    /// Opens the journal on two files, and gives the book after its batches. It begins with a sync of both, so that a
+    /// crash leaves what was read. At an `Err` the files are dropped: `Disk` comes where they failed, `Memory` where
+    /// memory was refused.
     pub fn open(alloc: Global, twin: T) -> Result<(Journal<T>, Book), OpenFault>
         ensures opened { IfOk result (λ r. KeepsBook T.seen T.may_leave r.0 r.1) }
         ensures suits { IfOk result (λ r. SuitsBook r.0 r.1) }
@@ -67,12 +67,14 @@ impl<T: Twin> Journal<T> {
         ))
     }
 
-    /// Appends a batch to the journal of this book, and gives its number, from 1 on. The acts apply to the book; each outcome
-    /// that they decide is a terminal state that its encoding gives back. A checkpoint is made before it where one is due: the
-    /// batches since the last one have 1,048,576 bytes or more and no fewer than it, or the file would go beyond the limit.
+    /// Appends a batch to the journal of this book, and gives its number, from 1 on. The acts apply to the book; each
+    /// outcome that they decide is a terminal state that its encoding gives back. A checkpoint is made before it where
+    /// one is due: the batches since the last one have 1,048,576 bytes or more and no fewer than it, or the file would
+    /// go beyond the limit.
     ///
-    /// At `Ok` the batch is durable: a crash leaves it. At `Full` nothing is changed. At `Disk` and `Memory` the journal
-    /// answers `Failed` from then on, and has to be opened again. At `Failed` nothing is changed, on the disk neither.
+    /// At `Ok` the batch is durable: a crash leaves it. At `Full` nothing is changed. At `Disk` and `Memory` the
+    /// journal answers `Failed` from then on, and has to be opened again. At `Failed` nothing is changed, on the disk
+    /// neither.
     pub fn append(&mut self, book: &Book, acts: &[Act]) -> Result<u64, JournalFault>
         requires some { acts.now ≢ [] }
         requires small { length (acts_bytes acts.now) ≤ 4194304 }
@@ -140,12 +142,13 @@ impl<T: Twin> Journal<T> {
     /// Makes a checkpoint: the idle side gets the book that the batches leave, and is the active side from then on. A
     /// journal makes them by itself as well, as it grows.
     ///
-    /// At `Disk` and `Memory` the journal answers `Failed` from then on, and has to be opened again. At `Failed` nothing is
-    /// changed.
+    /// At `Disk` and `Memory` the journal answers `Failed` from then on, and has to be opened again. At `Failed`
+    /// nothing is changed.
     ///
     /// # Errors
     ///
-    /// `Disk`; `Memory`, where memory is refused or a number is too large to be read again; `Failed` after an earlier fault.
+    /// `Disk`; `Memory`, where memory is refused or a number is too large to be read again; `Failed` after an earlier
+    /// fault.
     pub fn checkpoint(&mut self, book: &Book) -> Result<(), JournalFault>
         ensures done { OnOk result ((base : ℕ) (start : BookView) (bs : List (List AnAct)) → Keeps T.seen T.may_leave self.old base start bs
             → book_after start bs ≡ book.now → Keeps T.seen T.may_leave self.new (batch_count self.old) book.now []) }
@@ -187,8 +190,8 @@ impl<T: Twin> Journal<T> {
         }
     }
 
-    /// Whether `append` answers `Full` to a batch of acts that apply to the journal's book: it costs more than nothing, and more
-    /// than the room.
+    /// Whether `append` answers `Full` to a batch of acts that apply to the journal's book: it costs more than nothing,
+    /// and more than the room.
     ///
     /// # Errors
     ///
@@ -204,8 +207,8 @@ impl<T: Twin> Journal<T> {
         }
     }
 
-    /// What the limit of 67,108,864 bytes leaves beside a checkpoint of this book and what is kept free for it. It encodes the
-    /// book.
+    /// What the limit of 67,108,864 bytes leaves beside a checkpoint of this book and what is kept free for it. It
+    /// encodes the book.
     ///
     /// # Errors
     ///

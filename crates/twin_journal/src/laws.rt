@@ -35,8 +35,8 @@ pub fn opens_to_one_book()
     ensures sound { (contents : Contents) (book : BookView) → OpensTo contents book → IsSound book }
 {}
 
-/// For two files of bytes exactly one is true: they open to a book, they are damaged at a place, or they are no journal. And
-/// they are damaged at only one place.
+/// For two files of bytes exactly one is true: they open to a book, they are damaged at a place, or they are no
+/// journal. And they are damaged at only one place.
 pub fn one_judgement()
     ensures some { (contents : Contents) → ((side : Side) (place : ℕ) → get_or (contents side) place 0 < 256)
         → ((book : BookView) × OpensTo contents book)
@@ -47,7 +47,8 @@ pub fn one_judgement()
     ensures one_place { (contents : Contents) (first second : ℕ) → IsDamagedAt contents first → IsDamagedAt contents second → first ≡ second }
 {}
 
-/// A checkpoint grows by no more than the bytes of the acts: so a batch for which there is room finds it after a checkpoint.
+/// A checkpoint grows by no more than the bytes of the acts: so a batch for which there is room finds it after a
+/// checkpoint.
 pub fn checkpoints_grow_by_acts()
     ensures { (b : BookView) (acts : List Act) → IsSound b → first_fault b acts ≡ None
         → checkpoint_size (effects b acts) ≤ checkpoint_size b + length (acts_bytes acts) }
