@@ -1,10 +1,9 @@
 -- Which batches are never too much, and that room is never below 0.
-use Rattle.std.proofs.Common.{◌≡◌, ◌≢◌, ℕ, ◌+◌, ◌<◌, ◌≤◌, List, [], length, None, refl, arith}
-use Rattle.std.specs.Prelude.{sum_by, nat_lt}
+use Rattle.std.proofs.Common.{◌≡◌, ◌≢◌, ◌+◌, ◌≤◌, List, [], None, refl, arith}
+use Rattle.std.specs.Prelude.{nat_lt}
 use Rattle.book_model.specs.declared.act.Act.{Act}
 use Rattle.book_model.specs.Book.{BookView, empty_book, first_fault, effects}
 use Rattle.book_model.specs.Sound.{IsSound}
-use Rattle.journal_codec.specs.Format.{in_8, acts_bytes}
 use Rattle.journal_codec.proofs.Tools.{by_test, is_less, is_not_less}
 use Rattle.gate_journal.specs.Reserve.{OnlyRelease, journal_limit, reserve, batch_bytes}
 use Rattle.gate_journal.proofs.Releases.{releases_fit}
