@@ -5,6 +5,7 @@ pub mod Checked
 pub mod Decided
 pub mod Firsts
 pub mod Found
+pub mod Fulls
 pub mod Idle
 pub mod Keeping
 pub mod Kept

@@ -1,4 +1,5 @@
--- A book that batches leave above a checkpoint can be written: each outcome in it is one, and each consumer has a number above 0.
+-- A book that batches leave above a checkpoint can be written: each outcome in it is one, and each consumer has a
+-- number above 0.
 use Rattle.std.proofs.Common.{◌≡◌, ℕ, Bool, true, false, cond, List, [], ◌∷◌, ◌++◌, Option, Some, None, refl, sym, subst}
 use Rattle.std.specs.Prelude.{is_some, map, ◌==◌, if◌then◌else◌}
 use Rattle.std.specs.List.{cons_option, flat_map}

@@ -58,7 +58,8 @@ pub record IsRenewed (figures next : Figures) (stamp : List ℕ) (book : BookVie
   pub last : next.last ≡ figures.last
   pub idle : next.idle_open ≡ true
 
--- With one more batch of these acts: behind the batches that were there, or, after a checkpoint of the book that they leave, alone.
+-- With one more batch of these acts: behind the batches that were there, or, after a checkpoint of the book that they
+-- leave, alone.
 abbrev pub IsAdded : Bool → Figures → Contents → (Contents → Type 0) → List ℕ → BookView → List (List Act) → BookView → List Act → Type 0
 IsAdded false figures seen may_leave stamp start bs book acts = IsAt figures seen may_leave stamp start (bs ++ acts ∷ [])
 IsAdded true figures seen may_leave stamp start bs book acts = (renewed : List ℕ) × IsAt figures seen may_leave renewed book (acts ∷ [])

@@ -1,5 +1,5 @@
--- The bytes of a side of format 2: a head, whose ninth byte is its gate, and behind the head of the active side gates and batches,
--- as in format 1.
+-- The bytes of a side of format 2: a head, whose ninth byte is its gate, and behind the head of the active side gates
+-- and batches, as in format 1.
 use Rattle.std.specs.Prelude.{ℕ, List, [], ◌∷◌, ◌++◌, length}
 use Rattle.disk_core.specs.Twin.{Contents}
 use Rattle.disk_core.specs.declared.side.Side.TheVariants.{First, Second}

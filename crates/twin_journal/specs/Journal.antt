@@ -24,7 +24,8 @@ batch_count j = j.figures.last
 abbrev pub has_failed : {T : Type 0} → Journal T → Bool
 has_failed j = j.failed
 
--- It knows what this book needs: it keeps that free, and counts on no smaller checkpoint. So it was opened, or acts were appended.
+-- It knows what this book needs: it keeps that free, and counts on no smaller checkpoint. So it was opened, or acts
+-- were appended.
 abbrev pub SuitsBook : {T : Type 0} → Journal T → BookView → Type 0
 SuitsBook j b = Suits j.needs b
 
@@ -32,7 +33,8 @@ SuitsBook j b = Suits j.needs b
 abbrev pub is_due_in : {T : Type 0} → Journal T → List Act → ℕ → Bool
 is_due_in j acts reserve_after = is_due j.figures acts reserve_after
 
--- The two files hold these batches after a base, above this book, a crash leaves nothing else, and the figures are theirs.
+-- The two files hold these batches after a base, above this book, a crash leaves nothing else, and the figures are
+-- theirs.
 pub record Keeps {T : Type 0} (seen : T → Contents) (may_leave : T → Contents → Type 0) (j : Journal T) (base : ℕ) (start : BookView) (bs : List (List Act)) : Type 0 where
   pub stamp : List ℕ
   pub at : IsAt j.figures (seen j.twin) (may_leave j.twin) stamp start bs

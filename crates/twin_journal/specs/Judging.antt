@@ -35,7 +35,8 @@ pub record IsBroken (contents : Contents) (place : ℕ) : Type 0 where
   pub is_stamp : IsStamp stamp epoch base size start
   pub damaged : IsDamagedFrom (magic ++ 1 ∷ stamp) start (contents side) place
 
--- Two files are damaged at a place: at the gate of the heads, which is at 8, or at a gate of the active side behind its head.
+-- Two files are damaged at a place: at the gate of the heads, which is at 8, or at a gate of the active side behind its
+-- head.
 abbrev pub IsDamagedAt : Contents → ℕ → Type 0
 IsDamagedAt contents place = ((place ≡ 8) × (IsUndecided contents ⊎ IsHeadless contents)) ⊎ IsBroken contents place
 

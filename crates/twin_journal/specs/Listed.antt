@@ -10,8 +10,8 @@ use Rattle.twin_journal.specs.Format.{magic}
 use Rattle.twin_journal.specs.Sides.{IsIdle}
 use Rattle.twin_journal.specs.declared.listing.Checkpoint.{Checkpoint}
 
--- What the head of the active side says; then the acts of its batches with their places, the place of the gate that ends them,
--- and the book after them.
+-- What the head of the active side says; then the acts of its batches with their places, the place of the gate that
+-- ends them, and the book after them.
 pub record IsListed (contents : Contents) (checkpoint : Checkpoint) (entries : List Entry) (place : ℕ) (book : BookView) : Type 0 where
   pub side : Side
   pub size : ℕ

@@ -1,5 +1,5 @@
--- What a batch costs, and the room of a journal: both hang on the book and the acts alone, since a checkpoint makes room for what
--- the book doesn't need.
+-- What a batch costs, and the room of a journal: both hang on the book and the acts alone, since a checkpoint makes
+-- room for what the book doesn't need.
 use Rattle.std.specs.Prelude.{◌≡◌, ℕ, ◌+◌, ◌<◌, ◌≤◌, ◌-ℤ◌, ℤ, pos, Bool, ◌&&◌, ◌||◌, nat_lt, nat_le, List, [], ◌∷◌, ◌++◌, sum_by, vec_len}
 use Rattle.book_model.specs.declared.act.Act.{Act}
 use Rattle.book_model.specs.Book.{BookView, effects}
@@ -31,7 +31,8 @@ pub record IsFull (b : BookView) (acts : List Act) : Type 0 where
   pub costs : Costs b acts
   pub exceeds : Exceeds b acts
 
--- What a journal knows of its book without asking it: what the book needs free, and a bound to the bytes of its checkpoint.
+-- What a journal knows of its book without asking it: what the book needs free, and a bound to the bytes of its
+-- checkpoint.
 pub record Suits (needs : Needs) (b : BookView) : Type 0 where
   pub reserve_is : needs.reserve ≡ reserve b
   pub within : checkpoint_size b ≤ needs.size
@@ -43,8 +44,8 @@ pub record Spells (b : Batch) (acts : List Act) : Type 0 where
   pub growth_is : b.growth ≡ sum_by growth acts
   pub release_is : b.release ≡ sum_by release acts
 
--- A checkpoint is due before a batch: where the batches behind the last one have 1,048,576 bytes or more, and no fewer than
--- that has; or where the batch, and what the book after it needs, go beyond the limit.
+-- A checkpoint is due before a batch: where the batches behind the last one have 1,048,576 bytes or more, and no fewer
+-- than that has; or where the batch, and what the book after it needs, go beyond the limit.
 abbrev pub is_due : Figures → List Act → ℕ → Bool
 is_due figures acts reserve_after =
     (nat_le (29 + figures.size + 1048576) figures.place && nat_le (29 + figures.size + figures.size) figures.place)

@@ -32,8 +32,8 @@ pub(crate) struct Needs {
 }
 
 impl Figures {
-    /// The figures with one more batch, which has this many bytes from its length up to and with the gate after it; none where a
-    /// number is too large for its type.
+    /// The figures with one more batch, which has this many bytes from its length up to and with the gate after it;
+    /// none where a number is too large for its type.
     pub(crate) fn longer(self, bytes: usize) -> Option<Figures>
         ensures { IfSome result (λ new. new ≡ record self { place = self.place + bytes; last = self.last + 1 }) }
     {

@@ -22,8 +22,8 @@ const ACTIVE: [u8; 46] = [
 /// The other side: the magic, and a closed gate.
 const IDLE: [u8; 9] = [65, 77, 81, 82, 74, 48, 48, 50, 0];
 
-/// Makes the journal of no batches on two files, whatever they held: 46 bytes and 9, synced at `Ok`. The file of 9 bytes is
-/// made first; a crash during the call, or after it where it fails, may leave any bytes.
+/// Makes the journal of no batches on two files, whatever they held: 46 bytes and 9, synced at `Ok`. The file of 9
+/// bytes is made first; a crash during the call, or after it where it fails, may leave any bytes.
 pub fn format<T: Twin>(twin: &mut T) -> Result<(), DiskFault>
     ensures formatted { OnOk result (T.seen twin.new ≡ fresh) }
     ensures durable { OnOk result (Only (T.seen twin.new) (T.may_leave twin.new)) }

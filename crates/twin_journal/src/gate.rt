@@ -68,7 +68,8 @@ fn newer_side(first: u64, second: u64) -> Option<Side>
     None
 }
 
-/// The active side, by what the first bytes of both say: the one whose gate is open; of two, the one with the higher epoch.
+/// The active side, by what the first bytes of both say: the one whose gate is open; of two, the one with the higher
+/// epoch.
 pub(crate) fn active_side(first: Gate, second: Gate) -> Option<Side>
     ensures some { IfSome result (λ side. (c : Contents) → Says (c First) first → Says (c Second) second → IsActive c side) }
     ensures none { IfNone result ((c : Contents) → Says (c First) first → Says (c Second) second → NoneActive c) }

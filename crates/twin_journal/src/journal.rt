@@ -1,5 +1,5 @@
 //! The journal.
-ghost use Rattle.std.specs.Prelude.{◌≡◌, ◌≢◌, ◌⊎◌, ◌↔◌, ◌+◌, ◌<◌, ◌≤◌, ◌++◌, [], ◌∷◌, ℕ, List, length, None, if◌then◌else◌, true, false, OnOk, OnErr, IfOk, IfErr, IsErrOf};
+ghost use Rattle.std.specs.Prelude.{◌≡◌, ◌≢◌, ◌⊎◌, ◌↔◌, ◌+◌, ◌<◌, ◌≤◌, ◌++◌, [], ◌∷◌, ℕ, List, length, None, if◌then◌else◌, true, false, IsTrue, OnOk, OnErr, IfOk, IfErr, IsErrOf};
 ghost use Rattle.disk_core.specs.Disk.{Elapses, LeavesOnly, NoMore};
 ghost use Rattle.book_model.specs.declared.act.Act.{Act as AnAct};
 ghost use Rattle.book_model.specs.Book.{BookView, first_fault, effects};
@@ -14,6 +14,7 @@ ghost use Rattle.twin_journal.specs.Room.{IsFull, room};
 use crate::added::append_batch;
 use crate::figures::{Figures, Needs};
 use crate::opened::scan;
+use crate::plan::plan_batch;
 use crate::renew::renew;
 use crate::room::{JOURNAL_LIMIT, needs_of};
 use crate::whole::read_active;
@@ -34,9 +35,9 @@ pub struct Journal<T: Twin> {
 }
 
 impl<T: Twin> Journal<T> {
-    /// Opens the journal on two files, and gives the book after its batches. It begins with a sync of both, so that a crash
-    /// leaves what was read. At an `Err` the files are dropped: `Disk` comes where they failed, `Memory` where memory was
-    /// refused.
+    /// Opens the journal on two files, and gives the book after its batches. It begins with a sync of both, so that a
+    /// crash leaves what was read. At an `Err` the files are dropped: `Disk` comes where they failed, `Memory` where
+    /// memory was refused.
     pub fn open(alloc: Global, twin: T) -> Result<(Journal<T>, Book), OpenFault>
         ensures opened { IfOk result (λ r. KeepsBook T.seen T.may_leave r.0 r.1) }
         ensures suits { IfOk result (λ r. SuitsBook r.0 r.1) }
@@ -66,12 +67,14 @@ impl<T: Twin> Journal<T> {
         ))
     }
 
-    /// Appends a batch to the journal of this book, and gives its number, from 1 on. The acts apply to the book; each outcome
-    /// that they decide is a terminal state that its encoding gives back. A checkpoint is made before it where one is due: the
-    /// batches since the last one have 1,048,576 bytes or more and no fewer than it, or the file would go beyond the limit.
+    /// Appends a batch to the journal of this book, and gives its number, from 1 on. The acts apply to the book; each
+    /// outcome that they decide is a terminal state that its encoding gives back. A checkpoint is made before it where
+    /// one is due: the batches since the last one have 1,048,576 bytes or more and no fewer than it, or the file would
+    /// go beyond the limit.
     ///
-    /// At `Ok` the batch is durable: a crash leaves it. At `Full` nothing is changed. At `Disk` and `Memory` the journal
-    /// answers `Failed` from then on, and has to be opened again. At `Failed` nothing is changed, on the disk neither.
+    /// At `Ok` the batch is durable: a crash leaves it. At `Full` nothing is changed. At `Disk` and `Memory` the
+    /// journal answers `Failed` from then on, and has to be opened again. At `Failed` nothing is changed, on the disk
+    /// neither.
     pub fn append(&mut self, book: &Book, acts: &[Act]) -> Result<u64, JournalFault>
         requires some { acts.now ≢ [] }
         requires small { length (acts_bytes acts.now) ≤ 4194304 }
@@ -139,12 +142,13 @@ impl<T: Twin> Journal<T> {
     /// Makes a checkpoint: the idle side gets the book that the batches leave, and is the active side from then on. A
     /// journal makes them by itself as well, as it grows.
     ///
-    /// At `Disk` and `Memory` the journal answers `Failed` from then on, and has to be opened again. At `Failed` nothing is
-    /// changed.
+    /// At `Disk` and `Memory` the journal answers `Failed` from then on, and has to be opened again. At `Failed`
+    /// nothing is changed.
     ///
     /// # Errors
     ///
-    /// `Disk`; `Memory`, where memory is refused or a number is too large to be read again; `Failed` after an earlier fault.
+    /// `Disk`; `Memory`, where memory is refused or a number is too large to be read again; `Failed` after an earlier
+    /// fault.
     pub fn checkpoint(&mut self, book: &Book) -> Result<(), JournalFault>
         ensures done { OnOk result ((base : ℕ) (start : BookView) (bs : List (List AnAct)) → Keeps T.seen T.may_leave self.old base start bs
             → book_after start bs ≡ book.now → Keeps T.seen T.may_leave self.new (batch_count self.old) book.now []) }
@@ -186,8 +190,25 @@ impl<T: Twin> Journal<T> {
         }
     }
 
-    /// What the limit of 67,108,864 bytes leaves beside a checkpoint of this book and what is kept free for it. It encodes the
-    /// book.
+    /// Whether `append` answers `Full` to a batch of acts that apply to the journal's book: it costs more than nothing,
+    /// and more than the room.
+    ///
+    /// # Errors
+    ///
+    /// `AllocError` where memory was refused, or an act can't be encoded.
+    pub fn is_full(&self, book: &Book, acts: &[Act]) -> Result<bool, AllocError>
+        requires applies { first_fault book.now acts.now ≡ None }
+        ensures { IfOk result (λ full. SuitsBook self.now book.now → IsTrue full ↔ IsFull book.now acts.now) }
+    {
+        match plan_batch(self.alloc, self.figures, self.needs, book, acts) {
+            Ok(_plan) => Ok(false),
+            Err(JournalFault::Full) => Ok(true),
+            Err(_) => Err(AllocError),
+        }
+    }
+
+    /// What the limit of 67,108,864 bytes leaves beside a checkpoint of this book and what is kept free for it. It
+    /// encodes the book.
     ///
     /// # Errors
     ///

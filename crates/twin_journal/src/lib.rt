@@ -1,6 +1,6 @@
-//! The journal of a book on two files. One of them, the active side, has a checkpoint of the book and, behind it, the batches
-//! since; the other one takes the next checkpoint. So a crash at any moment leaves the book before a batch or after it, and the
-//! files stay as long as the book needs. `docs/two_files.md` describes the format.
+//! The journal of a book on two files. One of them, the active side, has a checkpoint of the book and, behind it, the
+//! batches since; the other one takes the next checkpoint. So a crash at any moment leaves the book before a batch or
+//! after it, and the files stay as long as the book needs. `docs/two_files.md` describes the format.
 #![tactic(auto)]
 
 mod added;

@@ -75,8 +75,8 @@ fn list_side(alloc: Global, active: &ActiveSide) -> Result<Listing, OpenFault>
     })
 }
 
-/// Lists a journal: what its checkpoint has, and each act since with the place of its batch's gate. It begins with a sync of
-/// both files, as opening does, and changes nothing.
+/// Lists a journal: what its checkpoint has, and each act since with the place of its batch's gate. It begins with a
+/// sync of both files, as opening does, and changes nothing.
 pub fn list<T: Twin>(alloc: Global, twin: &mut T) -> Result<Listing, OpenFault>
     ensures listed { IfOk result (λ l. IsListed (T.seen twin.old) l.checkpoint l.entries.items l.place l.book) }
     ensures fault { IfErr result (Explains (T.seen twin.old)) }

@@ -64,8 +64,8 @@ pub(crate) fn plan_batch(
 }
 
 impl Plan {
-    /// What the book needs after the batch, if the last checkpoint has this many bytes; none where a number is too large for
-    /// its type.
+    /// What the book needs after the batch, if the last checkpoint has this many bytes; none where a number is too
+    /// large for its type.
     pub(crate) fn needs(&self, size: usize) -> Option<Needs>
         ensures { IfSome result (λ new. (b : BookView) (acts : List AnAct) → Spells self.now.batch acts → IsOrdered b
             → first_fault b acts ≡ None → Suits self.now.after (effects b acts)

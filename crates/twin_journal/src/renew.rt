@@ -68,7 +68,8 @@ fn open_idle<T: Twin>(twin: &mut T, figures: Figures) -> Result<(), DiskFault>
     put(twin, figures.side.other(), GATE, &[1])
 }
 
-/// Writes a checkpoint on the idle side, given as these bytes behind its gate. Either side is the active one at each moment.
+/// Writes a checkpoint on the idle side, given as these bytes behind its gate. Either side is the active one at each
+/// moment.
 fn write_checkpoint<T: Twin>(twin: &mut T, figures: Figures, fill: &[u8]) -> Result<(), DiskFault>
     ensures done { OnOk result ((stamp renewed : List ℕ) (start book : BookView) (bs : List (List Act)) (next : TheFigures)
         → IsAt figures (T.seen twin.old) (T.may_leave twin.old) stamp start bs → IsRenewed figures next renewed book
@@ -88,8 +89,8 @@ fn write_checkpoint<T: Twin>(twin: &mut T, figures: Figures, fill: &[u8]) -> Res
     open_idle(twin, shut)
 }
 
-/// Makes a checkpoint of the book that the batches leave, and gives the figures with it. It takes five calls of the twin, or
-/// seven where the gate of the idle side is open.
+/// Makes a checkpoint of the book that the batches leave, and gives the figures with it. It takes five calls of the
+/// twin, or seven where the gate of the idle side is open.
 pub(crate) fn renew<T: Twin>(
     alloc: Global,
     twin: &mut T,

@@ -100,8 +100,8 @@ fn exceeds(size: u64, len: u64, reserve: u64) -> Option<bool>
     Some(JOURNAL_LIMIT < all)
 }
 
-/// Whether a batch costs more than nothing, and more than the room. The book is encoded only where the batch comes near the
-/// limit.
+/// Whether a batch costs more than nothing, and more than the room. The book is encoded only where the batch comes near
+/// the limit.
 pub(crate) fn is_full(
     alloc: Global,
     needs: Needs,
