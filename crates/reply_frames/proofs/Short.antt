@@ -41,7 +41,7 @@ size_len true small len = omega arith
 size_len false true len = omega arith
 size_len false false len = omega arith
 
-described_len : (name : Descriptor) (fs : List FieldText) → length (described_text name fs) ≤ 12 + length (joined fs)
+pub described_len : (name : Descriptor) (fs : List FieldText) → length (described_text name fs) ≤ 12 + length (joined fs)
 unfolding described_text
 described_len name fs =
     let gs = given fs in

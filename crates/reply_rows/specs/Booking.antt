@@ -1,6 +1,5 @@
 -- Durable links and the book of durable deliveries: why a link, or a delivery on one, that its row would take is refused after all.
 use Rattle.std.specs.Prelude.{ℕ, Bool, true, false, not, ◌&&◌, ◌||◌, nat_lt, if◌then◌else◌, List, [], ◌∷◌, length, filter, Option, Some, None, is_none, is_some, unwrap_or}
-use Rattle.std.specs.List.{list_any}
 use Rattle.amqp_model.specs.declared.perf.Attach.{Attach as AnAttach}
 use Rattle.amqp_model.specs.declared.perf.Perf.{Perf}
 use Rattle.amqp_model.specs.declared.perf.Perf.TheVariants as perf
@@ -11,7 +10,7 @@ use Rattle.amqp_model.specs.declared.item.Item.{Item}
 use Rattle.amqp_model.specs.declared.item.Item.TheVariants as item
 use Rattle.amqp_model.specs.declared.state.UnsettledDelivery.{UnsettledDelivery}
 use Rattle.amqp_conn.specs.declared.conn.Conn.{Conn}
-use Rattle.book_model.specs.Book.{BookView, same_bytes, terminus_of, has_short_texts, row_named, is_of}
+use Rattle.book_model.specs.Book.{BookView, same_bytes, terminus_of, has_short_texts, row_named, is_of, is_for}
 use Rattle.book_model.specs.declared.row.Row.{Row}
 use Rattle.book_model.specs.declared.terminus.LinkKey.{LinkKey}
 use Rattle.book_model.specs.declared.terminus.Terminus.{Terminus}
@@ -23,9 +22,7 @@ use Rattle.router_trace.specs.Links.{address_by, key_at, link, link_place, free_
 use Rattle.router_trace.specs.Settling.{middle_on, uses_tag}
 use Rattle.router_trace.specs.declared.condition.Condition.{Condition}
 use Rattle.router_trace.specs.declared.condition.Condition.TheVariants.{NotAllowed, NotImplemented, ResourceLimitExceeded}
-use Rattle.resume_core.specs.declared.consumer.Resumed.{Resumed}
-use Rattle.resume_core.specs.declared.consumer.Resumed.TheVariants.{Anew}
-use Rattle.resume_core.specs.Resuming.{entries_of, producer_map, consumer_map, sendings}
+use Rattle.resume_core.specs.Resuming.{entries_of, producer_map, consumer_map, decisions}
 use Rattle.reply_rows.specs.Finding.{finds}
 use Rattle.reply_rows.specs.Rows.{item_reply}
 use Rattle.reply_rows.specs.declared.answer.Answer.{Answer}
@@ -58,26 +55,26 @@ has_some (x ∷ xs) = true
 abbrev pub rows_of : BookView → Terminus → List Row
 rows_of b x = filter (is_of x.number.0) b.rows
 
--- That a link resumes deliveries isn't served yet. A producer's would, if one is unsettled after its attach. A
--- consumer's would, if its map has a delivery of these rows, or if it is incomplete and the router's map has entries
--- (AMQP 1.0 part 2, section 2.6.13). Any other undecided row is sent anew.
-abbrev pub is_resumed : Resumed → Bool
-is_resumed Anew = false
-is_resumed _ = true
+-- of these the ones that are bound to it
+abbrev pub bound_rows : BookView → Terminus → List Row
+bound_rows b x = filter (is_for x.number.0) (rows_of b x)
 
-abbrev pub resumes : Role → Bool → List UnsettledDelivery → List Row → Bool
-resumes Sender complete theirs rows = has_some (producer_map complete theirs rows)
-resumes Receiver complete theirs rows = list_any (λ s. is_resumed s.how) (sendings complete theirs rows) || (not complete && has_some (consumer_map theirs rows))
+-- Not all that an attach may ask for is served yet (AMQP 1.0 part 2, section 2.6.13): that a producer's link resumes
+-- deliveries, as it would if one is unsettled after its attach; that a consumer's map decides one of these rows; and a
+-- consumer's map that is incomplete, if the router's map has entries.
+abbrev pub is_unserved : Role → BookView → Terminus → Bool → List UnsettledDelivery → Bool
+is_unserved Sender b x complete theirs = has_some (producer_map complete theirs (rows_of b x))
+is_unserved Receiver b x complete theirs = has_some (decisions theirs (bound_rows b x)) || (not complete && has_some (consumer_map theirs (bound_rows b x)))
 
-abbrev pub attach_resumes : List Row → AnAttach → Bool
-attach_resumes rows a = resumes a.role (not a.incomplete_unsettled) (entries_of a.unsettled) rows
+abbrev pub attach_is_unserved : BookView → Terminus → AnAttach → Bool
+attach_is_unserved b x a = is_unserved a.role b x (not a.incomplete_unsettled) (entries_of a.unsettled)
 
-abbrev pub unless_resumes : Bool → Option Condition
-unless_resumes resumed = if resumed then Some NotImplemented else None
+abbrev pub unless_unserved : Bool → Option Condition
+unless_unserved unserved = if unserved then Some NotImplemented else None
 
 -- A durable link is refused if its terminus has another address, or if there is no room for one.
 abbrev pub durable_refusal : BookView → Option Terminus → AnAttach → Bool → Option Condition
-durable_refusal b (Some x) a room = if same_bytes x.address (wanted_address a) then unless_resumes (attach_resumes (rows_of b x) a) else Some NotAllowed
+durable_refusal b (Some x) a room = if same_bytes x.address (wanted_address a) then unless_unserved (attach_is_unserved b x a) else Some NotAllowed
 durable_refusal b None a room = if room then None else Some ResourceLimitExceeded
 
 abbrev pub refusal_with : Bool → BookView → LinkKey → AnAttach → Option Condition

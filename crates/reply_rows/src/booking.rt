@@ -1,20 +1,19 @@
 //! Durable links and the book of durable deliveries: why a link, or a delivery on one, that its row would take is refused after all.
 ghost use Rattle.std.specs.Prelude.{◌≡◌, ◌||◌, ◌&&◌, [], List, not, option_map, unwrap_or, IfOk};
-ghost use Rattle.std.specs.List.{list_any};
 ghost use Rattle.std.specs.Option.{option_copied};
 ghost use Rattle.router_trace.specs.Trace.{Entry};
 ghost use Rattle.router_trace.specs.LinkFrames.{other};
 ghost use Rattle.router_state.specs.Tables.{TablesFind};
-ghost use Rattle.reply_rows.specs.Booking.{wanted_key, wanted_address, wants_durable, new_terminus, has_room, has_some, rows_of, is_resumed, attach_resumes, unless_resumes, durable_refusal, attach_unless, stands_from, repeats_tag, repeats, booked_transfer};
+ghost use Rattle.reply_rows.specs.Booking.{wanted_key, wanted_address, wants_durable, new_terminus, has_room, has_some, attach_is_unserved, unless_unserved, durable_refusal, attach_unless, stands_from, repeats_tag, repeats, booked_transfer};
 ghost use Rattle.router_trace.specs.Deliveries.{tag_in};
 ghost use Rattle.book_model.specs.Book.{terminus_of, same_bytes, is_short};
 
 use crate::answer::Answer;
 use crate::link_rows::LINK_TEXT;
-use amqp_model::{Attach, DeliveryTag, Role, Text, Transfer, UnsettledDelivery};
+use amqp_model::{Attach, DeliveryTag, Role, Text, Transfer};
 use book_core::Book;
 use book_model::{LinkKey, LinkRole, Terminus};
-use resume_core::{ConsumerPlan, Resumed, Sending, consumer_plan, producer_plan};
+use resume_core::{ConsumerPlan, consumer_plan, producer_plan};
 use router_state::State;
 use router_trace::{Condition, is_durable};
 use state_links::address_by;
@@ -97,14 +96,14 @@ fn has_address(terminus: &Terminus, address: Option<&Text>) -> bool
     }
 }
 
-/// Why a link may not take up this terminus again, if it may not: deliveries would be resumed on it.
-fn resumed_refusal(
+/// Why a link may not take up this terminus again, if it may not: its attach asks for what isn't served yet.
+fn unserved_refusal(
     alloc: Global,
     book: &Book,
     terminus: &Terminus,
     attach: &Attach,
 ) -> Result<Option<Condition>, AllocError>
-    ensures { IfOk result (λ refusal. refusal ≡ unless_resumes (attach_resumes (rows_of book.now terminus.now) attach.now)) }
+    ensures { IfOk result (λ refusal. refusal ≡ unless_unserved (attach_is_unserved book.now terminus.now attach.now)) }
 {
     let rows = book.rows_of(terminus.number);
     let unsettled = attach.unsettled.as_ref();
@@ -112,48 +111,34 @@ fn resumed_refusal(
     match attach.role {
         Role::Sender => {
             let plan = producer_plan(alloc, rows, unsettled, complete)?;
-            Ok(unless_resumes(has_some(&plan.map)))
+            Ok(unless_unserved(has_some(&plan.map)))
         }
         Role::Receiver => {
-            let plan = consumer_plan(alloc, rows, unsettled, complete)?;
-            Ok(unless_resumes(resumes_some(&plan, complete)))
+            let plan = consumer_plan(alloc, terminus.number, rows, unsettled, complete)?;
+            Ok(unless_unserved(is_unserved(&plan, complete)))
         }
     }
 }
 
-/// Whether a map has entries.
-fn has_some(map: &[UnsettledDelivery]) -> bool
-    ensures { result ≡ has_some map.now }
+/// Whether a list has entries.
+fn has_some<T>(list: &[T]) -> bool
+    ensures { result ≡ has_some list.now }
 {
-    !map.is_empty()
+    !list.is_empty()
 }
 
-/// Whether a consumer's attach with this plan resumes deliveries, or says nothing of one that is unsettled.
-fn resumes_some(plan: &ConsumerPlan, complete: bool) -> bool
-    ensures { result ≡ (list_any (λ s. is_resumed s.how) plan.now.sendings.items || (not complete && has_some plan.now.map.items)) }
+/// Whether a consumer's attach with this plan decides a row, or says nothing of one that is unsettled.
+fn is_unserved(plan: &ConsumerPlan, complete: bool) -> bool
+    ensures { result ≡ (has_some plan.now.decisions.items || (not complete && has_some plan.now.map.items)) }
 {
-    sends_resumed(&plan.sendings) || (!complete && has_some(&plan.map))
+    has_some(&plan.decisions) || (!complete && has_some(&plan.map))
 }
 
-/// Whether one of these deliveries is resumed.
-fn sends_resumed(sendings: &[Sending]) -> bool
-    ensures { result ≡ list_any (λ s. is_resumed s.how) sendings.now }
+/// Why a link whose attach asks for what isn't served yet, if it does, is refused.
+fn unless_unserved(unserved: bool) -> Option<Condition>
+    ensures { result ≡ unless_unserved unserved }
 {
-    sendings.iter().any(|sending| is_resumed(&sending.how))
-}
-
-/// Whether a delivery that is sent in this way is resumed.
-fn is_resumed(how: &Resumed) -> bool
-    ensures { result ≡ is_resumed how.now }
-{
-    !matches!(how, Resumed::Anew)
-}
-
-/// Why a link that would resume deliveries, if it does, is refused.
-fn unless_resumes(resumes: bool) -> Option<Condition>
-    ensures { result ≡ unless_resumes resumes }
-{
-    if resumes {
+    if unserved {
         Some(Condition::NotImplemented)
     } else {
         None
@@ -176,7 +161,7 @@ pub fn durable_refusal(
 {
     let address = wanted_address(attach);
     match book.terminus_of(key) {
-        Some(terminus) if has_address(terminus, address) => resumed_refusal(
+        Some(terminus) if has_address(terminus, address) => unserved_refusal(
             alloc, book, terminus, attach,
         ),
         Some(_) => Ok(Some(Condition::NotAllowed)),

@@ -18,9 +18,9 @@ use Rattle.reply_frames.proofs.Tags.{bytes_of_row}
 use Rattle.reply_frames.proofs.Short.{kept_len}
 use Rattle.router_trace.specs.Deliveries.{eight_bytes, terminal}
 use Rattle.router_trace.specs.DeliveryFrames.{kept_outcome}
-use Rattle.resume_core.specs.declared.consumer.Resumed.{Resumed}
+use Rattle.router_trace.specs.declared.binding.Resumed.{Resumed}
 use Rattle.resume_core.specs.declared.consumer.Sending.{Sending}
-use Rattle.resume_core.specs.Resuming.{is_unforgotten, is_forgotten_by, is_unsettled_after, is_due, is_decided_by, is_sent, forgotten_rows, producer_map, due_tags, producer_entry, row_tag, is_told_of, told_of, told_in, outcome_told, outcome_given, decided_by, decision_of, outcome_after, listed_entry, resumed_as, consumer_entry, is_listed, either_outcome, sent_as, sending_of, decisions, consumer_map, sendings, map_entry}
+use Rattle.resume_core.specs.Resuming.{is_unforgotten, is_forgotten_by, is_unsettled_after, is_due, is_decided_by, is_sent, forgotten_rows, producer_map, due_tags, producer_entry, row_tag, is_told_of, told_of, told_in, outcome_told, outcome_given, decided_by, decision_of, outcome_after, listed_entry, resumed_as, consumer_entry, is_listed, either_outcome, sent_as, sending_as, sending_of, decisions, consumer_map, sendings, map_entry}
 use Rattle.resume_core.proofs.Kept.{given_of, all_given, find_among, same_kept, same_given, each, same_tests, no_tests, fewer_apart, all_pass, twice}
 
 -- Producers' rows.
@@ -88,15 +88,15 @@ decisions_rows theirs rows =
     (λ r. mapped_is (λ (outcome : DeliveryState). record { row = r.number; outcome = outcome }) (decided_by theirs r))
     (λ r. decision_row r (decided_by theirs r)) rows
 
-sending_row : (r : Row) (o : Option Resumed) (s : Sending) → option_map (λ (how : Resumed). record { row = r.number; how = how }) o ≡ Some s → s.row ≡ r.number
+sending_row : (r : Row) (o : Option Resumed) (s : Sending) → option_map (sending_as r) o ≡ Some s → s.row ≡ r.number
 sending_row r None s e = cc
-sending_row r (Some how) s e = let same : record { row = r.number; how = how } ≡ s = cc in ap (λ (x : Sending). x.row) (sym same)
+sending_row r (Some how) s e = let same : sending_as r how ≡ s = cc in ap (λ (x : Sending). x.row) (sym same)
 
 pub sendings_rows : (complete : Bool) (theirs : List UnsettledDelivery) (rows : List Row)
     → map (λ s. s.row) (sendings complete theirs rows) ≡ map (λ r. r.number) (filter (is_sent complete theirs) rows)
 sendings_rows complete theirs rows =
     given_of (sending_of complete theirs) (λ s. s.row) (λ r. r.number) (is_sent complete theirs)
-    (λ r. mapped_is (λ (how : Resumed). record { row = r.number; how = how }) (sent_as complete theirs r))
+    (λ r. mapped_is (sending_as r) (sent_as complete theirs r))
     (λ r. sending_row r (sent_as complete theirs r)) rows
 
 listed_if_sent : (tag : List ℕ) (told : Bool) (o : Option DeliveryState) → is_some (listed_entry tag told o) ≡ is_some (resumed_as true told o)
@@ -238,5 +238,5 @@ pub sent_among : (own : UnsettledDelivery → Bool) (complete : Bool) (theirs : 
 sent_among own complete theirs rows has =
     same_given (sending_of complete (filter own theirs)) (sending_of complete theirs) rows
     (each (λ r. HasOwn own (row_tag r)) (λ r. sending_of complete (filter own theirs) r ≡ sending_of complete theirs r)
-    (λ r h. ap (λ told. option_map (λ (how : Resumed). record { row = r.number; how = how }) (resumed_as complete (is_some told) (either_outcome r.outcome (outcome_given told r.outcome))))
+    (λ r h. ap (λ told. option_map (sending_as r) (resumed_as complete (is_some told) (either_outcome r.outcome (outcome_given told r.outcome))))
     (told_among own theirs (row_tag r) h)) rows has)

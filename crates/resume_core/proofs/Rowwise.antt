@@ -13,6 +13,10 @@ pub one_given : {X Y : Type 0} (give : X → Option Y) (x : X) (xs : List X)
     → filter_map give (x ∷ xs) ≡ filter_map give (x ∷ []) ++ filter_map give xs
 one_given give x xs = filter_map-append give (x ∷ []) xs
 
+pub one_tested : {X Y : Type 0} (give : X → Option Y) (test : X → Bool) (x : X) (xs : List X)
+    → filter_map give (filter test (x ∷ xs)) ≡ filter_map give (filter test (x ∷ [])) ++ filter_map give (filter test xs)
+one_tested give test x xs = ap (filter_map give) (filter-append test (x ∷ []) xs) ∙ filter_map-append give (filter test (x ∷ [])) (filter test xs)
+
 -- what was gathered and what the rest gives, after one more row
 pub one_more : {X Y : Type 0} (lists : List X → List Y) → ((x : X) (xs : List X) → lists (x ∷ xs) ≡ lists (x ∷ []) ++ lists xs)
     → (old new : List Y) (x : X) (xs rest all : List X)

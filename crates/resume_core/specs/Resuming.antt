@@ -12,8 +12,8 @@ use Rattle.book_model.specs.Book.{same_bytes}
 use Rattle.router_trace.specs.declared.binding.DeliveryName.TheVariants as name
 use Rattle.router_trace.specs.Deliveries.{tag_of, terminal}
 use Rattle.router_trace.specs.DeliveryFrames.{kept_outcome}
-use Rattle.resume_core.specs.declared.consumer.Resumed.{Resumed}
-use Rattle.resume_core.specs.declared.consumer.Resumed.TheVariants.{Settled, Again, Anew}
+use Rattle.router_trace.specs.declared.binding.Resumed.{Resumed}
+use Rattle.router_trace.specs.declared.binding.Resumed.TheVariants.{Settled, Again, Anew}
 use Rattle.resume_core.specs.declared.consumer.Sending.{Sending}
 
 -- The peer's map.
@@ -149,8 +149,11 @@ abbrev pub is_sent : Bool → List UnsettledDelivery → Row → Bool
 is_sent complete theirs r = is_some (sent_as complete theirs r)
 
 -- what is sent of it
+abbrev pub sending_as : Row → Resumed → Sending
+sending_as r how = record { row = r.number; how = how; format = r.format; payload = r.payload }
+
 abbrev pub sending_of : Bool → List UnsettledDelivery → Row → Option Sending
-sending_of complete theirs r = option_map (λ how. record { row = r.number; how = how }) (sent_as complete theirs r)
+sending_of complete theirs r = option_map (sending_as r) (sent_as complete theirs r)
 
 -- what the attach decides
 abbrev pub decisions : List UnsettledDelivery → List Row → List Decision

@@ -1,28 +1,19 @@
 //! What happens to the rows of a consumer's durable link that is attached again.
-ghost use Rattle.std.specs.Prelude.{◌≡◌, ◌++◌, ◌∷◌, [], option_map, IfOk, OnOk};
+ghost use Rattle.std.specs.Prelude.{◌≡◌, ◌++◌, ◌∷◌, [], filter, option_map, IfOk, OnOk};
 ghost use Rattle.std.specs.Option.{is_some, option_copied};
 ghost use Rattle.book_core.specs.Rows.{rows_left};
-ghost use Rattle.resume_core.specs.Resuming.{entries_of, decisions, consumer_map, sendings, told_of, outcome_told, outcome_given, decided_by, outcome_after, either_outcome, listed_entry, resumed_as, decision_of, consumer_entry, sending_of};
+ghost use Rattle.book_model.specs.Book.{is_for};
+ghost use Rattle.resume_core.specs.Resuming.{entries_of, decisions, consumer_map, sendings, told_of, outcome_told, outcome_given, decided_by, outcome_after, either_outcome, listed_entry, resumed_as, decision_of, consumer_entry, sending_as, sending_of};
 
 use crate::entry::{add, map_entry};
 use crate::peer_map::PeerMap;
 use amqp_model::{DeliveryState, DeliveryTag, Unsettled, UnsettledDelivery, copy_state};
 use book_core::Rows;
-use book_model::{Decision, Row, RowNumber};
+use book_model::{Decision, Row, RowNumber, TerminusNumber};
+use bytes::Bytes;
 use reply_frames::{kept_outcome, tag_of};
-use router_trace::DeliveryName;
+use router_trace::{DeliveryName, Resumed};
 use std::alloc::{AllocError, Global};
-
-/// How a delivery is sent after its link is attached again (AMQP 1.0 part 2, section 2.6.13).
-#[derive(Debug, Drop)]
-pub enum Resumed {
-    /// A settled transfer with resume true and this outcome, without payload.
-    Settled(DeliveryState),
-    /// The whole message, with resume true.
-    Again,
-    /// The whole message, as a new delivery with the same tag.
-    Anew,
-}
 
 /// What is sent of a row.
 #[derive(Debug, Drop)]
@@ -31,6 +22,10 @@ pub struct Sending {
     pub row: RowNumber,
     /// How it is sent.
     pub how: Resumed,
+    /// The format of its message (AMQP 1.0 part 2, section 2.8.11).
+    pub format: u32,
+    /// Its message.
+    pub payload: Bytes,
 }
 
 /// What an attach does to the rows of a consumer's terminus.
@@ -45,33 +40,34 @@ pub struct ConsumerPlan {
     pub sendings: Vec<Sending>,
 }
 
-/// What a consumer's attach does to the rows of its terminus, as they stand before it: by `unsettled`, the map of the attach
-/// (None: null), which is `complete` unless the attach sets incomplete-unsettled.
+/// What a consumer's attach does to the rows that are bound to its terminus, of these, as they stand before it: by
+/// `unsettled`, the map of the attach (None: null), which is `complete` unless the attach sets incomplete-unsettled.
 ///
 /// # Errors
 ///
 /// `AllocError` if memory was refused.
 pub fn consumer_plan(
     alloc: Global,
+    terminus: TerminusNumber,
     rows: Rows<'_>,
     unsettled: Option<&Unsettled>,
     complete: bool,
 ) -> Result<ConsumerPlan, AllocError>
-    ensures decided { IfOk result (λ plan. plan.decisions.items ≡ decisions (entries_of (option_copied unsettled.entry)) (rows_left rows.entry)) }
-    ensures mapped { IfOk result (λ plan. plan.map.items ≡ consumer_map (entries_of (option_copied unsettled.entry)) (rows_left rows.entry)) }
-    ensures sent { IfOk result (λ plan. plan.sendings.items ≡ sendings complete (entries_of (option_copied unsettled.entry)) (rows_left rows.entry)) }
+    ensures decided { IfOk result (λ plan. plan.decisions.items ≡ decisions (entries_of (option_copied unsettled.entry)) (filter (is_for terminus.0) (rows_left rows.entry))) }
+    ensures mapped { IfOk result (λ plan. plan.map.items ≡ consumer_map (entries_of (option_copied unsettled.entry)) (filter (is_for terminus.0) (rows_left rows.entry))) }
+    ensures sent { IfOk result (λ plan. plan.sendings.items ≡ sendings complete (entries_of (option_copied unsettled.entry)) (filter (is_for terminus.0) (rows_left rows.entry))) }
 {
     let peer = PeerMap::new(alloc, unsettled)?;
     let mut plan = ConsumerPlan::new(alloc);
     for row in rows {
-        plan.add(alloc, &peer, complete, row)?;
+        plan.add(alloc, terminus, &peer, complete, row)?;
     }
     Ok(plan)
 }
 
 impl ConsumerPlan {
     /// Without rows.
-    fn new(alloc: Global) -> ConsumerPlan
+    pub fn new(alloc: Global) -> ConsumerPlan
         ensures decided { result.decisions.items ≡ [] }
         ensures mapped { result.map.items ≡ [] }
         ensures sent { result.sendings.items ≡ [] }
@@ -83,8 +79,28 @@ impl ConsumerPlan {
         }
     }
 
-    /// Adds what happens to a row.
+    /// Adds what happens to a row, if it is bound to the terminus.
     fn add(
+        &mut self,
+        alloc: Global,
+        terminus: TerminusNumber,
+        peer: &PeerMap<'_>,
+        complete: bool,
+        row: &Row,
+    ) -> Result<(), AllocError>
+        ensures decided { OnOk result (self.new.decisions.items ≡ self.old.decisions.items ++ decisions peer.now (filter (is_for terminus.0) (row.now ∷ []))) }
+        ensures mapped { OnOk result (self.new.map.items ≡ self.old.map.items ++ consumer_map peer.now (filter (is_for terminus.0) (row.now ∷ []))) }
+        ensures sent { OnOk result (self.new.sendings.items ≡ self.old.sendings.items ++ sendings complete peer.now (filter (is_for terminus.0) (row.now ∷ []))) }
+    {
+        if is_for(row, terminus) {
+            self.add_bound(alloc, peer, complete, row)
+        } else {
+            Ok(())
+        }
+    }
+
+    /// Adds what happens to a row of the terminus.
+    fn add_bound(
         &mut self,
         alloc: Global,
         peer: &PeerMap<'_>,
@@ -103,13 +119,7 @@ impl ConsumerPlan {
             add(&mut self.map, entry)?;
         }
         if let Some(how) = resumed_as(complete, told.is_some(), outcome)? {
-            add(
-                &mut self.sendings,
-                Sending {
-                    row: row.number,
-                    how,
-                },
-            )?;
+            add(&mut self.sendings, sending_as(row, how)?)?;
         }
         if let Some(outcome) = given {
             add(
@@ -121,6 +131,16 @@ impl ConsumerPlan {
             )?;
         }
         Ok(())
+    }
+}
+
+/// Whether a row is bound to a terminus.
+fn is_for(row: &Row, terminus: TerminusNumber) -> bool
+    ensures { result ≡ is_for terminus.0 row.now }
+{
+    match row.consumer {
+        None => false,
+        Some(consumer) => consumer.0 == terminus.0,
     }
 }
 
@@ -181,5 +201,23 @@ fn resumed_as(
         (false, Some(_)) => Ok(None),
         (false, None) if complete => Ok(Some(Resumed::Anew)),
         (false, None) => Ok(None),
+    }
+}
+
+/// What is sent of a row in this way; its message is shared.
+fn sending_as(row: &Row, how: Resumed) -> Result<Sending, AllocError>
+    ensures { IfOk result (λ sending. sending ≡ sending_as row.now how) }
+{
+    match row.payload.clone() {
+        Ok(payload) => Ok(Sending {
+            row: row.number,
+            how,
+            format: row.format,
+            payload,
+        }),
+        Err(error) => {
+            drop(how);
+            Err(error)
+        }
     }
 }

@@ -8,10 +8,11 @@ mod laws;
 mod peer_map;
 mod producer;
 
-pub use consumer::{ConsumerPlan, Resumed, Sending, consumer_plan};
+pub use consumer::{ConsumerPlan, Sending, consumer_plan};
 pub use laws::{
     complete_maps_agree, complete_maps_send_what_is_listed, decided_rows_stay,
     each_tag_stands_once, empty_maps_forget_all, incomplete_maps_forget_nothing,
     other_entries_change_nothing, outcomes_given_are_short, rows_are_of_the_terminus,
 };
 pub use producer::{ProducerPlan, producer_plan};
+pub use router_trace::Resumed;

@@ -10,7 +10,7 @@ ghost use Rattle.router_after.specs.Starting.{places};
 use crate::candidate::{Candidate, sooner};
 use crate::waiting::first_on;
 use amqp_model::Transfer;
-use reply_frames::{delivery_frame, first_transfer, later_transfer};
+use reply_frames::{Resuming, delivery_frame, first_transfer, later_transfer};
 use router_state::State;
 use state_deliveries::Delivery;
 use std::alloc::AllocError;
@@ -57,11 +57,12 @@ fn send(state: &mut State, number: u64) -> Result<bool, AllocError>
     };
     let link = delivery.link;
     let largest = state.largest_frame(link.conn.0).min(MAX_FRAME);
+    let transfer = transfer_of(state, delivery)?;
     let item = delivery_frame(
         state.alloc(),
         largest,
         link.channel,
-        transfer_of(state, delivery),
+        transfer,
         &delivery.payload,
         delivery.sent,
     )?;
@@ -70,19 +71,21 @@ fn send(state: &mut State, number: u64) -> Result<bool, AllocError>
 }
 
 /// The next transfer of a delivery, without its payload.
-fn transfer_of(state: &State, delivery: &Delivery) -> Transfer
-    ensures { (t : List Entry) → TablesFit state.now t → result ≡ transfer_of t delivery.now }
+fn transfer_of(state: &State, delivery: &Delivery) -> Result<Transfer, AllocError>
+    ensures { IfOk result (λ transfer. (t : List Entry) → TablesFit state.now t → transfer ≡ transfer_of t delivery.now) }
 {
     let link = delivery.link;
     if delivery.id.is_some() {
-        return later_transfer(link.handle, delivery.presettled);
+        return Ok(later_transfer(link.handle, delivery.presettled));
     }
     let id = state.next_id(link.conn.0, link.channel);
-    first_transfer(
+    let resuming = Resuming::of(state.alloc(), delivery.resumed, delivery.outcome.as_ref())?;
+    Ok(first_transfer(
         link.handle,
         id,
         delivery.name,
         delivery.format,
         delivery.presettled,
-    )
+        resuming,
+    ))
 }

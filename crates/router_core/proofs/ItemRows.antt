@@ -21,7 +21,7 @@ use Rattle.reply_rows.specs.declared.answer.Answer.{Answer}
 use Rattle.reply_rows.specs.declared.answer.Answer.TheVariants.{Attach, Refuse, Taken, Settle}
 use Rattle.reply_rows.specs.Rows.{said}
 use Rattle.reply_transfers.specs.Transfers.{part_put, settled_answers}
-use Rattle.router_reply.specs.Replies.{taken, refused, row_found, map_for, item_put}
+use Rattle.router_reply.specs.Replies.{taken, refused, row_found, map_told, item_put}
 
 pub item_cases : (id : List ℕ) (t after : List Entry) (c : ℕ) (p : Conn) (P : Answer → List Put → Type 0)
     → ((a : Answer) → P a (each_to c (said id p a)))
@@ -36,7 +36,7 @@ item_cases id t after c p P none takes refuses carries settles i a = by_item i a
     nothing_more a = subst (λ (ps : List Put). P a ps) (sym (append-nil (each_to c (said id p a)))) (none a)
 
     by_attach : (sasl : Bool) (channel : ℕ) (payload : List ℕ) (x : AnAttach) (a : Answer) → P a (item_put id t after c p (item.Frame sasl channel (perf.Attach x) payload) a)
-    by_attach sasl channel payload x (Attach own) = takes own (map_for t c x (Attach own)) x
+    by_attach sasl channel payload x (Attach own) = takes own (map_told t c x (Attach own)) x
     by_attach sasl channel payload x (Refuse own handle e) = refuses own handle e x
     by_attach sasl channel payload x a = nothing_more a
 

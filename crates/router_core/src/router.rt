@@ -691,15 +691,11 @@ fn reply_to(
 ) -> Result<(), AllocError>
     ensures { OnOk result ((t : List Entry) → IsReady state.old t event ready.old → row ≡ row_found t → book.now ≡ book_in t → TablesFit state.new (answered id.now t (step_of event))) }
 {
-    let Ok(resumption) = resumption_of(state, book, &event, &ready.answer) else {
+    let Ok(mut resumption) = resumption_of(state, book, &event, &ready.answer) else {
         drop(event);
         return Err(AllocError);
     };
-    let Ok(ours) = told_map(state.alloc(), &resumption) else {
-        drop(event);
-        drop(resumption);
-        return Err(AllocError);
-    };
+    let ours = told_map(state.alloc(), &mut resumption);
     let Ok(()) = reply(
         state,
         id,

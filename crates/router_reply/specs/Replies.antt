@@ -33,7 +33,7 @@ use Rattle.reply_rows.specs.Rows.{said, down_reply}
 use Rattle.reply_transfers.specs.Transfers.{settled_answers, part_put, part_bound}
 use Rattle.router_reply.specs.Acts.{answer_of, book_in, found_acts}
 use Rattle.router_reply.specs.Admitting.{row_in}
-use Rattle.router_reply.specs.Resuming.{key_taken, rows_for, map_of}
+use Rattle.router_reply.specs.Resuming.{key_taken, map_for}
 
 -- a connection is closed with an error: its open comes before the close if it isn't written yet
 abbrev pub closing_of : List ℕ → Option Connection → Condition → List Item
@@ -118,11 +118,11 @@ attach_put t c ours (item.Frame sasl channel body payload) answer = attach_put_i
 attach_put t c ours _ answer = []
 
 -- the router's map in the answer to an attach
-abbrev pub map_for : Trace → ℕ → AnAttach → Answer → List UnsettledDelivery
-map_for t c a answer = map_of (rows_for (book_in t) (key_taken t c a answer))
+abbrev pub map_told : Trace → ℕ → AnAttach → Answer → List UnsettledDelivery
+map_told t c a answer = map_for (book_in t) (Some a) (key_taken t c a answer)
 
 abbrev pub put_for : Trace → Trace → ℕ → Perf → Item → Answer → List Put
-put_for t after c (perf.Attach a) i answer = put_for_attach after c (map_for t c a answer) a answer
+put_for t after c (perf.Attach a) i answer = put_for_attach after c (map_told t c a answer) a answer
 put_for t after c (perf.Transfer x) i answer = put_for_transfer t after c i answer
 put_for t after c (perf.Disposition x) i answer = put_for_disposition t c x answer
 put_for t after c _ i answer = []

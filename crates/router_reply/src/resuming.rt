@@ -1,41 +1,31 @@
-//! What a consumer's durable link takes up again when it is attached: the undecided rows of its terminus (AMQP 1.0 part 2,
-//! section 2.6.13).
-ghost use Rattle.std.specs.Prelude.{◌≡◌, ◌++◌, ◌∷◌, [], List, map, filter, IfOk, OnOk};
-ghost use Rattle.book_model.specs.Book.{is_undecided, terminus_of};
+//! What a consumer's durable link takes up again when it is attached: rows of its terminus, each sent as the map of the
+//! attach says (AMQP 1.0 part 2, section 2.6.13).
+ghost use Rattle.std.specs.Prelude.{◌≡◌, ◌∷◌, List, IfOk, OnOk};
+ghost use Rattle.std.specs.Option.{option_copied};
 ghost use Rattle.router_trace.specs.Trace.{Bound, Entry, did};
 ghost use Rattle.router_state.specs.Tables.{TablesFind, TablesFit};
 ghost use Rattle.state_messages.specs.Messages.{taken_up_by};
-ghost use Rattle.router_reply.specs.Resuming.{receives, consumer_key, key_taken, key_by, key_in, resumed_key, waits_for, undecided_rows, waiting_of, rows_for, waiting_entry, map_of, bound_to, bound_if, with_rows, key_resumed, rows_resumed};
+ghost use Rattle.router_reply.specs.Resuming.{receives, consumer_key, key_taken, key_by, key_in, resumed_key, attach_within, attach_in, rows_with, sent_by, map_by, rows_for, map_for, bound_to, bound_if, with_rows, key_resumed, map_resumed, rows_resumed};
 
-use crate::deciding::add;
 use amqp_model::{Attach, Item, Perf, Role, UnsettledDelivery};
 use book_core::Book;
-use book_model::{LinkKey, Row, RowNumber, TerminusNumber};
-use bytes::Bytes;
-use reply_frames::tag_of;
+use book_model::LinkKey;
 use reply_rows::{Answer, wanted_key, wants_durable};
+use resume_core::{ConsumerPlan, Sending, consumer_plan};
 use router_state::State;
-use router_trace::{Attachment, DeliveryName, Event};
+use router_trace::{Attachment, Event};
 use std::alloc::{AllocError, Global};
-
-/// An undecided row of a consumer's terminus: what is bound of it.
-#[derive(Drop)]
-pub struct WaitingRow {
-    /// Its number.
-    pub number: RowNumber,
-    /// The format of its message (AMQP 1.0 part 2, section 2.8.11).
-    pub format: u32,
-    /// Its message.
-    pub payload: Bytes,
-}
+use std::mem;
 
 /// What a consumer's durable link takes up again when it is attached.
 #[derive(Drop)]
 pub struct Resumption {
     /// The link's key.
     pub key: LinkKey,
-    /// The undecided rows of its terminus, by number.
-    pub rows: Vec<WaitingRow>,
+    /// The router's map in the answer to the attach, until it is told (AMQP 1.0 part 2, section 2.7.3).
+    pub map: Vec<UnsettledDelivery>,
+    /// What is sent of the rows of its terminus, by number.
+    pub rows: Vec<Sending>,
 }
 
 /// Whether a peer with this role receives.
@@ -114,69 +104,82 @@ fn resumed_key(state: &State, event: &Event, answer: &Answer) -> Result<Option<L
     }
 }
 
-/// Whether a row is bound to a terminus, and undecided.
-fn waits_for(row: &Row, number: TerminusNumber) -> bool
-    ensures { result ≡ waits_for number.0 row.now }
+/// The attach in an item, if it brings one.
+fn attach_within(item: &Item) -> Option<&Attach>
+    ensures { option_copied result ≡ attach_within item.now }
 {
-    match row.consumer {
-        None => false,
-        Some(consumer) => consumer.0 == number.0 && row.outcome.is_none(),
+    match item {
+        Item::Frame { perf, .. } => match perf {
+            Perf::Attach(attach) => Some(attach.as_ref()),
+            _ => None,
+        },
+        _ => None,
     }
 }
 
-/// What is bound of a row; its payload is shared.
-fn waiting_of(row: &Row) -> Result<WaitingRow, AllocError>
-    ensures { IfOk result (λ waiting. waiting ≡ waiting_of row.now) }
+/// The attach that an event brings, if it brings one.
+fn attach_in(event: &Event) -> Option<&Attach>
+    ensures { option_copied result ≡ attach_in event.now }
 {
-    Ok(WaitingRow {
-        number: row.number,
-        format: row.format,
-        payload: row.payload.clone()?,
-    })
+    match event {
+        Event::Item(_, item) => attach_within(item),
+        _ => None,
+    }
 }
 
-/// The undecided rows that are bound to the terminus with this number.
-#[tactic(auto, using(crate::proofs::Waiting::all_waiting))]
-fn rows_at(
+/// What an attach does to the rows of the terminus with this key; nothing if there is no attach, or no terminus.
+fn plan_for(
     alloc: Global,
     book: &Book,
-    number: TerminusNumber,
-) -> Result<Vec<WaitingRow>, AllocError>
-    ensures { IfOk result (λ rows. rows.items ≡ map waiting_of (filter (waits_for number.0) book.now.rows)) }
+    attach: Option<&Attach>,
+    key: &LinkKey,
+) -> Result<ConsumerPlan, AllocError>
+    ensures mapped { IfOk result (λ plan. plan.map.items ≡ map_by (option_copied attach.entry) (rows_with book.now key.now)) }
+    ensures sent { IfOk result (λ plan. plan.sendings.items ≡ sent_by (option_copied attach.entry) (rows_with book.now key.now)) }
 {
-    let mut waiting = Vec::new(alloc);
-    for row in book.rows_of(number) {
-        if waits_for(row, number) {
-            add(&mut waiting, waiting_of(row)?)?;
-        }
-    }
-    Ok(waiting)
-}
-
-/// The undecided rows that are bound to the terminus with this key.
-fn rows_for(alloc: Global, book: &Book, key: &LinkKey) -> Result<Vec<WaitingRow>, AllocError>
-    ensures { IfOk result (λ rows. rows.items ≡ map waiting_of (undecided_rows book.now (terminus_of key.now book.now.termini))) }
-{
+    let Some(attach) = attach else {
+        return Ok(ConsumerPlan::new(alloc));
+    };
     match book.terminus_of(key) {
-        None => Ok(Vec::new(alloc)),
-        Some(terminus) => rows_at(alloc, book, terminus.number),
+        None => Ok(ConsumerPlan::new(alloc)),
+        Some(terminus) => consumer_plan(
+            alloc,
+            terminus.number,
+            book.rows_of(terminus.number),
+            attach.unsettled.as_ref(),
+            !attach.incomplete_unsettled,
+        ),
     }
 }
 
-/// What the link with this key takes up again.
+/// What the link with this key takes up again after an attach.
 fn resumption_with(
     alloc: Global,
     book: &Book,
+    attach: Option<&Attach>,
     key: Option<LinkKey>,
 ) -> Result<Option<Resumption>, AllocError>
     ensures key { IfOk result (λ resumption. key_resumed resumption ≡ key) }
-    ensures rows { IfOk result (λ resumption. rows_resumed resumption ≡ rows_for book.now key) }
+    ensures map { IfOk result (λ resumption. map_resumed resumption ≡ map_for book.now (option_copied attach.entry) key) }
+    ensures rows { IfOk result (λ resumption. rows_resumed resumption ≡ rows_for book.now (option_copied attach.entry) key) }
 {
     let Some(key) = key else {
         return Ok(None);
     };
-    match rows_for(alloc, book, &key) {
-        Ok(rows) => Ok(Some(Resumption { key, rows })),
+    match plan_for(alloc, book, attach, &key) {
+        Ok(plan) => {
+            let ConsumerPlan {
+                decisions,
+                map,
+                sendings,
+            } = plan;
+            drop(decisions);
+            Ok(Some(Resumption {
+                key,
+                map,
+                rows: sendings,
+            }))
+        }
         Err(error) => {
             drop(key);
             Err(error)
@@ -185,7 +188,7 @@ fn resumption_with(
 }
 
 /// What an event that was handled (`hear`) takes up again: if its item is the attach of a consumer's durable link, which
-/// this answer takes, the undecided rows of the link's terminus, by the book after the event's acts.
+/// this answer takes, the rows of the link's terminus that its map leaves to send, by the book after the event's acts.
 ///
 /// # Errors
 ///
@@ -197,68 +200,41 @@ pub fn resumption_of(
     answer: &Answer,
 ) -> Result<Option<Resumption>, AllocError>
     ensures key { IfOk result (λ resumption. (t : List Entry) → TablesFit state.now (did event.now ∷ t) → key_resumed resumption ≡ resumed_key t event.now answer.now) }
-    ensures rows { IfOk result (λ resumption. (t : List Entry) → TablesFit state.now (did event.now ∷ t) → rows_resumed resumption ≡ rows_for book.now (resumed_key t event.now answer.now)) }
+    ensures map { IfOk result (λ resumption. (t : List Entry) → TablesFit state.now (did event.now ∷ t) → map_resumed resumption ≡ map_for book.now (attach_in event.now) (resumed_key t event.now answer.now)) }
+    ensures rows { IfOk result (λ resumption. (t : List Entry) → TablesFit state.now (did event.now ∷ t) → rows_resumed resumption ≡ rows_for book.now (attach_in event.now) (resumed_key t event.now answer.now)) }
 {
     let key = resumed_key(state, event, answer)?;
-    resumption_with(state.alloc(), book, key)
+    resumption_with(state.alloc(), book, attach_in(event), key)
 }
 
-/// The entry of an undecided row in the router's map.
-fn waiting_entry(row: &WaitingRow) -> UnsettledDelivery
-    ensures { result ≡ waiting_entry row.now }
-{
-    UnsettledDelivery {
-        tag: tag_of(DeliveryName::Row(row.number)),
-        state: None,
-    }
-}
-
-/// The router's map of undecided rows (AMQP 1.0 part 2, section 2.7.3).
-///
-/// # Errors
-///
-/// `AllocError` if memory was refused.
-pub fn map_of(alloc: Global, rows: &[WaitingRow]) -> Result<Vec<UnsettledDelivery>, AllocError>
-    ensures { IfOk result (λ entries. entries.items ≡ map_of rows.now) }
-{
-    let mut entries = Vec::new(alloc);
-    for row in rows {
-        add(&mut entries, waiting_entry(row))?;
-    }
-    Ok(entries)
-}
-
-/// The router's map in the answer to the attach of what it takes up again; it has no entries if that is nothing.
-///
-/// # Errors
-///
-/// `AllocError` if memory was refused.
-pub fn told_map(
-    alloc: Global,
-    resumption: &Option<Resumption>,
-) -> Result<Vec<UnsettledDelivery>, AllocError>
-    ensures { IfOk result (λ entries. entries.items ≡ map_of (rows_resumed resumption.now)) }
+/// The router's map in the answer to the attach of what it takes up again, which is told by it; it has no entries if that
+/// is nothing.
+pub fn told_map(alloc: Global, resumption: &mut Option<Resumption>) -> Vec<UnsettledDelivery>
+    ensures map { result.items ≡ map_resumed resumption.old }
+    ensures key { key_resumed resumption.new ≡ key_resumed resumption.old }
+    ensures rows { rows_resumed resumption.new ≡ rows_resumed resumption.old }
 {
     match resumption {
-        None => Ok(Vec::new(alloc)),
-        Some(resumption) => map_of(alloc, &resumption.rows),
+        None => Vec::new(alloc),
+        Some(resumption) => mem::replace(&mut resumption.map, Vec::new(alloc)),
     }
 }
 
 /// Binds a row to the consumer's link that takes it up again.
-fn bind(state: &mut State, at: Attachment, row: WaitingRow) -> Result<(), AllocError>
-    ensures { OnOk result ((t : List Entry) → TablesFit state.old t → TablesFit state.new (Bound (taken_up_by t row.number row.format row.payload at) ∷ t)) }
+fn bind(state: &mut State, at: Attachment, sending: Sending) -> Result<(), AllocError>
+    ensures { OnOk result ((t : List Entry) → TablesFit state.old t → TablesFit state.new (Bound (taken_up_by t sending.row sending.how sending.format sending.payload at) ∷ t)) }
 {
-    let WaitingRow {
-        number,
+    let Sending {
+        row,
+        how,
         format,
         payload,
-    } = row;
-    state.take_up(at, number, format, payload)
+    } = sending;
+    state.take_up(at, row, how, format, payload)
 }
 
 /// Binds rows to the consumer's link that takes them up again, in order.
-fn bind_all(state: &mut State, at: Attachment, rows: Vec<WaitingRow>) -> Result<(), AllocError>
+fn bind_all(state: &mut State, at: Attachment, rows: Vec<Sending>) -> Result<(), AllocError>
     ensures { OnOk result ((t : List Entry) → TablesFit state.old t → TablesFit state.new (bound_to at rows.items t)) }
 {
     for row in rows {
@@ -271,7 +247,7 @@ fn bind_all(state: &mut State, at: Attachment, rows: Vec<WaitingRow>) -> Result<
 fn bind_if(
     state: &mut State,
     at: Option<Attachment>,
-    rows: Vec<WaitingRow>,
+    rows: Vec<Sending>,
 ) -> Result<(), AllocError>
     ensures { OnOk result ((t : List Entry) → TablesFit state.old t → TablesFit state.new (bound_if at rows.items t)) }
 {
@@ -293,9 +269,10 @@ fn bind_if(
 pub fn take_up(state: &mut State, resumption: Option<Resumption>) -> Result<(), AllocError>
     ensures { OnOk result ((t : List Entry) → TablesFit state.old t → TablesFit state.new (with_rows (key_resumed resumption) (rows_resumed resumption) t)) }
 {
-    let Some(Resumption { key, rows }) = resumption else {
+    let Some(Resumption { key, map, rows }) = resumption else {
         return Ok(());
     };
+    drop(map);
     let at = state.consumer_with(&key);
     drop(key);
     bind_if(state, at, rows)

@@ -1,6 +1,5 @@
 -- When all of the router's tables agree with a trace.
 use Rattle.std.specs.Prelude.{◌≡◌, ℕ, Bool, if◌then◌else◌, List, [], ◌∷◌, ◌++◌}
-use Rattle.std.specs.Ordering.{nat_cmp}
 use Rattle.router_trace.specs.declared.event.Event.{Event}
 use Rattle.router_state.specs.declared.tables.State.{State}
 use Rattle.router_trace.specs.Trace.{Trace, Put, ups}

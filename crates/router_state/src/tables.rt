@@ -42,8 +42,8 @@ use book_model::{LinkKey, RowNumber};
 use bytes::Bytes;
 use route_table::Table;
 use router_trace::{
-    Attachment, ConnectionId, Event, LinkAt, LinkState, Origin, Outgoing, Peer, SESSION_WINDOW,
-    beat_item, link_flow_item,
+    Attachment, ConnectionId, Event, LinkAt, LinkState, Origin, Outgoing, Peer, Resumed,
+    SESSION_WINDOW, beat_item, link_flow_item,
 };
 use state_connections::{Clocks, Connections, Peers, Ready, Refused, Taken};
 use state_deliveries::Delivery as Bound;
@@ -429,17 +429,19 @@ impl State {
         self.messages.consumer_with(key)
     }
 
-    /// Binds a row to the consumer's link that takes it up again; its producer's delivery is that of the delivery which it had until now.
+    /// Binds a row to the consumer's link that takes it up again, to be sent as `how` says; its producer's delivery is
+    /// that of the delivery which it had until now.
     pub fn take_up(
         &mut self,
         consumer: Attachment,
         row: RowNumber,
+        how: Resumed,
         format: u32,
         payload: Bytes,
     ) -> Result<(), AllocError>
-        ensures { OnOk result ((t : List Entry) → TablesFit self.old t → TablesFit self.new (BoundTo (taken_up_by t row format payload consumer) ∷ t)) }
+        ensures { OnOk result ((t : List Entry) → TablesFit self.old t → TablesFit self.new (BoundTo (taken_up_by t row how format payload consumer) ∷ t)) }
     {
-        self.messages.take_up(consumer, row, format, payload)?;
+        self.messages.take_up(consumer, row, how, format, payload)?;
         Ok(())
     }
 

@@ -17,6 +17,9 @@ use Rattle.router_trace.specs.declared.binding.Binding.{Binding}
 use Rattle.router_trace.specs.declared.binding.DeliveryName.{DeliveryName}
 use Rattle.router_trace.specs.declared.binding.DeliveryName.TheVariants.{Row, Counter}
 use Rattle.router_trace.specs.declared.binding.Origin.{Origin}
+use Rattle.router_trace.specs.declared.binding.Resumed.{Resumed}
+use Rattle.router_trace.specs.declared.binding.Resumed.TheVariants.{Settled, Anew}
+use Rattle.router_trace.specs.declared.binding.TakenUp.{TakenUp}
 use Rattle.router_trace.specs.declared.event.Event.{Event}
 use Rattle.router_trace.specs.declared.event.Event.TheVariants as event
 use Rattle.router_trace.specs.declared.channel.PeerChannel.{PeerChannel}
@@ -92,6 +95,8 @@ pub record Delivery : Type 0 where
   -- it has a row, and its consumer's link is durable; that link was suspended before it was decided
   pub lasting : Bool
   pub suspended : Bool
+  -- its link took it up again, and has it still: its first frame says that it is resumed
+  pub resumed : Bool
 
 abbrev pub has_row : DeliveryName → Bool
 has_row (Row r) = true
@@ -114,23 +119,46 @@ sender d = either_origin (source d) d.early
 abbrev pub holder : Delivery → Option Origin
 holder d = if is_none d.outcome then sender d else source d
 
+-- A row that is taken up again may be decided: it is sent only to settle it then. One that its consumer has is sent as resumed.
+abbrev pub outcome_as : Resumed → Option DeliveryState
+outcome_as (Settled outcome) = Some outcome
+outcome_as _ = None
+
+abbrev pub is_resumed : Resumed → Bool
+is_resumed Anew = false
+is_resumed _ = true
+
+-- what a row brings along: nothing, if it isn't taken up again
+abbrev pub brought : {A : Type 0} → (TakenUp → Option A) → Option TakenUp → Option A
+brought field None = None
+brought field (Some u) = field u
+
+abbrev pub resumes : Option TakenUp → Bool
+resumes None = false
+resumes (Some u) = is_resumed u.how
+
 abbrev pub bound : DeliveryName → Binding → Delivery
 bound name b = record {
   name = name;
   link = b.consumer;
   origin = b.origin;
-  presettled = is_none b.origin && not b.taken_up;
+  presettled = is_none b.origin && is_none b.taken_up;
   format = b.format;
   payload = b.payload;
   id = None;
   sent = 0;
   going_on = true;
-  outcome = None;
-  told = None;
-  early = None;
+  outcome = brought (λ u. outcome_as u.how) b.taken_up;
+  told = brought (λ u. u.told) b.taken_up;
+  early = brought (λ u. u.early) b.taken_up;
   lasting = has_row name && b.lasting;
   suspended = false;
+  resumed = resumes b.taken_up;
 }
+
+-- it is sent only to settle it
+abbrev pub settles : Delivery → Bool
+settles d = d.resumed && is_some d.outcome
 
 -- A delivery is over once it is decided or suspended, its producer needs no more of it, and no frame of it remains to be sent.
 abbrev pub is_over : Delivery → Bool
@@ -382,13 +410,21 @@ delivery (Bound b ∷ t) n = if bindings t + 1 == n then Some (bound (name_in t 
 delivery (Booked acts full ∷ t) n = delivery t n
 delivery (Began g ∷ t) n = None
 
--- the delivery that has a name now, and the producer's delivery of one
+-- the delivery that has a name now, and what of it goes on if its row is taken up again: the producer's delivery
 abbrev pub called : Trace → DeliveryName → Option Delivery
 called t name = option_and_then (delivery t) (number_named t name)
 
 abbrev pub origin_in : Option Delivery → Option Origin
 origin_in None = None
 origin_in (Some d) = d.origin
+
+abbrev pub told_in : Option Delivery → Option Origin
+told_in None = None
+told_in (Some d) = d.told
+
+abbrev pub early_in : Option Delivery → Option Origin
+early_in None = None
+early_in (Some d) = d.early
 
 -- Tests of a delivery: it waits to start on a link, it is undecided there, its outcome must be reported to its producer.
 abbrev pub waits_on : ℕ → Option Delivery → Bool

@@ -1,5 +1,5 @@
 -- The delivery frames that the router writes (AMQP 1.0 part 2, sections 2.7.5 and 2.7.6), and outcomes as it keeps them.
-use Rattle.std.specs.Prelude.{ℕ, Bool, true, false, nat_lt, if◌then◌else◌, List, length, take, drop, min, codes, Some, None, option_map}
+use Rattle.std.specs.Prelude.{ℕ, Bool, true, false, ◌||◌, nat_lt, if◌then◌else◌, List, length, take, drop, min, codes, Option, Some, None, option_map}
 use Rattle.amqp_model.specs.PerfSpelling.{state_spelling}
 use Rattle.amqp_model.specs.declared.perf.Perf.TheVariants as perf
 use Rattle.amqp_model.specs.declared.perf.Role.{Role}
@@ -9,7 +9,7 @@ use Rattle.amqp_model.specs.declared.state.DeliveryState.TheVariants as state
 use Rattle.amqp_model.specs.declared.state.Fault.{Fault}
 use Rattle.amqp_model.specs.declared.item.Item.{Item}
 use Rattle.amqp_model.specs.Room.{transfer_frame}
-use Rattle.router_trace.specs.Deliveries.{Delivery, tag_of}
+use Rattle.router_trace.specs.Deliveries.{Delivery, settles, tag_of}
 use Rattle.router_trace.specs.Frames.{frame_on}
 use Rattle.router_trace.specs.LinkFrames.{fits}
 use Rattle.router_trace.specs.Numbers.{most_of}
@@ -45,19 +45,22 @@ abbrev pub outcome_item : ℕ → Role → ℕ → Bool → DeliveryState → It
 outcome_item own role id settled s =
     frame_on own (perf.Disposition (record { role = role; first = id; last = None; settled = settled; state = Some (kept_outcome s); batchable = false }))
 
--- A transfer of the router: the first of a delivery has its id, tag and format, a later one none of them. Each says whether the
--- delivery was settled before.
+-- A transfer of the router: the first of a delivery has its id, tag and format, and says whether it is resumed; a later one has none of them. Each says
+-- whether the delivery was settled before. One that only settles a delivery has its outcome (2.6.13).
+abbrev pub outcome_if : Bool → Option DeliveryState → Option DeliveryState
+outcome_if b outcome = if b then outcome else None
+
 abbrev pub first_transfer : ℕ → ℕ → Delivery → Transfer
 first_transfer handle id d = record {
   handle = handle;
   delivery_id = Some id;
   delivery_tag = Some (record { items = tag_of d.name });
   message_format = Some d.format;
-  settled = d.presettled;
+  settled = d.presettled || settles d;
   more = false;
   rcv_settle_mode = None;
-  state = None;
-  resume = false;
+  state = outcome_if (settles d) d.outcome;
+  resume = d.resumed;
   aborted = false;
   batchable = false;
 }

@@ -3,6 +3,7 @@ ghost use Rattle.std.specs.Prelude.{◌≡◌};
 ghost use Rattle.router_trace.specs.Deliveries.{has_row};
 
 use crate::handle::Attachment;
+use amqp_model::DeliveryState;
 use book_model::RowNumber;
 use bytes::Bytes;
 
@@ -36,6 +37,28 @@ impl DeliveryName {
     }
 }
 
+/// How a row is sent after its consumer's link was attached again (AMQP 1.0 part 2, section 2.6.13).
+#[derive(Debug, Drop)]
+pub enum Resumed {
+    /// A settled transfer with resume true and this outcome, without payload.
+    Settled(DeliveryState),
+    /// The whole message, with resume true.
+    Again,
+    /// The whole message, as a new delivery with the same tag.
+    Anew,
+}
+
+/// What a row brings along when its consumer's link takes it up again.
+#[derive(Debug, Drop)]
+pub struct TakenUp {
+    /// How it is sent.
+    pub how: Resumed,
+    /// The producer's delivery once its outcome was told, as long as the producer has yet to settle it.
+    pub told: Option<Origin>,
+    /// The producer's delivery, if the producer settled it before the row was decided.
+    pub early: Option<Origin>,
+}
+
 /// A message bound to a consumer's link.
 #[derive(Debug, Drop)]
 pub struct Binding {
@@ -52,7 +75,7 @@ pub struct Binding {
     pub format: u32,
     /// The message.
     pub payload: Bytes,
-    /// Whether it was bound before, and the consumer's link takes its row up again: no consumer is chosen then, and the origin is that of
-    /// the delivery which the row had until now.
-    pub taken_up: bool,
+    /// What its row brings along, if it was bound before, or in an earlier run, and the consumer's link takes it up again: no consumer is
+    /// chosen then, and the origin is that of the delivery which the row had until now.
+    pub taken_up: Option<TakenUp>,
 }

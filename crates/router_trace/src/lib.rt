@@ -12,7 +12,7 @@ mod outgoing;
 mod router_id;
 mod terms;
 
-pub use binding::{Binding, DeliveryName, Origin};
+pub use binding::{Binding, DeliveryName, Origin, Resumed, TakenUp};
 pub use channel::PeerChannel;
 pub use condition::Condition;
 pub use durable::is_durable;

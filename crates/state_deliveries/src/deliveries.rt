@@ -6,7 +6,7 @@ ghost use Rattle.router_trace.specs.Trace.{Beginning, Trace};
 ghost use Rattle.router_trace.specs.Configuration.{opened};
 ghost use Rattle.router_trace.specs.Trace.{Entry, Out, Bound, did};
 ghost use Rattle.router_trace.specs.declared.event.Event.TheVariants as event;
-ghost use Rattle.router_trace.specs.Deliveries.{called, origin_in, delivery, channels_found, name_of, next_id, sending, named, waits_on, undecided_on, held_from, is_to_tell};
+ghost use Rattle.router_trace.specs.Deliveries.{called, origin_in, told_in, early_in, delivery, channels_found, name_of, next_id, sending, named, waits_on, undecided_on, held_from, is_to_tell};
 ghost use Rattle.router_trace.specs.Sessions.{maps, is_channel};
 ghost use Rattle.router_trace.specs.Following.{first_delivery, is_unsent_on, is_used};
 ghost use Rattle.router_trace.specs.Settling.{open_ids};
@@ -21,7 +21,7 @@ ghost use Rattle.state_deliveries.specs.Touching.{is_touched, Touches};
 
 use crate::change::{Change, after_heard};
 use crate::deciding::{decided_rows, rows_from};
-use crate::delivery::Delivery;
+use crate::delivery::{Delivery, Producers};
 use crate::hearing::hear;
 use crate::names::Names;
 use crate::next_ids::NextIds;
@@ -29,7 +29,7 @@ use crate::sending::Sending;
 use crate::store::Store;
 use amqp_model::Item;
 use book_model::{Decision, RowNumber};
-use router_trace::{Binding, ConnectionId, DeliveryName, Origin};
+use router_trace::{Binding, ConnectionId, DeliveryName};
 use std::alloc::{AllocError, Global};
 
 /// The deliveries that the router passes on. After an error the table's contents are unspecified.
@@ -206,11 +206,13 @@ impl Deliveries {
         Ok(rows_from(&self.store, self.alloc, conn, own, first, last)?)
     }
 
-    /// The producer's delivery of the delivery that has a name now.
-    pub fn origin_named(&self, name: DeliveryName) -> Option<Origin>
-        ensures { (t : List Entry) → DeliveriesFit self.now t → result ≡ origin_in (called t name) }
+    /// The producer's delivery of the delivery that has a name now, in whichever place it is.
+    pub fn producers_of(&self, name: DeliveryName) -> Producers
+        ensures origin { (t : List Entry) → DeliveriesFit self.now t → result.origin ≡ origin_in (called t name) }
+        ensures told { (t : List Entry) → DeliveriesFit self.now t → result.told ≡ told_in (called t name) }
+        ensures early { (t : List Entry) → DeliveriesFit self.now t → result.early ≡ early_in (called t name) }
     {
-        self.store.origin_called(name)
+        Producers::of(self.store.called(name))
     }
 
     /// Binds a message to a consumer's link. Fails if memory is refused, and if no binding number is left.

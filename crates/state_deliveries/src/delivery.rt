@@ -1,7 +1,7 @@
 //! Deliveries as the table keeps them.
-ghost use Rattle.std.specs.Prelude.{◌≡◌, ◌&&◌, OnOk, Some, if◌then◌else◌};
+ghost use Rattle.std.specs.Prelude.{◌≡◌, ◌&&◌, OnOk, Some, option_map, if◌then◌else◌};
 ghost use Rattle.router_trace.specs.Settling.{is_open_as};
-ghost use Rattle.router_trace.specs.Deliveries.{bound, source, sender, holder, is_over, is_undecided, after_frame, untold, unsettled, forsaken, ended, after_ends};
+ghost use Rattle.router_trace.specs.Deliveries.{bound, brought, origin_in, told_in, early_in, outcome_as, is_resumed, resumes, source, sender, holder, is_over, is_undecided, after_frame, untold, unsettled, forsaken, ended, after_ends};
 ghost use Rattle.state_deliveries.specs.Deciding.{bare, changed_by};
 ghost use Rattle.state_deliveries.specs.Stepping.{is_gone, is_decided_by, comes_with_id, changed};
 
@@ -9,7 +9,7 @@ use crate::change::{Change, Gone, comes_with_id, is_in};
 use crate::state::failed;
 use amqp_model::{DeliveryState, Transfer, copy_state};
 use bytes::Bytes;
-use router_trace::{Attachment, Binding, DeliveryName, Origin};
+use router_trace::{Attachment, Binding, DeliveryName, Origin, Resumed, TakenUp};
 use std::alloc::AllocError;
 use std::marker::Model;
 
@@ -44,6 +44,28 @@ pub struct Delivery {
     pub lasting: bool,
     /// Whether that link was suspended before it was decided.
     pub suspended: bool,
+    /// Whether its link took it up again and has it still: its first frame says that it is resumed.
+    pub resumed: bool,
+}
+
+/// The producer's delivery of a delivery, in whichever place it is.
+#[derive(Clone, Copy)]
+pub struct Producers {
+    /// That to which the outcome is reported; none if no report is due to it any more.
+    pub origin: Option<Origin>,
+    /// The one that was told the outcome, as long as the producer has yet to settle it.
+    pub told: Option<Origin>,
+    /// The one that the producer settled before the row was decided.
+    pub early: Option<Origin>,
+}
+
+/// What a row that is taken up again brings along.
+#[derive(Drop)]
+struct Brought {
+    outcome: Option<DeliveryState>,
+    told: Option<Origin>,
+    early: Option<Origin>,
+    resumed: bool,
 }
 
 impl Model for Delivery {
@@ -66,7 +88,75 @@ impl Model for Delivery {
       early = d.early;
       lasting = d.lasting;
       suspended = d.suspended;
+      resumed = d.resumed;
     } };
+}
+
+impl Producers {
+    /// Those of a delivery, if there is one.
+    pub(crate) fn of(delivery: Option<&Delivery>) -> Producers
+        ensures origin { result.origin ≡ origin_in (option_map (λ d. d.now) delivery.entry) }
+        ensures told { result.told ≡ told_in (option_map (λ d. d.now) delivery.entry) }
+        ensures early { result.early ≡ early_in (option_map (λ d. d.now) delivery.entry) }
+    {
+        match delivery {
+            None => Producers {
+                origin: None,
+                told: None,
+                early: None,
+            },
+            Some(delivery) => Producers {
+                origin: delivery.origin,
+                told: delivery.told,
+                early: delivery.early,
+            },
+        }
+    }
+}
+
+impl Brought {
+    /// What comes with a binding: nothing, if its row isn't taken up again.
+    fn by(taken_up: Option<TakenUp>) -> Brought
+        ensures outcome { result.outcome ≡ brought (λ u. outcome_as u.how) taken_up }
+        ensures told { result.told ≡ brought (λ u. u.told) taken_up }
+        ensures early { result.early ≡ brought (λ u. u.early) taken_up }
+        ensures resumed { result.resumed ≡ resumes taken_up }
+    {
+        match taken_up {
+            None => Brought {
+                outcome: None,
+                told: None,
+                early: None,
+                resumed: false,
+            },
+            Some(taken) => Brought {
+                told: taken.told,
+                early: taken.early,
+                resumed: is_resumed(&taken.how),
+                outcome: outcome_as(taken.how),
+            },
+        }
+    }
+}
+
+/// Whether a row's first frame says that it is resumed.
+fn is_resumed(how: &Resumed) -> bool
+    ensures { result ≡ is_resumed how.now }
+{
+    match how {
+        Resumed::Anew => false,
+        _ => true,
+    }
+}
+
+/// The outcome that a row is sent with.
+fn outcome_as(how: Resumed) -> Option<DeliveryState>
+    ensures { result ≡ outcome_as how }
+{
+    match how {
+        Resumed::Settled(outcome) => Some(outcome),
+        _ => None,
+    }
 }
 
 impl Delivery {
@@ -74,21 +164,24 @@ impl Delivery {
     pub(crate) fn bound(name: DeliveryName, binding: Binding) -> Delivery
         ensures { result ≡ bound name binding }
     {
+        let presettled = binding.origin.is_none() && binding.taken_up.is_none();
+        let brought = Brought::by(binding.taken_up);
         Delivery {
             name,
             link: binding.consumer,
             origin: binding.origin,
-            presettled: binding.origin.is_none() && !binding.taken_up,
+            presettled,
             format: binding.format,
             payload: binding.payload,
             id: None,
             sent: 0,
             going_on: true,
-            outcome: None,
-            told: None,
-            early: None,
+            outcome: brought.outcome,
+            told: brought.told,
+            early: brought.early,
             lasting: name.has_row() && binding.lasting,
             suspended: false,
+            resumed: brought.resumed,
         }
     }
 
@@ -286,6 +379,7 @@ impl Delivery {
             early: self.early,
             lasting: self.lasting,
             suspended: self.suspended,
+            resumed: self.resumed,
         }
     }
 

@@ -36,4 +36,4 @@ mod touched;
 
 pub use change::{Change, Gone};
 pub use deliveries::Deliveries;
-pub use delivery::Delivery;
+pub use delivery::{Delivery, Producers};

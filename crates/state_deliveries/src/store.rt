@@ -6,7 +6,7 @@ ghost use Rattle.std.specs.Map.{keys_of};
 ghost use Rattle.state_collections.specs.NumberMap.{at_number};
 ghost use Rattle.amqp_session.specs.Ranges.{has};
 ghost use Rattle.router_trace.specs.declared.binding.DeliveryName.{DeliveryName as Name};
-ghost use Rattle.router_trace.specs.Deliveries.{unless_over, unless_called, same_name, bound, origin_in, after_frame, is_number, is_id, delivery, number_named, sending};
+ghost use Rattle.router_trace.specs.Deliveries.{unless_over, unless_called, same_name, bound, after_frame, is_number, is_id, delivery, number_named, sending};
 ghost use Rattle.router_trace.specs.Settling.{is_open_as};
 ghost use Rattle.router_trace.specs.Trace.{Entry, Out, did};
 ghost use Rattle.amqp_model.specs.declared.item.Item.TheVariants as item;
@@ -34,7 +34,7 @@ use crate::sets::{after, first};
 use crate::touched::Touched;
 use amqp_model::{Item, Perf, Transfer};
 use bytes::Bytes;
-use router_trace::{Binding, ConnectionId, DeliveryName, Origin};
+use router_trace::{Binding, ConnectionId, DeliveryName};
 use state_collections::{Boxed, NumberMap};
 use std::alloc::{AllocError, Global};
 use std::collections::BTreeSet;
@@ -79,12 +79,12 @@ impl Store {
         }
     }
 
-    /// The producer's delivery of the delivery with a name.
-    pub(crate) fn origin_called(&self, name: DeliveryName) -> Option<Origin>
-        ensures { result ≡ origin_in (option_and_then (at_number self.now.deliveries) (at_name self.now.by_name name)) }
+    /// The delivery with a name.
+    pub(crate) fn called(&self, name: DeliveryName) -> Option<&Delivery>
+        ensures { option_map (λ d. d.now) result ≡ option_and_then (at_number self.now.deliveries) (at_name self.now.by_name name) }
     {
         let number = self.by_name.get(name)?;
-        self.get(number)?.origin
+        self.get(number)
     }
 
     /// How many deliveries of a link are undecided.

@@ -1,7 +1,6 @@
 -- What the pools know of the links, after a change of the tables.
 use Rattle.std.proofs.Common.{◌≡◌, ◌∙◌, ◌+◌, ◌<◌, ◌≤◌, ◌⊎◌, inl, inr, ⊎_elim, ℕ, zero, suc, Bool, true, false, refl, sym, ap, subst, Option, Some, None, List, ◌∷◌, arith}
-use Rattle.std.specs.Prelude.{◌==◌, ◌&&◌, not, if◌then◌else◌, option_map}
-use Rattle.std.specs.Ordering.{nat_cmp}
+use Rattle.std.specs.Prelude.{◌==◌, ◌&&◌, if◌then◌else◌, is_none, option_map}
 use Rattle.std.specs.BTreeMap.{get}
 use Rattle.std.proofs.lemmas.Bool.{eq-eqb}
 use Rattle.amqp_model.specs.declared.item.Item.{Item}
@@ -15,9 +14,11 @@ use Rattle.router_trace.specs.Links.{attachments, if_attached, last_of_key, numb
 use Rattle.router_trace.specs.Trace.{Trace, Out, Bound, did}
 use Rattle.router_trace.specs.declared.binding.Binding.{Binding}
 use Rattle.router_trace.specs.declared.binding.Origin.{Origin}
+use Rattle.router_trace.specs.declared.binding.Resumed.{Resumed}
+use Rattle.router_trace.specs.declared.binding.TakenUp.{TakenUp}
 use Rattle.router_trace.specs.Numbers.{count_below}
 use Rattle.router_trace.specs.Following.{link_of}
-use Rattle.router_trace.specs.Deliveries.{Delivery, called, origin_in, bindings, delivery, waits_on, undecided_on, held_from}
+use Rattle.router_trace.specs.Deliveries.{Delivery, called, origin_in, told_in, early_in, bindings, delivery, waits_on, undecided_on, held_from}
 use Rattle.router_trace.specs.declared.binding.DeliveryName.TheVariants.{Row}
 use Rattle.state_deliveries.specs.declared.deliveries.Deliveries.{Deliveries}
 use Rattle.state_unsettled.specs.Incoming.{IncomingFit}
@@ -37,7 +38,7 @@ use Rattle.state_pools.specs.Sharing.{Figure, demand_at, offer_at}
 use Rattle.state_messages.specs.declared.messages.Messages.{Messages}
 use Rattle.state_messages.specs.Figures.{figure}
 use Rattle.state_messages.specs.Fits.{IsTold, NotedFit, MessagesFit, PoolsKnow, Untouched}
-use Rattle.state_messages.specs.Messages.{is_of, binding_to, taken_up_by, last_after, last_chosen, lasts, with_bound}
+use Rattle.state_messages.specs.Messages.{is_of, binding_to, taken_up_by, last_after, last_chosen, lasts, payload_as, with_bound}
 use Rattle.state_messages.proofs.Rising.{Rises, entry_counts, entry_rises}
 use Rattle.state_messages.proofs.Seen.{by_test, figure_same}
 use Rattle.state_collections.specs.NumberMap.{at_number}
@@ -212,24 +213,24 @@ links_bound s b t fit = record {
     remembers (Some a) w e = e
 
 -- a message that is bound to a consumer that was chosen
-pub bound_fits : (s u : Messages) (b : Binding) (t : Trace) → b.taken_up ≡ false → u.pools ≡ s.pools → u.links ≡ s.links → IncomingFit u.incoming (Bound b ∷ t) → DeliveriesFit u.deliveries (Bound b ∷ t)
+pub bound_fits : (s u : Messages) (b : Binding) (t : Trace) → b.taken_up ≡ None → u.pools ≡ s.pools → u.links ≡ s.links → IncomingFit u.incoming (Bound b ∷ t) → DeliveriesFit u.deliveries (Bound b ∷ t)
     → deliveries.Touches s.deliveries u.deliveries → NotedFit s t (last_after t (Some b.consumer)) → MessagesFit u (Bound b ∷ t)
 bound_fits s u b t fresh pools same claimed stand other old =
     moved s u t (Bound b ∷ t) (last_after t (Some b.consumer)) (last_chosen (Bound b ∷ t)) pools
     (subst (λ l. LinksFit l (Bound b ∷ t)) (sym same) (links_bound s.links b t old.links)) stand claimed
     (subst (λ l. links.Touches s.links l) (sym same) (record { before = λ k e. e; links = λ k e c o h. refl; numbers = λ k e. refl }))
     other (bound_counts b t) (λ a. refl)
-    (λ a. ap (λ (again : Bool). if not again && is_of a (link_of t b.consumer) b.consumer.number then b.consumer.number else last_chosen t a) fresh) old
+    (λ a. ap (λ (again : Option TakenUp). if is_none again && is_of a (link_of t b.consumer) b.consumer.number then b.consumer.number else last_chosen t a) fresh) old
 
 -- a row that a link takes up again, for which none was chosen
-pub taken_up_fits : (s u : Messages) (b : Binding) (t : Trace) → b.taken_up ≡ true → u.pools ≡ s.pools → u.links ≡ s.links → IncomingFit u.incoming (Bound b ∷ t)
+pub taken_up_fits : (s u : Messages) (b : Binding) (t : Trace) (brought : TakenUp) → b.taken_up ≡ Some brought → u.pools ≡ s.pools → u.links ≡ s.links → IncomingFit u.incoming (Bound b ∷ t)
     → DeliveriesFit u.deliveries (Bound b ∷ t) → deliveries.Touches s.deliveries u.deliveries → MessagesFit s t → MessagesFit u (Bound b ∷ t)
-taken_up_fits s u b t again pools same claimed stand other old =
+taken_up_fits s u b t brought again pools same claimed stand other old =
     moved s u t (Bound b ∷ t) (last_chosen t) (last_chosen (Bound b ∷ t)) pools
     (subst (λ l. LinksFit l (Bound b ∷ t)) (sym same) (links_bound s.links b t old.links)) stand claimed
     (subst (λ l. links.Touches s.links l) (sym same) (record { before = λ k e. e; links = λ k e c o h. refl; numbers = λ k e. refl }))
     other (bound_counts b t) (λ a. refl)
-    (λ a. ap (λ (again : Bool). if not again && is_of a (link_of t b.consumer) b.consumer.number then b.consumer.number else last_chosen t a) again) old
+    (λ a. ap (λ (again : Option TakenUp). if is_none again && is_of a (link_of t b.consumer) b.consumer.number then b.consumer.number else last_chosen t a) again) old
 
 -- both tables read the same channel of an item
 pub channel_same : (i : Item) → of_links i ≡ of_deliveries i
@@ -239,7 +240,7 @@ channel_same _ = refl
 -- a message that is bound to the chosen consumer
 abbrev pub message_to : Option Origin → Option RowNumber → Bool → ℕ → List ℕ → Attachment → Binding
 message_to origin row lasting format payload a =
-    record { consumer = a; origin = origin; row = row; lasting = lasting; format = format; payload = payload; taken_up = false }
+    record { consumer = a; origin = origin; row = row; lasting = lasting; format = format; payload = payload; taken_up = None }
 
 pub passed : (u : Messages) (t : Trace) (a : Attachment) (origin : Option Origin) (row : Option RowNumber) (lasting : Bool) (format : ℕ) (payload : List ℕ) (chosen : Option Attachment) → Some a ≡ chosen → lasting ≡ lasts t a
     → MessagesFit u (Bound (message_to origin row lasting format payload a) ∷ t) → MessagesFit u (with_bound (option_map (binding_to t origin row format payload) chosen) t)
@@ -248,13 +249,18 @@ passed u t a origin row lasting format payload chosen is durable fit =
     (subst (λ l. MessagesFit u (Bound (message_to origin row l format payload a) ∷ t)) durable fit)
 
 -- a row that a link takes up again
-abbrev pub row_to : Option Origin → RowNumber → Bool → ℕ → List ℕ → Attachment → Binding
-row_to origin row lasting format payload a =
-    record { consumer = a; origin = origin; row = Some row; lasting = lasting; format = format; payload = payload; taken_up = true }
+abbrev pub row_to : Option Origin → RowNumber → TakenUp → Bool → ℕ → List ℕ → Attachment → Binding
+row_to origin row brought lasting format payload a =
+    record { consumer = a; origin = origin; row = Some row; lasting = lasting; format = format; payload = payload; taken_up = Some brought }
 
-pub taken_up : (u : Messages) (t : Trace) (a : Attachment) (origin : Option Origin) (row : RowNumber) (lasting : Bool) (format : ℕ) (payload : List ℕ)
-    → origin ≡ origin_in (called t (Row row)) → lasting ≡ lasts t a
-    → MessagesFit u (Bound (row_to origin row lasting format payload a) ∷ t) → MessagesFit u (Bound (taken_up_by t row format payload a) ∷ t)
-taken_up u t a origin row lasting format payload from durable fit =
-    subst (λ o. MessagesFit u (Bound (row_to o row (lasts t a) format payload a) ∷ t)) from
-    (subst (λ l. MessagesFit u (Bound (row_to origin row l format payload a) ∷ t)) durable fit)
+pub taken_up : (u : Messages) (t : Trace) (a : Attachment) (origin told early : Option Origin) (row : RowNumber) (how : Resumed) (lasting : Bool) (format : ℕ) (payload sent : List ℕ)
+    → origin ≡ origin_in (called t (Row row)) → told ≡ told_in (called t (Row row)) → early ≡ early_in (called t (Row row)) → lasting ≡ lasts t a → sent ≡ payload_as how payload
+    → MessagesFit u (Bound (row_to origin row (record { how = how; told = told; early = early }) lasting format sent a) ∷ t) → MessagesFit u (Bound (taken_up_by t row how format payload a) ∷ t)
+taken_up u t a origin told early row how lasting format payload sent from knew settled durable is fit =
+    let as_it_is : TakenUp = record { how = how; told = told; early = early } in
+    let first = subst (λ l. MessagesFit u (Bound (row_to origin row as_it_is l format sent a) ∷ t)) durable fit in
+    let second = subst (λ p. MessagesFit u (Bound (row_to origin row as_it_is (lasts t a) format p a) ∷ t)) is first in
+    let third = subst (λ o. MessagesFit u (Bound (row_to o row as_it_is (lasts t a) format (payload_as how payload) a) ∷ t)) from second in
+    let o : Option Origin = origin_in (called t (Row row)) in
+    let fourth = subst (λ (v : Option Origin). MessagesFit u (Bound (row_to o row (record { how = how; told = v; early = early }) (lasts t a) format (payload_as how payload) a) ∷ t)) knew third in
+    subst (λ (v : Option Origin). MessagesFit u (Bound (row_to o row (record { how = how; told = told_in (called t (Row row)); early = v }) (lasts t a) format (payload_as how payload) a) ∷ t)) settled fourth

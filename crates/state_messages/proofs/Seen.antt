@@ -1,8 +1,6 @@
 -- What a link has, read from the tables.
 use Rattle.std.proofs.Common.{◌≡◌, ◌∙◌, ◌+◌, ℕ, Bool, true, false, refl, sym, ap, Option, Some, None, List, [], ◌∷◌}
 use Rattle.std.specs.Prelude.{◌==◌, if◌then◌else◌, option_map, unwrap_or}
-use Rattle.std.specs.Ordering.{nat_cmp}
-use Rattle.std.specs.BTreeMap.{get}
 use Rattle.std.proofs.lemmas.Bool.{eqb-true}
 use Rattle.amqp_link.specs.Deliveries.{Frame}
 use Rattle.amqp_link.specs.Gathering.{gathered}

@@ -1,5 +1,5 @@
 -- Messages that go from a producer to a consumer of its address, and the credit granted to producers.
-use Rattle.std.specs.Prelude.{ℕ, zero, suc, Bool, true, false, not, ◌+◌, ◌==◌, ◌&&◌, if◌then◌else◌, List, [], ◌∷◌, ◌++◌, bytes_eq, Option, Some, None, is_some, option_and_then, option_map}
+use Rattle.std.specs.Prelude.{ℕ, zero, suc, Bool, false, ◌+◌, ◌==◌, ◌&&◌, if◌then◌else◌, List, [], ◌∷◌, ◌++◌, bytes_eq, Option, Some, None, is_none, is_some, option_and_then, option_map}
 use Rattle.std.specs.Cmp.Lexicographic.{slice_cmp}
 use Rattle.std.specs.Ordering.{nat_cmp}
 use Rattle.std.specs.declared.cmp.Ordering.{Ordering}
@@ -13,6 +13,9 @@ use Rattle.state_pools.specs.Sharing.{Figure, producer, sharing}
 use Rattle.router_trace.specs.declared.binding.Binding.{Binding}
 use Rattle.router_trace.specs.declared.binding.DeliveryName.TheVariants.{Row}
 use Rattle.router_trace.specs.declared.binding.Origin.{Origin}
+use Rattle.router_trace.specs.declared.binding.Resumed.{Resumed}
+use Rattle.router_trace.specs.declared.binding.Resumed.TheVariants.{Settled}
+use Rattle.router_trace.specs.declared.binding.TakenUp.{TakenUp}
 use Rattle.router_trace.specs.declared.handle.Attachment.{Attachment}
 use Rattle.router_trace.specs.Trace.{Trace, Put, Did, Out, Took, Bound, Booked, Began}
 use Rattle.router_trace.specs.Configuration.{distribution}
@@ -21,7 +24,7 @@ use Rattle.router_trace.specs.LinkFrames.{link_flow_item}
 use Rattle.router_trace.specs.Links.{Link, Happened, sends, receives, link, numbered, attachments, durable_key}
 use Rattle.router_trace.specs.Sessions.{session}
 use Rattle.router_trace.specs.Following.{link_of}
-use Rattle.router_trace.specs.Deliveries.{called, origin_in}
+use Rattle.router_trace.specs.Deliveries.{called, origin_in, told_in, early_in}
 use Rattle.state_messages.specs.declared.grant.LinkGrant.{LinkGrant}
 use Rattle.state_messages.specs.Figures.{figure}
 
@@ -36,7 +39,7 @@ last_chosen [] address = 0
 last_chosen (Did s ∷ t) address = last_chosen t address
 last_chosen (Out c i ∷ t) address = last_chosen t address
 last_chosen (Took c n ∷ t) address = last_chosen t address
-last_chosen (Bound b ∷ t) address = if not b.taken_up && is_of address (link_of t b.consumer) b.consumer.number then b.consumer.number else last_chosen t address
+last_chosen (Bound b ∷ t) address = if is_none b.taken_up && is_of address (link_of t b.consumer) b.consumer.number then b.consumer.number else last_chosen t address
 last_chosen (Booked acts full ∷ t) address = last_chosen t address
 last_chosen (Began g ∷ t) address = 0
 
@@ -65,15 +68,30 @@ lasts t at = is_some (durable_key (link_of t at))
 -- a message of a producer's link, bound to the chosen consumer, if there is one; a durable message comes with the number of its row
 abbrev pub binding_to : Trace → Option Origin → Option RowNumber → ℕ → List ℕ → Attachment → Binding
 binding_to t origin row format payload at =
-    record { consumer = at; origin = origin; row = row; lasting = lasts t at; format = format; payload = payload; taken_up = false }
+    record { consumer = at; origin = origin; row = row; lasting = lasts t at; format = format; payload = payload; taken_up = None }
 
 abbrev pub binding_for : Trace → Attachment → Option Origin → Option RowNumber → ℕ → List ℕ → Option Binding
 binding_for t from origin row format payload = option_map (binding_to t origin row format payload) (consumer_of t (link_of t from))
 
--- A row that a consumer's link takes up again: its producer's delivery is that of the delivery which it had until now, if there is one.
-abbrev pub taken_up_by : Trace → RowNumber → ℕ → List ℕ → Attachment → Binding
-taken_up_by t row format payload at =
-    record { consumer = at; origin = origin_in (called t (Row row)); row = Some row; lasting = lasts t at; format = format; payload = payload; taken_up = true }
+-- A row that a consumer's link takes up again, and how it is sent: its producer's delivery is that of the delivery which it had until now, if there is one. One
+-- that is only settled carries no message.
+abbrev pub payload_as : Resumed → List ℕ → List ℕ
+payload_as (Settled outcome) payload = []
+payload_as _ payload = payload
+
+abbrev pub brings : Trace → RowNumber → Resumed → TakenUp
+brings t row how = record { how = how; told = told_in (called t (Row row)); early = early_in (called t (Row row)) }
+
+abbrev pub taken_up_by : Trace → RowNumber → Resumed → ℕ → List ℕ → Attachment → Binding
+taken_up_by t row how format payload at = record {
+  consumer = at;
+  origin = origin_in (called t (Row row));
+  row = Some row;
+  lasting = lasts t at;
+  format = format;
+  payload = payload_as how payload;
+  taken_up = Some (brings t row how);
+}
 
 -- the trace with a binding, if there is one
 abbrev pub with_bound : Option Binding → Trace → Trace

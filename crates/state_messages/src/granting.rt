@@ -12,7 +12,7 @@ ghost use Rattle.state_pools.specs.Sharing.{Figure};
 ghost use Rattle.route_credit.specs.Pool.{by_id};
 ghost use Rattle.state_messages.specs.Figures.{figure};
 ghost use Rattle.state_messages.specs.Fits.{NotedFit, MessagesFit, Untouched};
-ghost use Rattle.state_messages.specs.Messages.{choice_of, consumer_of, grant_at, grant_by, grants, grants_on, last_after, last_chosen, binding_for, taken_up_by, with_bound};
+ghost use Rattle.state_messages.specs.Messages.{choice_of, consumer_of, grant_at, grant_by, grants, grants_on, last_after, last_chosen, binding_for, payload_as, taken_up_by, with_bound};
 
 use crate::durable::lasts;
 use crate::figures::tell;
@@ -21,7 +21,9 @@ use crate::messages::Messages;
 use book_model::RowNumber;
 use bytes::Bytes;
 use route_credit::ProducerId;
-use router_trace::{Attachment, Binding, ConnectionId, DeliveryName, LinkState, Origin};
+use router_trace::{
+    Attachment, Binding, ConnectionId, DeliveryName, LinkState, Origin, Resumed, TakenUp,
+};
 use state_links::{Link, Links};
 use state_pools::Pools;
 use std::alloc::{AllocError, Global};
@@ -92,7 +94,7 @@ impl Messages {
                     lasting,
                     format,
                     payload,
-                    taken_up: false,
+                    taken_up: None,
                 })?;
                 self.incoming.bind(origin)?;
                 Ok(true)
@@ -100,19 +102,22 @@ impl Messages {
         }
     }
 
-    /// Binds a row to the consumer's link that takes it up again; its producer's delivery is that of the delivery which it had until now. Fails if
-    /// memory is refused, and if no binding number is left.
+    /// Binds a row to the consumer's link that takes it up again, to be sent as `how` says; its producer's delivery is
+    /// that of the delivery which it had until now. Fails if memory is refused, and if no binding number is left.
     pub fn take_up(
         &mut self,
         consumer: Attachment,
         row: RowNumber,
+        how: Resumed,
         format: u32,
         payload: Bytes,
     ) -> Result<(), AllocError>
-        ensures { OnOk result ((t : List Entry) → MessagesFit self.old t → MessagesFit self.new (Bound (taken_up_by t row format payload consumer) ∷ t)) }
+        ensures { OnOk result ((t : List Entry) → MessagesFit self.old t → MessagesFit self.new (Bound (taken_up_by t row how format payload consumer) ∷ t)) }
     {
-        let origin = self.deliveries.origin_named(DeliveryName::Row(row));
+        let producers = self.deliveries.producers_of(DeliveryName::Row(row));
+        let origin = producers.origin;
         let lasting = lasts(&self.links, consumer);
+        let payload = payload_as(&how, payload);
         self.deliveries.bind(Binding {
             consumer,
             origin,
@@ -120,7 +125,11 @@ impl Messages {
             lasting,
             format,
             payload,
-            taken_up: true,
+            taken_up: Some(TakenUp {
+                how,
+                told: producers.told,
+                early: producers.early,
+            }),
         })?;
         self.incoming.bind(origin)?;
         Ok(())
@@ -176,6 +185,16 @@ impl Messages {
         self.tell_all()?;
         let due = grants_due(self.alloc, &mut self.pools, &self.links)?;
         Ok(due)
+    }
+}
+
+/// What a row is sent with: its message, or nothing if it is only settled.
+fn payload_as(how: &Resumed, payload: Bytes) -> Bytes
+    ensures { result ≡ payload_as how.now payload }
+{
+    match how {
+        Resumed::Settled(_) => Bytes::new(),
+        _ => payload,
     }
 }
 

@@ -176,7 +176,7 @@ record BoundWhole (after : List Entry) (c own handle : ℕ) (d : Told) (row : Op
   chosen : consumer_of after (link after c own handle) ≡ Some x.consumer
   format : x.format ≡ unwrap_or d.format 0
   carried : x.payload ≡ payload
-  fresh : x.taken_up ≡ false
+  fresh : x.taken_up ≡ None
 
 whole_is_bound : (after : List Entry) (c own handle : ℕ) (d : Told) (row : Option RowNumber) (payload : List ℕ) (x : Binding) → whole_bound after c own handle d row payload ≡ Some x
     → BoundWhole after c own handle d row payload x
@@ -372,9 +372,9 @@ bound_row id t (event.Item from i) x is =
 bound_row id t _ x is = absurd (none_not_some is)
 
 -- it isn't taken up again, and its row is the one that the acts admit
-pub bound_fresh : (id : List ℕ) (t : List Entry) (e : Event) (x : Binding) → bound_by (booked t e) (heard id (booked t e) (step_of e)) e ≡ Some x → x.taken_up ≡ false
+pub bound_fresh : (id : List ℕ) (t : List Entry) (e : Event) (x : Binding) → bound_by (booked t e) (heard id (booked t e) (step_of e)) e ≡ Some x → x.taken_up ≡ None
 bound_fresh id t (event.Item from i) x is =
-    item_elim id t from i x (x.taken_up ≡ false)
+    item_elim id t from i x (x.taken_up ≡ None)
     (λ p own handle d payload stands answer part is.
     (whole_is_bound (heard id (booked t (event.Item from i)) (step_of (event.Item from i))) from.0 own handle d (row_found (booked t (event.Item from i))) payload x is).fresh) is
 bound_fresh id t _ x is = absurd (none_not_some is)

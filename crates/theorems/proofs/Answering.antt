@@ -26,6 +26,7 @@ use Rattle.book_core.specs.Rising.{Rises, AllAbove, AllBelow}
 use Rattle.gate_journal.specs.Ordered.{IsOrdered, number_of_row, number_of_terminus}
 use Rattle.journal_store.proofs.Conditions.{holds}
 use Rattle.router_trace.specs.declared.binding.Binding.{Binding}
+use Rattle.router_trace.specs.declared.binding.TakenUp.{TakenUp}
 use Rattle.router_trace.specs.declared.binding.Origin.{Origin}
 use Rattle.router_trace.specs.declared.condition.Condition.{Condition}
 use Rattle.router_trace.specs.declared.condition.Condition.TheVariants.{ResourceLimitExceeded}
@@ -37,7 +38,7 @@ use Rattle.router_trace.specs.declared.handle.PeerHandle.{PeerHandle}
 use Rattle.router_trace.specs.declared.handle.PeerHandle.TheVariants.{Mapped, Detaching}
 use Rattle.router_trace.specs.Trace.{Trace, Did, Out, Step, puts}
 use Rattle.router_trace.specs.Connection.{Connection, conn, standing, found, due, has}
-use Rattle.router_trace.specs.Deliveries.{either_origin, bound, name_in}
+use Rattle.router_trace.specs.Deliveries.{either_origin, bound, brought, outcome_as, name_in}
 use Rattle.router_trace.specs.Following.{link_of, is_sending}
 use Rattle.router_trace.specs.Frames.{open_item, close_item}
 use Rattle.router_trace.specs.Links.{Link, LinkPlace, nowhere, detaching, on, asked, asked_at, asked_of, answered_handle, is_lost, link, link_place, link_place_by, on_link, their_handle, last_of_key, free_handle, durable_key}
@@ -59,7 +60,7 @@ use Rattle.theorems.specs.Admitted.{IsFromTerminus, IsAdmitted, IsAdmittedUnder}
 use Rattle.theorems.proofs.Admitted.{bound_row, bound_fresh}
 use Rattle.theorems.proofs.AllSound.{event_binds}
 use Rattle.theorems.proofs.Attaching.{AttachAt}
-use Rattle.theorems.proofs.Facts.{FromTerminus, Agrees, RowFact}
+use Rattle.theorems.proofs.Facts.{FromTerminus, Agrees, RowFact, kept_form}
 use Rattle.theorems.proofs.Keeping.{Stands, key_there, attach_stands}
 use Rattle.theorems.proofs.Looking.{found_new}
 use Rattle.theorems.proofs.Rowing.{Receives, MayBind}
@@ -285,14 +286,14 @@ origin_is : (o : Option Origin) (p : Origin) → either_origin o None ≡ Some p
 origin_is None p is = absurd (none_not_some is)
 origin_is (Some q) p is = is
 
-row_fact : (u : Trace) (b : Binding) (r : RowNumber) → IsAdmitted u b r → IsOrdered (book_in u) → RowFact u (book_in u) r (bound (name_in u b) b)
-row_fact u b r adm ordered = record {
+row_fact : (u : Trace) (b : Binding) (r : RowNumber) → b.taken_up ≡ None → IsAdmitted u b r → IsOrdered (book_in u) → RowFact u (book_in u) r (bound (name_in u b) b)
+row_fact u b r fresh adm ordered = record {
   settled = unsettled b.origin adm.producer;
   known = subst (λ (c : BookView). r.0 < c.next_row) (sym now) (under r.0 before.next_row adm.is_next);
   agrees = subst (λ (v : Option ARow). Agrees u (book_in u) v (bound (name_in u b) b)) (sym there) (record {
-    outcome = refl;
+    outcome = ap (λ (up : Option TakenUp). option_map kept_form (brought (λ v. outcome_as v.how) up)) (sym fresh);
     waits = λ p from. refl;
-    from = λ p from. producer p (origin_is b.origin p from);
+    from = λ p from. producer p (origin_is b.origin p (ap (λ (up : Option TakenUp). either_origin b.origin (brought (λ v. v.told) up)) (sym fresh) ∙ from));
   });
 }
   where
@@ -305,7 +306,7 @@ row_fact u b r adm ordered = record {
     now : book_in u ≡ effect before (Admit x)
     now = (since u adm.came.handled 0 adm.came.just).book ∙ ap book_in adm.acts ∙ one_effect before (Admit x)
 
-    unsettled : (o : Option Origin) → IsFromTerminus o u before x.producer → (is_none o && not b.taken_up) ≡ false
+    unsettled : (o : Option Origin) → IsFromTerminus o u before x.producer → (is_none o && is_none b.taken_up) ≡ false
     unsettled None is = absurd is
     unsettled (Some p) is = refl
 
@@ -338,6 +339,7 @@ may_bind id t s sound ordered = by (bound_by (booked t s.event) u s.event) refl
     by : (v : Option Binding) → bound_by (booked t s.event) u s.event ≡ v → MayBind u v
     by None is = tt
     by (Some b) is = (
-      subst (λ (up : Bool). BindsAs up u b) (bound_fresh id t s.event b is) (event_binds id (booked t s.event) s b sound is),
-      λ r named. row_fact u b r (subst (λ (o : Option RowNumber). IsAdmittedUnder u b o) named (bound_row id t s.event b is)) ordered,
+      bound_fresh id t s.event b is,
+      subst (λ (up : Option TakenUp). BindsAs (is_some up) u b) (bound_fresh id t s.event b is) (event_binds id (booked t s.event) s b sound is),
+      λ r named. row_fact u b r (bound_fresh id t s.event b is) (subst (λ (o : Option RowNumber). IsAdmittedUnder u b o) named (bound_row id t s.event b is)) ordered,
     )

@@ -112,7 +112,7 @@ not_presettled u n d p there origin =
     differ : Some p ≡ None → ⊥
     differ e = cc
 
-    by : (from : Option Origin) → IsOrNone d.origin from → (is_none from && not (of_messages u n d there).binding.taken_up) ≡ false
+    by : (from : Option Origin) → IsOrNone d.origin from → (is_none from && is_none (of_messages u n d there).binding.taken_up) ≡ false
     by (Some q) is = refl
     by None (inl is) = absurd (differ (sym origin ∙ is))
     by None (inr is) = absurd (differ (sym origin ∙ is))

@@ -44,13 +44,13 @@ use Rattle.state_sessions.specs.Windows.{windows}
 use Rattle.state_messages.specs.Messages.{grants_due, with_bound}
 use Rattle.reply_rows.specs.declared.answer.Answer.{Answer}
 use Rattle.reply_rows.specs.declared.answer.Answer.TheVariants.{Nothing, Header, Open, Close, CloseWith, Begin, End, Flow, Attach, Refuse, Detach, LinkFlow, Taken, Settle}
-use Rattle.reply_rows.specs.Booking.{wanted_key, wanted_address, wants_durable, new_terminus, has_room, rows_of, attach_resumes, unless_resumes, durable_refusal, refuse_on, booked_attach, book_refusal, answer_at}
+use Rattle.reply_rows.specs.Booking.{wanted_key, wanted_address, wants_durable, new_terminus, has_room, rows_of, attach_is_unserved, unless_unserved, durable_refusal, refuse_on, booked_attach, book_refusal, answer_at}
 use Rattle.reply_rows.specs.Finding.{finds}
 use Rattle.reply_rows.specs.Rows.{said, item_reply}
 use Rattle.router_reply.specs.Acts.{Journaled, live_answer, event_answer, answer_acts, admitted_acts, or_admits, finds_full, journaled, book_in, acts_of, book_after_event, booked, answer_of}
 use Rattle.router_reply.specs.Deciding.{decided, forgotten}
 use Rattle.router_reply.specs.Resuming.{resumed}
-use Rattle.router_reply.specs.Replies.{closing_of, ends, heard, stolen_by, with_map, map_for, attach_answer, taken_after, taken, refused, bound_by, item_put, item_row, own_row, replied}
+use Rattle.router_reply.specs.Replies.{closing_of, ends, heard, stolen_by, with_map, map_told, attach_answer, taken_after, taken, refused, bound_by, item_put, item_row, own_row, replied}
 use Rattle.state_connections.proofs.Lists.{by_test}
 use Rattle.router_core.specs.Attaches.{is_attach_in, is_attach}
 use Rattle.router_core.specs.Moves.{Goes, IsTrace}
@@ -220,7 +220,7 @@ room_with b a false may = absurd cc
 address_with : (b : BookView) (x : Terminus) (a : AnAttach) (room : Bool) → durable_refusal b (Some x) a room ≡ None → x.address ≡ wanted_address a
 address_with b x a room may = (bytes_eq-Decides x.address (wanted_address a)).0 (by (same_bytes x.address (wanted_address a)) may)
   where
-    by : (q : Bool) → (if q then unless_resumes (attach_resumes (rows_of b x) a) else Some NotAllowed) ≡ None → q ≡ true
+    by : (q : Bool) → (if q then unless_unserved (attach_is_unserved b x a) else Some NotAllowed) ≡ None → q ≡ true
     by true may = refl
     by false may = absurd cc
 
@@ -429,7 +429,7 @@ attach_row id t u w from sasl channel a payload stands was (Some p) here = by (a
     e = event.Item from i
 
     by : (x : Answer) → answer_of (booked t e) from.0 p i ≡ x → Kept (goes (item_put id (booked t e) u from.0 p i x) w)
-    by (Attach own) answers = taken_kept t u w e from.0 own (map_for (booked t e) from.0 a (Attach own)) a (λ wants. makes t from sasl channel a payload p own here answers wants) (stands p here) was
+    by (Attach own) answers = taken_kept t u w e from.0 own (map_told (booked t e) from.0 a (Attach own)) a (λ wants. makes t from sasl channel a payload p own here answers wants) (stands p here) was
     by (Refuse own handle x) answers = refused_kept w (largest_frame u from.0) from.0 own handle x a was
     by x answers = goes_kept (each_to from.0 (said id p x) ++ []) w (more_none from.0 (said id p x) (less_said id from.0 p x)) was
 

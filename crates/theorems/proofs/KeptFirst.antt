@@ -38,7 +38,7 @@ use Rattle.router_state.specs.Tables.{beat_if, beats_over}
 use Rattle.router_reply.specs.Acts.{live_answer, finds_full, journaled, book_in, acts_of, booked, answer_of}
 use Rattle.router_reply.specs.Deciding.{ended_by}
 use Rattle.router_reply.specs.Resuming.{resumed}
-use Rattle.router_reply.specs.Replies.{closing_of, ends, heard, map_for, bound_for, item_put, item_bound, item_row, bound_by, own_row, replied_after, replied}
+use Rattle.router_reply.specs.Replies.{closing_of, ends, heard, map_told, bound_for, item_put, item_bound, item_row, bound_by, own_row, replied_after, replied}
 use Rattle.router_core.specs.declared.driving.Sent.{Sent}
 use Rattle.router_core.specs.Moves.{Goes, IsTrace}
 use Rattle.core_machine.specs.Moves.{Move, handles, takes}
@@ -64,6 +64,7 @@ use Rattle.theorems.proofs.Ending.{takes_none, answer_rest, came_kept, ends_kept
 use Rattle.theorems.proofs.Keeps.{Kept, PlainPut, plain_both, plain_goes, took_kept, small_before, SmallKept, followed_kept}
 use Rattle.theorems.proofs.Once.{Decides, decides_once}
 use Rattle.theorems.proofs.Resumed.{resumed_takes, replied_book}
+use Rattle.theorems.proofs.Served.{taken_waits}
 use Rattle.theorems.proofs.Rowing.{MayBind, Receives, plain_row, disposed_row, taken_row, taken_up_kept}
 use Rattle.theorems.proofs.Sound.{Sound, none_sound, opened_sound, sound_start, did_sound, took_sound, batch_sound}
 use Rattle.theorems.proofs.Standing.{began_standing, booked_standing}
@@ -94,7 +95,7 @@ Rowed id at u c p i y = Kept (goes (item_put id at u c p i y) (with_bound (bound
 attach_row : (id : List ℕ) (t at u : Trace) (c : ℕ) (p : Conn) (sasl : Bool) (channel : ℕ) (a : AnAttach) (payload : List ℕ) (y : Answer)
     → IfAttach sasl (free_handle t c) y → (sasl ≡ false → AttachAt t u c a) → Kept u (ended_by t c (item.Frame sasl channel (perf.Attach a) payload) y)
     → Rowed id at u c p (item.Frame sasl channel (perf.Attach a) payload) y
-attach_row id t at u c p sasl channel a payload (Attach own) of finds was = taken_kept t u c own (map_for at c a (Attach own)) a (finds of) was
+attach_row id t at u c p sasl channel a payload (Attach own) of finds was = taken_kept t u c own (map_told at c a (Attach own)) a (finds of) was
 attach_row id t at u c p sasl channel a payload (Refuse own handle x) of finds was = refused_kept t u c own handle (largest_frame u c) x a (finds of.0) of.1 was
 attach_row id t at u c p sasl channel a payload (Taken own handle) of finds was =
     subst (λ (b : Option Binding). Kept (with_bound b u) []) (sym (binds_none at u c (item.Frame sasl channel (perf.Attach a) payload) (λ o. no_part sasl) (Taken own handle))) was
@@ -243,7 +244,7 @@ replied_small id t s small =
 resumed_kept : (id : List ℕ) (t : Trace) (s : Step) → Sound t → (s.event ≡ event.Start → (n : ℕ) → delivery t n ≡ None) → Kept t []
     → Kept (resumed (booked t s.event) s.event (replied id (booked t s.event) s)) []
 resumed_kept id t s sound none was =
-    resumed_takes (λ (u : Trace). Kept u []) taken_up_kept (booked t s.event) s.event (replied id (booked t s.event) s) (replied_book id (booked t s.event) s) (replied_kept id t s sound none was)
+    resumed_takes (λ (u : Trace). Kept u []) (λ u b takes held. taken_up_kept u b takes ? held) (booked t s.event) s.event (replied id (booked t s.event) s) (replied_book id (booked t s.event) s) (taken_waits t s.event) (replied_kept id t s sound none was)
 
 resumed_small : (id : List ℕ) (t : Trace) (s : Step) → HasSmallNumbers (resumed (booked t s.event) s.event (replied id (booked t s.event) s)) → HasSmallNumbers t
 resumed_small id t s =

@@ -14,6 +14,7 @@ pub mod Carrying
 pub mod Names
 pub mod Sound
 pub mod Sending
+mod Served
 pub mod Tells
 pub mod Quiet
 pub mod Transfers

@@ -1,6 +1,6 @@
 -- Each row that the book gave since the opening is bound.
 use Rattle.std.proofs.Common.{◌≡◌, ◌∙◌, sym, ap, refl, subst, ℕ, ◌+◌, ◌≤◌, ◌<◌, Bool, true, false, not, ◌&&◌, List, [], ◌∷◌, arith}
-use Rattle.std.specs.Prelude.{◌==◌, if◌then◌else◌, Option, Some, None}
+use Rattle.std.specs.Prelude.{◌==◌, if◌then◌else◌, Option, Some, None, is_none}
 use Rattle.std.proofs.lemmas.Bool.{eqb-true, eq-eqb}
 use Rattle.amqp_model.specs.declared.item.Item.{Item}
 use Rattle.book_model.specs.declared.act.Act.{Act}
@@ -11,6 +11,7 @@ use Rattle.router_trace.specs.Configuration.{beginning}
 use Rattle.router_trace.specs.Connection.{conn, due}
 use Rattle.router_trace.specs.Trace.{Beginning, Entry, Did, Out, Bound, Put, Step, goes, puts, each_to}
 use Rattle.router_trace.specs.declared.binding.Binding.{Binding}
+use Rattle.router_trace.specs.declared.binding.TakenUp.{TakenUp}
 use Rattle.router_trace.specs.declared.condition.Condition.TheVariants.{ResourceLimitExceeded}
 use Rattle.state_messages.specs.Messages.{with_bound}
 use Rattle.router_reply.specs.Acts.{book_in, acts_of, booked}
@@ -61,7 +62,7 @@ times_if b = if b then 1 else 0
 
 abbrev times_of : Option Binding → ℕ → ℕ
 times_of None n = 0
-times_of (Some x) n = if not x.taken_up && is_row x.row n then 1 else 0
+times_of (Some x) n = if is_none x.taken_up && is_row x.row n then 1 else 0
 
 bound_stays : (n times : ℕ) (book : BookView) (b : Option Binding) (u : List Entry) → Stays n times book u → Stays n (times + times_of b n) book (with_bound b u)
 bound_stays n times book None u was = (was.0 ∙ nothing times, was.1)
@@ -71,8 +72,8 @@ bound_stays n times book None u was = (was.0 ∙ nothing times, was.1)
 bound_stays n times book (Some x) u was = (ap (λ (k : ℕ). k + times_of (Some x) n) was.0, was.1)
 
 -- a row that is taken up was bound before
-taken_stays : (n times : ℕ) (book : BookView) (u : List Entry) (b : Binding) → b.taken_up ≡ true → Stays n times book u → Stays n times book (Bound b ∷ u)
-taken_stays n times book u b marked was = (ap (λ (up : Bool). times_bound u n + (if not up && is_row b.row n then 1 else 0)) marked ∙ nothing (times_bound u n) ∙ was.0, was.1)
+taken_stays : (n times : ℕ) (book : BookView) (u : List Entry) (b : Binding) (brought : TakenUp) → b.taken_up ≡ Some brought → Stays n times book u → Stays n times book (Bound b ∷ u)
+taken_stays n times book u b brought marked was = (ap (λ (up : Option TakenUp). times_bound u n + (if is_none up && is_row b.row n then 1 else 0)) marked ∙ nothing (times_bound u n) ∙ was.0, was.1)
   where
     nothing : (k : ℕ) → k + 0 ≡ k
     nothing k = omega arith
@@ -94,9 +95,9 @@ handled_stays id t s n =
 
 no_row_bound : (b : Option Binding) (n : ℕ) → ((x : Binding) → b ≡ Some x → x.row ≡ None) → times_of b n ≡ 0
 no_row_bound None n none = refl
-no_row_bound (Some x) n none = ap (λ (r : Option RowNumber). if not x.taken_up && is_row r n then 1 else 0) (none x refl) ∙ by x.taken_up
+no_row_bound (Some x) n none = ap (λ (r : Option RowNumber). if is_none x.taken_up && is_row r n then 1 else 0) (none x refl) ∙ by (is_none x.taken_up)
   where
-    by : (up : Bool) → times_if (not up && false) ≡ 0
+    by : (fresh : Bool) → times_if (fresh && false) ≡ 0
     by true = refl
     by false = refl
 
@@ -146,7 +147,7 @@ handled_bound first id t s rows all n low high = by (row_in (acts_of t s.event))
         let next : BindsNext id t s.event row = binds_next id t s.event row given in
         let named : next.binding.row ≡ Some row = row_of_bound id t s.event next.binding next.is ∙ given in
         let times : times_of bound n ≡ (if row.0 == n then 1 else 0) = ap (λ (b : Option Binding). times_of b n) next.is
-        ∙ ap (λ (up : Bool). if not up && is_row next.binding.row n then 1 else 0) (bound_fresh id t s.event next.binding next.is)
+        ∙ ap (λ (up : Option TakenUp). if is_none up && is_row next.binding.row n then 1 else 0) (bound_fresh id t s.event next.binding next.is)
         ∙ ap (λ (r : Option RowNumber). if is_row r n then 1 else 0) named in
         behind.0
         ∙ by_test (row.0 == n)

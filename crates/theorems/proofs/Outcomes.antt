@@ -1,5 +1,5 @@
 -- Outcomes are as they were given.
-use Rattle.std.proofs.Common.{◌≡◌, ◌∙◌, sym, ap, refl, subst, ◌⊎◌, inl, inr, ℕ, ◌+◌, Bool, true, false, not, ◌&&◌, ◌||◌, List, [], ◌∷◌, ◌++◌}
+use Rattle.std.proofs.Common.{◌≡◌, ◌∙◌, sym, ap, refl, subst, ◌⊎◌, inl, inr, ℕ, ◌+◌, Bool, true, false, not, ◌&&◌, ◌||◌, List, [], ◌∷◌, ◌++◌, ◌≤◌, arith}
 use Rattle.std.specs.Prelude.{◌==◌, Option, Some, None, is_none, if◌then◌else◌, length}
 use Rattle.std.proofs.lemmas.Bool.{eqb-true}
 use Rattle.amqp_model.specs.declared.perf.Disposition.{Disposition}
@@ -12,6 +12,7 @@ use Rattle.amqp_model.specs.declared.state.DeliveryState.{DeliveryState}
 use Rattle.amqp_model.specs.declared.item.Item.{Item}
 use Rattle.amqp_model.specs.declared.item.Item.TheVariants as item
 use Rattle.amqp_session.specs.Ranges.{in_range}
+use Rattle.router_trace.specs.declared.binding.Binding.{Binding}
 use Rattle.router_trace.specs.declared.channel.PeerChannel.{PeerChannel}
 use Rattle.router_trace.specs.declared.channel.PeerChannel.TheVariants.{Mapped, Ending}
 use Rattle.router_trace.specs.declared.event.ConnectionId.{ConnectionId}
@@ -21,8 +22,8 @@ use Rattle.router_trace.specs.declared.handle.Attachment.{Attachment}
 use Rattle.router_trace.specs.Trace.{Entry, Did, Out, Took, Booked, Bound, Began, Step, is_opening}
 use Rattle.router_trace.specs.Links.{ends_handle}
 use Rattle.router_trace.specs.Sessions.{maps}
-use Rattle.router_trace.specs.Deliveries.{Delivery, bindings, name_in, number_named, delivery, sending, named, failed, after_frame, decided, source, untold, unsettled, told, ended, decided_at_end, suspended_at_end, is_undecided, is_meant, is_named, is_number, last_of, decision, terminal, is_gone_with, after_origin, after_ends, ended_by, put_in, after_put, carried, tag_in, is_on, is_settled_at, disposed, heard_in, heard, lost_with, after_event, origin_id, channels_found, sender, forsaken}
-use Rattle.theorems.specs.Decided.{is_for_good, GivenByConsumer, Decides, Decided, IsByConsumer, DecidedByConsumer}
+use Rattle.router_trace.specs.Deliveries.{Delivery, brought, outcome_as, bindings, name_in, number_named, delivery, sending, named, failed, after_frame, decided, source, untold, unsettled, told, ended, decided_at_end, suspended_at_end, is_undecided, is_meant, is_named, is_number, last_of, decision, terminal, is_gone_with, after_origin, after_ends, ended_by, put_in, after_put, carried, tag_in, is_on, is_settled_at, disposed, heard_in, heard, lost_with, after_event, origin_id, channels_found, sender, forsaken}
+use Rattle.theorems.specs.Decided.{is_for_good, GivenByConsumer, Decides, DecidesFound, Decided, IsByConsumer, IsFoundByConsumer, DecidedByConsumer}
 use Rattle.theorems.specs.Decided.Decides.{given_by_consumer, link_lost, link_ended, sent_settled}
 use Rattle.state_connections.proofs.Lists.{by_test}
 use Rattle.state_deliveries.proofs.Called.{uncalled}
@@ -261,12 +262,23 @@ later_decided x t n s one was = record {
 }
 
 now_decided : (x : Entry) (t : List Entry) (n : ℕ) (d : Delivery) (s : DeliveryState) → delivery t n ≡ Some d → Decides x t n d s → Decided (x ∷ t) n s
-now_decided x t n d s there decides = record { later = []; entry = x; before = t; trace = refl; one_run = tt; found = d; there = there; decides = decides }
+now_decided x t n d s there decides = record { later = []; entry = x; before = t; trace = refl; one_run = tt; found = Some d; there = there; decides = decides }
 
 either_decided : (x : Entry) (t : List Entry) (n : ℕ) (d : Delivery) (s : DeliveryState) → is_opening x ≡ false → delivery t n ≡ Some d
     → (d.outcome ≡ Some s → Decided t n s) → (d.outcome ≡ Some s) ⊎ Decides x t n d s → Decided (x ∷ t) n s
 either_decided x t n d s one there was (inl e) = later_decided x t n s one (was e)
 either_decided x t n d s one there was (inr now) = now_decided x t n d s there now
+
+-- a binding that brings an outcome: no delivery had its number before
+brought_back : (b : Binding) (t : List Entry) (n : ℕ) (s : DeliveryState) → bindings t + 1 ≡ n → brought (λ u. outcome_as u.how) b.taken_up ≡ Some s → Decided (Bound b ∷ t) n s
+brought_back b t n s is brings = record { later = []; entry = Bound b; before = t; trace = refl; one_run = tt; found = delivery t n; there = refl; decides = by (delivery t n) refl }
+  where
+    past : n ≤ bindings t → ⊥
+    past h = omega arith
+
+    by : (v : Option Delivery) → delivery t n ≡ v → DecidesFound (Bound b) t n v s
+    by None e = record { binding = b; entry_is = refl; number = is; brings = brings }
+    by (Some d) e = absurd (past (there_bound t n d e))
 
 pub outcomes_given : (u : List Entry) (n : ℕ) (d : Delivery) (s : DeliveryState) → delivery u n ≡ Some d → d.outcome ≡ Some s → Decided u n s
 outcomes_given [] n d s h e = absurd cc
@@ -283,7 +295,7 @@ outcomes_given (Booked acts full ∷ t) n d s h e = later_decided (Booked acts f
 outcomes_given (Began g ∷ t) n d s h e = absurd cc
 outcomes_given (Bound b ∷ t) n d s h e =
     by_test (bindings t + 1 == n)
-    (λ f. absurd (none_not_some (ap (λ (g : Delivery). g.outcome) (some_same (rw f at h)) ∙ e)))
+    (λ f. brought_back b t n s (eqb-true (bindings t + 1) n f) (ap (λ (g : Delivery). g.outcome) (some_same (rw f at h)) ∙ e))
     (λ f. later_decided (Bound b) t n s refl (outcomes_given t n d s (uncalled (name_in t b) (delivery t n) d (rw f at h)).0 e))
 
 -- if its producer hadn't settled it, by its consumer
@@ -295,21 +307,26 @@ same_presettled d (Some f) e follows is = sym (ap (λ (g : Delivery). g.presettl
 pub outcomes_of_consumers : (u : List Entry) (n : ℕ) (d : Delivery) (s : DeliveryState) → delivery u n ≡ Some d → d.outcome ≡ Some s → d.presettled ≡ false → DecidedByConsumer u n s
 outcomes_of_consumers u n d s there outcome unsettled =
     let is = outcomes_given u n d s there outcome
-    in record { decided = is; by_consumer = by is is.decides }
+    in record { decided = is; by_consumer = by_found is is.found is.there is.decides }
   where
     clash : true ≡ false → ⊥
     clash e = cc
 
-    by : (is : Decided u n s) (decides : Decides is.entry is.before n is.found s) → IsByConsumer is.entry is.before n is.found s decides
-    by is (given_by_consumer given) = tt
-    by is (link_lost lost none is_failed) = tt
-    by is (link_ended ended none is_failed) = tt
-    by is (sent_settled sent accepted) =
+    by : (is : Decided u n s) (e : Delivery) → delivery is.before n ≡ Some e → (decides : Decides is.entry is.before n e s) → IsByConsumer is.entry is.before n e s decides
+    by is e here (given_by_consumer given) = tt
+    by is e here (link_lost lost none is_failed) = tt
+    by is e here (link_ended ended none is_failed) = tt
+    by is e here (sent_settled sent accepted) =
         let followed : AllFollow (delivery is.before n) (delivery (is.later ++ is.entry ∷ is.before) n)
         = then_all (delivery is.before n) (delivery (is.entry ∷ is.before) n) (delivery (is.later ++ is.entry ∷ is.before) n)
-        (entry_follows is.entry is.before n (there_bound is.before n is.found is.there))
-        (later_follows is.later (is.entry ∷ is.before) n is.one_run (more_bound is.entry is.before n (not_opening is.entry is.decides) (there_bound is.before n is.found is.there)))
-        in let from : WhileThere (Follows is.found) (delivery (is.later ++ is.entry ∷ is.before) n)
-        = subst (λ (v : Option Delivery). AllFollow v (delivery (is.later ++ is.entry ∷ is.before) n)) is.there followed
+        (entry_follows is.entry is.before n (there_bound is.before n e here))
+        (later_follows is.later (is.entry ∷ is.before) n is.one_run (more_bound is.entry is.before n (not_opening is.entry (sent_settled sent accepted)) (there_bound is.before n e here)))
+        in let from : WhileThere (Follows e) (delivery (is.later ++ is.entry ∷ is.before) n)
+        = subst (λ (v : Option Delivery). AllFollow v (delivery (is.later ++ is.entry ∷ is.before) n)) here followed
         in let now : delivery (is.later ++ is.entry ∷ is.before) n ≡ Some d = subst (λ (t : List Entry). delivery t n ≡ Some d) is.trace there
-        in absurd (clash (sym sent.presettled ∙ sym (same_presettled is.found (delivery (is.later ++ is.entry ∷ is.before) n) d from now) ∙ unsettled))
+        in absurd (clash (sym sent.presettled ∙ sym (same_presettled e (delivery (is.later ++ is.entry ∷ is.before) n) d from now) ∙ unsettled))
+
+    by_found : (is : Decided u n s) (found : Option Delivery) → delivery is.before n ≡ found → (decides : DecidesFound is.entry is.before n found s)
+        → IsFoundByConsumer is.entry is.before n found s decides
+    by_found is None here decides = tt
+    by_found is (Some e) here decides = by is e here decides

@@ -1,86 +1,146 @@
--- The rows that an event's attach takes up: each stands in the book, undecided, for the terminus of the link, and is bound as the book has it.
-use Rattle.std.proofs.Common.{◌≡◌, ◌∙◌, sym, ap, refl, ℕ, Bool, true, false, ◌&&◌, List, [], ◌∷◌, ◌++◌, append_assoc}
-use Rattle.std.specs.Prelude.{Option, Some, None, map, filter, option_and_then}
+-- The rows that an event's attach takes up: each stands in the book for the terminus of the link, and is bound as the book has it.
+use Rattle.std.proofs.Common.{◌≡◌, ◌∙◌, sym, ap, refl, subst, ℕ, Bool, true, false, List, [], ◌∷◌, ◌++◌, append_assoc}
+use Rattle.std.specs.Prelude.{Option, Some, None, filter, option_map, option_and_then}
+use Rattle.std.specs.List.{cons_option}
 use Rattle.amqp_model.specs.declared.item.Item.{Item}
+use Rattle.amqp_model.specs.declared.state.DeliveryState.{DeliveryState}
+use Rattle.amqp_model.specs.declared.state.UnsettledDelivery.{UnsettledDelivery}
 use Rattle.book_model.specs.declared.row.Row.{Row as ARow}
 use Rattle.book_model.specs.declared.terminus.LinkKey.{LinkKey}
 use Rattle.book_model.specs.declared.terminus.Terminus.{Terminus}
-use Rattle.book_model.specs.Book.{BookView, terminus_of, is_for, is_undecided}
+use Rattle.book_model.specs.declared.row.RowNumber.{RowNumber}
+use Rattle.book_model.specs.Book.{BookView, terminus_of, is_for, is_of}
 use Rattle.router_trace.specs.declared.binding.Binding.{Binding}
 use Rattle.router_trace.specs.declared.binding.DeliveryName.{DeliveryName}
+use Rattle.router_trace.specs.declared.binding.DeliveryName.TheVariants.{Row}
+use Rattle.router_trace.specs.declared.binding.Resumed.{Resumed}
+use Rattle.router_trace.specs.declared.binding.Resumed.TheVariants.{Settled, Again, Anew}
+use Rattle.router_trace.specs.declared.binding.TakenUp.{TakenUp}
+use Rattle.resume_core.specs.Resuming.{decisions, decision_of, decided_by, either_outcome, is_told_of, outcome_after, resumed_as, sending_as, sending_of, sendings, sent_as}
+use Rattle.resume_core.specs.declared.consumer.Sending.{Sending}
 use Rattle.router_trace.specs.declared.condition.Condition.TheVariants.{ResourceLimitExceeded}
 use Rattle.router_trace.specs.declared.event.Event.{Event}
 use Rattle.router_trace.specs.declared.handle.Attachment.{Attachment}
 use Rattle.router_trace.specs.Trace.{Trace, Out, Did, Bound, Put, Step, goes, puts, each_to}
 use Rattle.router_trace.specs.Connection.{conn, due}
-use Rattle.router_trace.specs.Deliveries.{Delivery, called, delivery, number_named}
+use Rattle.router_trace.specs.Deliveries.{Delivery, called, delivery, number_named, outcome_as, origin_in, told_in, early_in}
 use Rattle.state_messages.specs.Asking.{consumer_with}
-use Rattle.state_messages.specs.Messages.{taken_up_by, with_bound}
+use Rattle.state_messages.specs.Messages.{brings, payload_as, taken_up_by, with_bound}
 use Rattle.state_connections.proofs.Lists.{by_test}
 use Rattle.state_deliveries.proofs.Called.{there_named, one_name}
 use Rattle.router_reply.specs.Acts.{journaled, book_in, answer_to_event}
 use Rattle.router_reply.specs.Replies.{closing_of, ends, heard, bound_by, own_row, replied}
-use Rattle.router_reply.specs.Resuming.{resumed_key, waits_for, undecided_rows, waiting_of, rows_for, bound_to, bound_if, with_rows, resumed}
+use Rattle.router_reply.specs.Resuming.{resumed_key, attach_in, rows_for, rows_taken, bound_to, bound_if, with_rows, resumed}
 use Rattle.theorems.specs.Came.{TakesUp}
-use Rattle.theorems.proofs.Tests.{none_is, none_not_some}
+use Rattle.theorems.proofs.Tests.{none_not_some, some_same}
 
--- a row of a book that waits for the terminus of a key
-record Waits (b : BookView) (key : LinkKey) (row : ARow) : Type 0 where
-  earlier : List ARow
-  later : List ARow
-  kept : b.rows ≡ earlier ++ row ∷ later
-  undecided : row.outcome ≡ None
-  terminus : Terminus
-  of_key : terminus_of key b.termini ≡ Some terminus
-  waits : is_for terminus.number.0 row ≡ true
+-- what is sent of a row of a book, of the terminus of a key: its outcome, if it is decided
+pub record Waits (b : BookView) (key : LinkKey) (x : Sending) : Type 0 where
+  pub row : ARow
+  pub number : x.row ≡ row.number
+  pub format : x.format ≡ row.format
+  pub payload : x.payload ≡ row.payload
+  pub earlier : List ARow
+  pub later : List ARow
+  pub kept : b.rows ≡ earlier ++ row ∷ later
+  pub outcome : outcome_as x.how ≡ row.outcome
+  pub terminus : Terminus
+  pub of_key : terminus_of key b.termini ≡ Some terminus
+  pub waits : is_for terminus.number.0 row ≡ true
 
-abbrev AllWait : BookView → LinkKey → List ARow → Type 0
+abbrev pub AllWait : BookView → LinkKey → List Sending → Type 0
 AllWait b key [] = Unit {0}
-AllWait b key (r ∷ rs) = Waits b key r × AllWait b key rs
+AllWait b key (x ∷ xs) = Waits b key x × AllWait b key xs
 
-both : (a b : Bool) → (a && b) ≡ true → (a ≡ true) × (b ≡ true)
-both true b h = (refl, h)
-both false b h = absurd cc
+-- what is sent of the rows of a terminus, of which the attach decides none
+none_first : {X : Type 0} (o : Option X) (xs : List X) → cons_option o xs ≡ [] → (o ≡ None) × (xs ≡ [])
+none_first None xs e = (refl, e)
+none_first (Some x) xs e = absurd cc
 
-filtered_wait : (b : BookView) (key : LinkKey) (x : Terminus) → terminus_of key b.termini ≡ Some x → (before rest : List ARow) → b.rows ≡ before ++ rest
-    → AllWait b key (filter (waits_for x.number.0) rest)
-filtered_wait b key x found before [] is = tt
-filtered_wait b key x found before (r ∷ rs) is =
-    let others : AllWait b key (filter (waits_for x.number.0) rs) = filtered_wait b key x found (before ++ r ∷ []) rs (is ∙ sym (append_assoc before (r ∷ []) rs)) in
-    by_test (waits_for x.number.0 r)
-    (λ e. let passes = both (is_for x.number.0 r) (is_undecided r) e in
-    rw e (record { earlier = before; later = rs; kept = is; undecided = none_is r.outcome passes.1; terminus = x; of_key = found; waits = passes.0 }, others))
-    (λ e. rw e others)
+mapped_none : {X Y : Type 0} (f : X → Y) (o : Option X) → option_map f o ≡ None → o ≡ None
+mapped_none f None e = refl
+mapped_none f (Some x) e = absurd cc
 
-all_wait : (b : BookView) (key : LinkKey) → AllWait b key (undecided_rows b (terminus_of key b.termini))
-all_wait b key = by (terminus_of key b.termini) refl
+either_none : (o : Option DeliveryState) → either_outcome o None ≡ o
+either_none None = refl
+either_none (Some s) = refl
+
+sent_outcome : (complete told : Bool) (o : Option DeliveryState) (how : Resumed) → resumed_as complete told o ≡ Some how → outcome_as how ≡ o
+sent_outcome complete true (Some s) how e = let same : Settled s ≡ how = cc in ap outcome_as (sym same)
+sent_outcome complete true None how e = let same : Again ≡ how = cc in ap outcome_as (sym same)
+sent_outcome complete false (Some s) how e = absurd cc
+sent_outcome true false None how e = let same : Anew ≡ how = cc in ap outcome_as (sym same)
+sent_outcome false false None how e = absurd cc
+
+waits_here : (b : BookView) (key : LinkKey) (x : Terminus) → terminus_of key b.termini ≡ Some x → (complete : Bool) (theirs : List UnsettledDelivery)
+    → (before : List ARow) (r : ARow) (rs : List ARow) → b.rows ≡ before ++ r ∷ rs → is_for x.number.0 r ≡ true → decision_of theirs r ≡ None
+    → (s : Sending) → sending_of complete theirs r ≡ Some s → Waits b key s
+waits_here b key x found complete theirs before r rs is bound none s sent = by (sent_as complete theirs r) refl sent
   where
-    by : (v : Option Terminus) → terminus_of key b.termini ≡ v → AllWait b key (undecided_rows b v)
-    by None found = tt
-    by (Some x) found = filtered_wait b key x found [] b.rows refl
+    own : outcome_after theirs r ≡ r.outcome
+    own = ap (either_outcome r.outcome) (mapped_none _ (decided_by theirs r) none) ∙ either_none r.outcome
+
+    by : (v : Option Resumed) → sent_as complete theirs r ≡ v → option_map (sending_as r) v ≡ Some s → Waits b key s
+    by None e sent = absurd (none_not_some sent)
+    by (Some how) e sent = subst (λ (y : Sending). Waits b key y) (some_same sent) (record {
+      row = r;
+      number = refl;
+      format = refl;
+      payload = refl;
+      earlier = before;
+      later = rs;
+      kept = is;
+      outcome = sent_outcome complete (is_told_of theirs r) (outcome_after theirs r) how e ∙ own;
+      terminus = x;
+      of_key = found;
+      waits = bound;
+    })
+
+cons_wait : (b : BookView) (key : LinkKey) (o : Option Sending) (xs : List Sending) → ((s : Sending) → o ≡ Some s → Waits b key s) → AllWait b key xs → AllWait b key (cons_option o xs)
+cons_wait b key None xs one all = all
+cons_wait b key (Some s) xs one all = (one s refl, all)
+
+sent_wait : (b : BookView) (key : LinkKey) (x : Terminus) → terminus_of key b.termini ≡ Some x → (complete : Bool) (theirs : List UnsettledDelivery)
+    → (before rest : List ARow) → b.rows ≡ before ++ rest → decisions theirs (filter (is_for x.number.0) (filter (is_of x.number.0) rest)) ≡ []
+    → AllWait b key (sendings complete theirs (filter (is_for x.number.0) (filter (is_of x.number.0) rest)))
+sent_wait b key x found complete theirs before [] is none = tt
+sent_wait b key x found complete theirs before (r ∷ rs) is none =
+    let kept : List ARow = filter (is_for x.number.0) (filter (is_of x.number.0) rs) in
+    let others : decisions theirs kept ≡ [] → AllWait b key (sendings complete theirs kept)
+    = sent_wait b key x found complete theirs (before ++ r ∷ []) rs (is ∙ sym (append_assoc before (r ∷ []) rs)) in
+    by_test (is_of x.number.0 r)
+    (λ e. by_test (is_for x.number.0 r)
+    (λ f. let split = none_first (decision_of theirs r) (decisions theirs kept) (rw (e, f) at none) in
+    rw (e, f) (cons_wait b key (sending_of complete theirs r) (sendings complete theirs kept) (waits_here b key x found complete theirs before r rs is f split.0) (others split.1)))
+    (λ f. rw (e, f) (others (rw (e, f) at none))))
+    (λ e. rw e (others (rw e at none)))
 
 -- what each binding of such a row keeps, all of them keep
 
 abbrev pub TakenStep : (Trace → Type 0) → Type 0
-TakenStep P = (u : Trace) (b : Binding) → b.taken_up ≡ true → TakesUp u b → P u → P (Bound b ∷ u)
+TakenStep P = (u : Trace) (b : Binding) → TakesUp u b → P u → P (Bound b ∷ u)
 
-takes : (book : BookView) (key : LinkKey) (at : Attachment) (r : ARow) (u : Trace) → Waits book key r → book_in u ≡ book → consumer_with u key ≡ Some at
-    → TakesUp u (taken_up_by u r.number r.format r.payload at)
-takes book key at r u w is stands = record {
-  row = r;
-  number = refl;
+takes : (book : BookView) (key : LinkKey) (at : Attachment) (x : Sending) (u : Trace) → Waits book key x → book_in u ≡ book → consumer_with u key ≡ Some at
+    → TakesUp u (taken_up_by u x.row x.how x.format x.payload at)
+takes book key at x u w is stands = record {
+  brought = brings u x.row x.how;
+  taken = refl;
+  row = w.row;
+  number = ap (λ (n : RowNumber). Some n) w.number;
   earlier = w.earlier;
   later = w.later;
   kept = ap (λ (b : BookView). b.rows) is ∙ w.kept;
-  undecided = w.undecided;
-  format = refl;
-  payload = refl;
+  outcome = w.outcome;
+  format = w.format;
+  payload = ap (payload_as x.how) w.payload;
   key = key;
   terminus = w.terminus;
   of_key = ap (λ (b : BookView). terminus_of key b.termini) is ∙ w.of_key;
   waits = w.waits;
   attached = stands;
-  origin = refl;
+  origin = ap (λ (n : RowNumber). origin_in (called u (Row n))) w.number;
+  told = ap (λ (n : RowNumber). told_in (called u (Row n))) w.number;
+  early = ap (λ (n : RowNumber). early_in (called u (Row n))) w.number;
   lasting = refl;
 }
 
@@ -88,45 +148,51 @@ takes book key at r u w is stands = record {
 stays_with : (u : Trace) (b : Binding) (key : LinkKey) → consumer_with (Bound b ∷ u) key ≡ consumer_with u key
 stays_with u b key = refl
 
-all_taken : (P : Trace → Type 0) → TakenStep P → (book : BookView) (key : LinkKey) (at : Attachment) (rows : List ARow) → AllWait book key rows
-    → (u : Trace) → book_in u ≡ book → consumer_with u key ≡ Some at → P u → P (bound_to at (map waiting_of rows) u)
+all_taken : (P : Trace → Type 0) → TakenStep P → (book : BookView) (key : LinkKey) (at : Attachment) (rows : List Sending) → AllWait book key rows
+    → (u : Trace) → book_in u ≡ book → consumer_with u key ≡ Some at → P u → P (bound_to at rows u)
 all_taken P step book key at [] all u is stands was = was
-all_taken P step book key at (r ∷ rs) all u is stands was =
-    let b : Binding = taken_up_by u r.number r.format r.payload at in
-    all_taken P step book key at rs all.1 (Bound b ∷ u) is (stays_with u b key ∙ stands) (step u b refl (takes book key at r u all.0 is stands) was)
+all_taken P step book key at (x ∷ xs) all u is stands was =
+    let b : Binding = taken_up_by u x.row x.how x.format x.payload at in
+    all_taken P step book key at xs all.1 (Bound b ∷ u) is (stays_with u b key ∙ stands) (step u b (takes book key at x u all.0 is stands) was)
 
-pub resumed_takes : (P : Trace → Type 0) → TakenStep P → (t : Trace) (e : Event) (u : Trace) → book_in u ≡ book_in t → P u → P (resumed t e u)
-resumed_takes P step t e u is was = by (resumed_key t e (answer_to_event t e))
+-- the rows that an event's attach takes up, by the link's key
+abbrev pub TakenWait : Trace → Event → Option LinkKey → Type 0
+TakenWait t e None = Unit {0}
+TakenWait t e (Some k) = AllWait (book_in t) k (rows_for (book_in t) (attach_in e) (Some k))
+
+pub resumed_takes : (P : Trace → Type 0) → TakenStep P → (t : Trace) (e : Event) (u : Trace) → book_in u ≡ book_in t
+    → TakenWait t e (resumed_key t e (answer_to_event t e)) → P u → P (resumed t e u)
+resumed_takes P step t e u is all was = by (resumed_key t e (answer_to_event t e)) all
   where
-    by_link : (k : LinkKey) (v : Option Attachment) → consumer_with u k ≡ v → P (bound_if v (rows_for (book_in t) (Some k)) u)
-    by_link k None stands = was
-    by_link k (Some at) stands = all_taken P step (book_in t) k at (undecided_rows (book_in t) (terminus_of k (book_in t).termini)) (all_wait (book_in t) k) u is stands was
+    by_link : (k : LinkKey) (v : Option Attachment) → consumer_with u k ≡ v → TakenWait t e (Some k) → P (bound_if v (rows_for (book_in t) (attach_in e) (Some k)) u)
+    by_link k None stands all = was
+    by_link k (Some at) stands all = all_taken P step (book_in t) k at (rows_for (book_in t) (attach_in e) (Some k)) all u is stands was
 
-    by : (k : Option LinkKey) → P (with_rows k (rows_for (book_in t) k) u)
-    by None = was
-    by (Some k) = by_link k (consumer_with u k) refl
+    by : (k : Option LinkKey) → TakenWait t e k → P (with_rows k (rows_for (book_in t) (attach_in e) k) u)
+    by None all = was
+    by (Some k) all = by_link k (consumer_with u k) refl all
 
 -- the same where only that it is taken up counts
 
 abbrev pub MarkedStep : (Trace → Type 0) → Type 0
-MarkedStep P = (u : Trace) (b : Binding) → b.taken_up ≡ true → P u → P (Bound b ∷ u)
+MarkedStep P = (u : Trace) (b : Binding) (brought : TakenUp) → b.taken_up ≡ Some brought → P u → P (Bound b ∷ u)
 
-all_marked : (P : Trace → Type 0) → MarkedStep P → (at : Attachment) (rows : List ARow) (u : Trace) → P u → P (bound_to at (map waiting_of rows) u)
+all_marked : (P : Trace → Type 0) → MarkedStep P → (at : Attachment) (rows : List Sending) (u : Trace) → P u → P (bound_to at rows u)
 all_marked P step at [] u was = was
-all_marked P step at (r ∷ rs) u was =
-    let b : Binding = taken_up_by u r.number r.format r.payload at in
-    all_marked P step at rs (Bound b ∷ u) (step u b refl was)
+all_marked P step at (x ∷ xs) u was =
+    let b : Binding = taken_up_by u x.row x.how x.format x.payload at in
+    all_marked P step at xs (Bound b ∷ u) (step u b (brings u x.row x.how) refl was)
 
 pub resumed_marked : (P : Trace → Type 0) → MarkedStep P → (t : Trace) (e : Event) (u : Trace) → P u → P (resumed t e u)
-resumed_marked P step t e u was = by (resumed_key t e (answer_to_event t e))
+resumed_marked P step t e u was = by (resumed_key t e (answer_to_event t e)) (rows_taken t e (answer_to_event t e))
   where
-    by_link : (k : LinkKey) (v : Option Attachment) → P (bound_if v (rows_for (book_in t) (Some k)) u)
-    by_link k None = was
-    by_link k (Some at) = all_marked P step at (undecided_rows (book_in t) (terminus_of k (book_in t).termini)) u was
+    by_link : (v : Option Attachment) (rows : List Sending) → P (bound_if v rows u)
+    by_link None rows = was
+    by_link (Some at) rows = all_marked P step at rows u was
 
-    by : (k : Option LinkKey) → P (with_rows k (rows_for (book_in t) k) u)
-    by None = was
-    by (Some k) = by_link k (consumer_with u k)
+    by : (k : Option LinkKey) (rows : List Sending) → P (with_rows k rows u)
+    by None rows = was
+    by (Some k) rows = by_link (consumer_with u k) rows
 
 -- the book depends on no item and no binding
 

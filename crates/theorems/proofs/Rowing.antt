@@ -1,6 +1,6 @@
 -- What an event's row puts keeps what holds, but for attaches: what the answer says, the answers to a disposition, and what is put for a transfer.
 use Rattle.std.proofs.Common.{◌≡◌, ◌∙◌, sym, ap, refl, subst, ℕ, Bool, true, false, not, ◌&&◌, List, [], ◌∷◌, ◌++◌, append-nil}
-use Rattle.std.specs.Prelude.{◌==◌, nat_lt, Option, Some, None, is_none, if◌then◌else◌}
+use Rattle.std.specs.Prelude.{◌==◌, nat_lt, Option, Some, None, is_none, if◌then◌else◌, option_map}
 use Rattle.std.proofs.lemmas.Bool.{eqb-true, eq-eqb}
 use Rattle.amqp_model.specs.declared.perf.Disposition.{Disposition as ADisposition}
 use Rattle.amqp_model.specs.declared.perf.Perf.TheVariants as perf
@@ -25,7 +25,7 @@ use Rattle.router_trace.specs.declared.condition.Condition.{Condition}
 use Rattle.router_trace.specs.declared.condition.Condition.TheVariants.{ResourceLimitExceeded, MessageSizeExceeded}
 use Rattle.router_trace.specs.declared.handle.Attachment.{Attachment}
 use Rattle.router_trace.specs.Trace.{Trace, Bound, Put, goes, puts, each_to}
-use Rattle.router_trace.specs.Deliveries.{Delivery, bound, called, origin_in, either_origin, source, name_in, delivery, is_undecided, terminal, last_of, ended_by as put_ends}
+use Rattle.router_trace.specs.Deliveries.{Delivery, bound, called, origin_in, either_origin, source, name_in, delivery, is_undecided, terminal, last_of, ended_by as put_ends, brought, outcome_as, told_in}
 use Rattle.router_trace.specs.Following.{link_of, is_sending}
 use Rattle.router_trace.specs.LinkFrames.{detach_item}
 use Rattle.router_trace.specs.Links.{Link, link, link_place, has_number, is_attached, if_attached, last_of_key}
@@ -39,10 +39,11 @@ use Rattle.router_reply.specs.Acts.{book_in}
 use Rattle.reply_transfers.specs.Transfers.{claimed_id, lasts_on, let_go, unless_many, ignored_put, released_by, released, unbound_put, consumer_for, whole_put, part_put, settled_answers}
 use Rattle.router_reply.specs.Deciding.{ended_by}
 use Rattle.router_reply.specs.Replies.{row_found, bound_for, links_put, item_put}
+use Rattle.router_trace.specs.declared.binding.TakenUp.{TakenUp}
 use Rattle.theorems.specs.Came.{TakesUp, BindsMessage, ComesFrom}
 use Rattle.theorems.proofs.Consuming.{consumer_sends}
 use Rattle.theorems.proofs.Ending.{TakesNone, takes_none, said_kept}
-use Rattle.theorems.proofs.Facts.{FromTerminus, IsHeld, Agrees, RowFact, bound_facts}
+use Rattle.theorems.proofs.Facts.{FromTerminus, IsHeld, Agrees, RowFact, bound_facts, kept_form}
 use Rattle.theorems.proofs.Keeps.{Kept, quiet_kept, plain_kept, Plain, plain_to, plain_goes}
 use Rattle.theorems.proofs.Looking.{found_below, found_in}
 use Rattle.theorems.proofs.Naming.{bound_named}
@@ -151,11 +152,17 @@ from_attached (Some q) u c own handle l d from there p is =
     subst (λ (a : Attachment). is_attached u a ≡ true) (sym from.0 ∙ ap (λ (x : Origin). x.link) (some_same is))
     (ap (has_number l.number) there ∙ eq-eqb l.number l.number refl)
 
-pub bound_kept : (b : Binding) (u : Trace) → BindsMessage u b → ((r : RowNumber) → b.row ≡ Some r → RowFact u (book_in u) r (bound (name_in u b) b)) → Kept u [] → Kept (Bound b ∷ u) []
-bound_kept b u binds fact was = record {
+from_origin : (o : Option Origin) (p : Origin) → either_origin o None ≡ Some p → o ≡ Some p
+from_origin None p is = absurd (none_not_some is)
+from_origin (Some q) p is = is
+
+pub bound_kept : (b : Binding) (u : Trace) → b.taken_up ≡ None → BindsMessage u b → ((r : RowNumber) → b.row ≡ Some r → RowFact u (book_in u) r (bound (name_in u b) b)) → Kept u [] → Kept (Bound b ∷ u) []
+bound_kept b u fresh binds fact was = record {
   law = was.law;
   facts = bound_facts b u fact was.facts;
-  standing = bound_standing b u (consumer_sends u binds.producer b.consumer binds.chosen) (from_attached b.origin u binds.conn binds.own binds.handle binds.producer binds.message binds.from binds.attached) was.standing;
+  standing = bound_standing b u (consumer_sends u binds.producer b.consumer binds.chosen) 
+    (λ p from. from_attached b.origin u binds.conn binds.own binds.handle binds.producer binds.message binds.from binds.attached p
+    (from_origin b.origin p (ap (λ (up : Option TakenUp). either_origin b.origin (brought (λ v. v.told) up)) (sym fresh) ∙ from))) was.standing;
   named = bound_named b u was.named;
   ordered = was.ordered;
 }
@@ -182,29 +189,32 @@ taken_sends u key a is = by_last (last_of_key u key) is
     by_last None is = absurd (none_not_some is)
     by_last (Some x) is = by_attached x (is_attached u x) refl is
 
--- the delivery that its row had until then has its origin
-record HadOrigin (u : Trace) (n : RowNumber) (p : Origin) : Type 0 where
+-- the delivery that its row had until then has its producer's delivery
+record HadSource (u : Trace) (n : RowNumber) (p : Origin) : Type 0 where
   before : Delivery
   was_called : IsCalled u (Row n) before
-  origin : before.origin ≡ Some p
+  from : source before ≡ Some p
 
-had_origin : (u : Trace) (n : RowNumber) (o : Option Origin) (p : Origin) → o ≡ origin_in (called u (Row n)) → o ≡ Some p → HadOrigin u n p
-had_origin u n o p from is = by (called u (Row n)) refl (sym from ∙ is)
+had_source : (u : Trace) (n : RowNumber) (o told : Option Origin) (p : Origin) → o ≡ origin_in (called u (Row n)) → told ≡ told_in (called u (Row n)) → either_origin o told ≡ Some p → HadSource u n p
+had_source u n o told p from_origin from_told is =
+    by (called u (Row n)) refl
+    (sym (ap (λ (x : Option Origin). either_origin x told) from_origin ∙ ap (either_origin (origin_in (called u (Row n)))) from_told) ∙ is)
   where
-    by : (v : Option Delivery) → called u (Row n) ≡ v → origin_in v ≡ Some p → HadOrigin u n p
+    by : (v : Option Delivery) → called u (Row n) ≡ v → either_origin (origin_in v) (told_in v) ≡ Some p → HadSource u n p
     by None named is = absurd (none_not_some is)
-    by (Some d) named is = record { before = d; was_called = called_is u (Row n) d named; origin = is }
+    by (Some d) named is = record { before = d; was_called = called_is u (Row n) d named; from = is }
 
-told_too : (d : Delivery) (p : Origin) → d.origin ≡ Some p → source d ≡ Some p
-told_too d p is = ap (λ (o : Option Origin). either_origin o d.told) is
+taken_source : (u : Trace) (b : Binding) (takes : TakesUp u b) (p : Origin) → source (bound (name_in u b) b) ≡ Some p → HadSource u takes.row.number p
+taken_source u b takes p from =
+    had_source u takes.row.number b.origin (brought (λ v. v.told) b.taken_up) p takes.origin (ap (brought (λ v. v.told)) takes.taken ∙ takes.told) from
 
-from_origin : (o : Option Origin) (p : Origin) → either_origin o None ≡ Some p → o ≡ Some p
-from_origin None p is = absurd (none_not_some is)
-from_origin (Some q) p is = is
+-- its outcome is as a journal keeps it
+abbrev pub IsKeptForm : ARow → Type 0
+IsKeptForm r = r.outcome ≡ option_map kept_form r.outcome
 
 -- what the book has of the row holds of the new delivery as it did of the old one
-taken_fact : (u : Trace) (b : Binding) → b.taken_up ≡ true → TakesUp u b → Kept u [] → (r : RowNumber) → b.row ≡ Some r → RowFact u (book_in u) r (bound (name_in u b) b)
-taken_fact u b marked takes was r named = subst (λ (n : RowNumber). RowFact u (book_in u) n (bound (name_in u b) b)) (some_same (sym takes.number ∙ named)) fact
+taken_fact : (u : Trace) (b : Binding) (takes : TakesUp u b) → IsKeptForm takes.row → Kept u [] → (r : RowNumber) → b.row ≡ Some r → RowFact u (book_in u) r (bound (name_in u b) b)
+taken_fact u b takes form was r named = subst (λ (n : RowNumber). RowFact u (book_in u) n (bound (name_in u b) b)) (some_same (sym takes.number ∙ named)) fact
   where
     n : RowNumber
     n = takes.row.number
@@ -221,44 +231,44 @@ taken_fact u b marked takes was r named = subst (λ (n : RowNumber). RowFact u (
     -- the old delivery's row
     held : (p : Origin) → source (bound (name_in u b) b) ≡ Some p → (takes.row.forgotten ≡ false) × FromTerminus u (book_in u) p takes.row.producer.0
     held p from =
-        let had = had_origin u n b.origin p takes.origin (from_origin b.origin p from) in
+        let had = taken_source u b takes p from in
         let old : RowFact u (book_in u) n had.before = was.facts had.was_called.number had.before n had.was_called.there had.was_called.named in
         let is : IsHeld u (book_in u) takes.row had.before = subst (λ (v : Option ARow). Agrees u (book_in u) v had.before) there old.agrees in
-        (is.waits p (told_too had.before p had.origin), is.from p (told_too had.before p had.origin))
+        (is.waits p had.from, is.from p had.from)
 
     fact : RowFact u (book_in u) n (bound (name_in u b) b)
     fact = record {
-      settled = ap (λ (q : Bool). is_none b.origin && not q) marked ∙ never (is_none b.origin);
+      settled = ap (λ (up : Option TakenUp). is_none b.origin && is_none up) takes.taken ∙ never (is_none b.origin);
       known = found_below n.0 (book_in u).next_row (book_in u).rows takes.row was.ordered.rows_below there;
       agrees = subst (λ (v : Option ARow). Agrees u (book_in u) v (bound (name_in u b) b)) (sym there) (record {
-        outcome = takes.undecided;
+        outcome = form ∙ ap (option_map kept_form) (sym (ap (brought (λ v. outcome_as v.how)) takes.taken ∙ takes.outcome));
         waits = λ p from. (held p from).0;
         from = λ p from. (held p from).1;
       });
     }
 
-pub taken_up_kept : (u : Trace) (b : Binding) → b.taken_up ≡ true → TakesUp u b → Kept u [] → Kept (Bound b ∷ u) []
-taken_up_kept u b marked takes was = record {
+pub taken_up_kept : (u : Trace) (b : Binding) (takes : TakesUp u b) → IsKeptForm takes.row → Kept u [] → Kept (Bound b ∷ u) []
+taken_up_kept u b takes form was = record {
   law = was.law;
-  facts = bound_facts b u (taken_fact u b marked takes was) was.facts;
+  facts = bound_facts b u (taken_fact u b takes form was) was.facts;
   standing = bound_standing b u (taken_sends u takes.key b.consumer takes.attached) producer was.standing;
   named = bound_named b u was.named;
   ordered = was.ordered;
 }
   where
-    producer : (p : Origin) → b.origin ≡ Some p → is_attached u p.link ≡ true
-    producer p is =
-        let had = had_origin u takes.row.number b.origin p takes.origin is in
-        was.standing.producers had.was_called.number had.before p had.was_called.there (told_too had.before p had.origin)
+    producer : (p : Origin) → source (bound (name_in u b) b) ≡ Some p → is_attached u p.link ≡ true
+    producer p from =
+        let had = taken_source u b takes p from in
+        was.standing.producers had.was_called.number had.before p had.was_called.there had.from
 
 -- what a binding needs
 abbrev pub MayBind : Trace → Option Binding → Type 0
 MayBind u None = Unit {0}
-MayBind u (Some b) = BindsMessage u b × ((r : RowNumber) → b.row ≡ Some r → RowFact u (book_in u) r (bound (name_in u b) b))
+MayBind u (Some b) = (b.taken_up ≡ None) × BindsMessage u b × ((r : RowNumber) → b.row ≡ Some r → RowFact u (book_in u) r (bound (name_in u b) b))
 
 pub with_kept : (b : Option Binding) (u : Trace) → MayBind u b → Kept u [] → Kept (with_bound b u) []
 with_kept None u may was = was
-with_kept (Some b) u may was = bound_kept b u may.0 may.1 was
+with_kept (Some b) u may was = bound_kept b u may.0 may.1 may.2 was
 
 receives_still : (b : Option Binding) (u : Trace) (c own handle : ℕ) → Receives u c own handle → Receives (with_bound b u) c own handle
 receives_still None u c own handle at = at

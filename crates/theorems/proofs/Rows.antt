@@ -1,6 +1,6 @@
 -- In every trace of the router each message with a row stands in the book before it is bound, and each row is bound at most once.
 use Rattle.std.proofs.Common.{◌≡◌, ◌∙◌, sym, ap, refl, subst, ℕ, ◌+◌, ◌≤◌, Bool, true, false, List, [], ◌∷◌, arith}
-use Rattle.std.specs.Prelude.{◌==◌, Option, Some, None}
+use Rattle.std.specs.Prelude.{◌==◌, Option, Some, None, is_some, is_none}
 use Rattle.std.proofs.lemmas.Bool.{eqb-true}
 use Rattle.amqp_model.specs.declared.item.Item.{Item}
 use Rattle.book_model.specs.declared.act.Act.{Act}
@@ -12,6 +12,7 @@ use Rattle.router_trace.specs.Configuration.{beginning, opened}
 use Rattle.router_trace.specs.Connection.{conn, due}
 use Rattle.router_trace.specs.Trace.{Beginning, Entry, Did, Out, Took, Bound, Booked, Began, Put, Step, did, goes, puts, each_to}
 use Rattle.router_trace.specs.declared.binding.Binding.{Binding}
+use Rattle.router_trace.specs.declared.binding.TakenUp.{TakenUp}
 use Rattle.router_trace.specs.declared.event.Event.{Event}
 use Rattle.router_trace.specs.declared.condition.Condition.TheVariants.{ResourceLimitExceeded}
 use Rattle.state_messages.specs.Messages.{with_bound}
@@ -102,7 +103,7 @@ new_once u b row is before =
     at_most : (n k : ℕ) → n ≡ k → k ≤ n
     at_most n k e = omega (arith, e)
 
-bound_once : (u : List Entry) (b : Binding) (row : Option RowNumber) → b.taken_up ≡ false → b.row ≡ row → IsAdmittedUnder u b row → EachRowIsBoundOnce u → Before u → EachRowIsBoundOnce (Bound b ∷ u)
+bound_once : (u : List Entry) (b : Binding) (row : Option RowNumber) → b.taken_up ≡ None → b.row ≡ row → IsAdmittedUnder u b row → EachRowIsBoundOnce u → Before u → EachRowIsBoundOnce (Bound b ∷ u)
 bound_once u b None fresh its is all before n = rw (fresh, its) (record { once = plain (times_bound u n) (all n).once; known = λ h. none (times_bound u n) ((all n).known h) })
   where
     plain : (k : ℕ) → k ≤ 1 → k + 0 ≤ 1
@@ -137,8 +138,8 @@ bound_once u b (Some row) fresh its is all before n = by_test (row.0 == n) same 
         none k h = omega (arith, h)
 
 -- a row that is taken up was bound before
-taken_once : (u : List Entry) (b : Binding) → b.taken_up ≡ true → EachRowIsBoundOnce u → EachRowIsBoundOnce (Bound b ∷ u)
-taken_once u b marked all n = rw marked (record { once = plain (times_bound u n) (all n).once; known = λ h. none (times_bound u n) ((all n).known h) })
+taken_once : (u : List Entry) (b : Binding) (brought : TakenUp) → b.taken_up ≡ Some brought → EachRowIsBoundOnce u → EachRowIsBoundOnce (Bound b ∷ u)
+taken_once u b brought marked all n = rw marked (record { once = plain (times_bound u n) (all n).once; known = λ h. none (times_bound u n) ((all n).known h) })
   where
     plain : (k : ℕ) → k ≤ 1 → k + 0 ≤ 1
     plain k h = omega (arith, h)
@@ -202,14 +203,15 @@ took_rows c k t was = record { admitted = was.admitted; once = λ n. record { on
 batch_rows : (t : List Entry) (acts : List Act) {full : List ℕ} → Rows t → Rows (Booked acts full ∷ t)
 batch_rows t acts was = record { admitted = was.admitted; once = batch_once acts t was.once; before = was.once }
 
-bound_rows : (u : List Entry) (b : Option Binding) → ((x : Binding) → b ≡ Some x → (x.taken_up ≡ false) × IsAdmittedUnder u x x.row) → Rows u → Rows (with_bound b u)
+bound_rows : (u : List Entry) (b : Option Binding) → ((x : Binding) → b ≡ Some x → (x.taken_up ≡ None) × IsAdmittedUnder u x x.row) → Rows u → Rows (with_bound b u)
 bound_rows u None is was = was
 bound_rows u (Some x) is was =
     let now = is x refl in
-    record { admitted = (subst (λ (up : Bool). IsAdmittedUnless up u x) (sym now.0) now.1, was.admitted); once = bound_once u x x.row now.0 refl now.1 was.once was.before; before = tt }
+    record { admitted = (subst (λ (up : Option TakenUp). IsAdmittedUnless (is_some up) u x) (sym now.0) now.1, was.admitted); once = bound_once u x x.row now.0 refl now.1 was.once was.before; before = tt }
 
-taken_rows : (u : List Entry) (b : Binding) → b.taken_up ≡ true → Rows u → Rows (Bound b ∷ u)
-taken_rows u b marked was = record { admitted = (subst (λ (up : Bool). IsAdmittedUnless up u b) (sym marked) tt, was.admitted); once = taken_once u b marked was.once; before = tt }
+taken_rows : (u : List Entry) (b : Binding) (brought : TakenUp) → b.taken_up ≡ Some brought → Rows u → Rows (Bound b ∷ u)
+taken_rows u b brought marked was =
+    record { admitted = (subst (λ (up : Option TakenUp). IsAdmittedUnless (is_some up) u b) (sym marked) tt, was.admitted); once = taken_once u b brought marked was.once; before = tt }
 
 goes_rows : (ps : List Put) (t : List Entry) → Rows t → Rows (goes ps t)
 goes_rows [] t was = was

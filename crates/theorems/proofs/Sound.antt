@@ -1,6 +1,6 @@
 -- What the laws require of each entry, and that they still hold after an entry that satisfies it.
 use Rattle.std.proofs.Common.{◌≡◌, sym, subst, ℕ, Bool, true, false, List, [], ◌∷◌, ◌++◌}
-use Rattle.std.specs.Prelude.{Option}
+use Rattle.std.specs.Prelude.{Option, is_some}
 use Rattle.amqp_model.specs.declared.perf.Disposition.{Disposition}
 use Rattle.amqp_model.specs.declared.perf.Perf.{Perf}
 use Rattle.amqp_model.specs.declared.perf.Perf.TheVariants as perf
@@ -11,6 +11,7 @@ use Rattle.amqp_model.specs.declared.item.Item.TheVariants as item
 use Rattle.router_trace.specs.Trace.{Beginning}
 use Rattle.router_trace.specs.Configuration.{beginning, opened}
 use Rattle.router_trace.specs.declared.binding.Binding.{Binding}
+use Rattle.router_trace.specs.declared.binding.TakenUp.{TakenUp}
 use Rattle.book_model.specs.declared.act.Act.{Act}
 use Rattle.router_trace.specs.Trace.{Entry, Put, Did, Out, Took, Bound, Booked, Step, goes, each_to}
 use Rattle.theorems.specs.Each.{EachOut, EachBound}
@@ -54,8 +55,8 @@ pub bound_sound : (b : Binding) (t : List Entry) → BindsOrTakesUp t b → Soun
 bound_sound b t is sound = record { carries = sound.carries; tells = sound.tells; binds = (is, sound.binds); unstarted = bound_unstarted t b sound.unstarted }
 
 -- a row that is taken up
-pub taken_sound : (t : List Entry) (b : Binding) → b.taken_up ≡ true → TakesUp t b → Sound t → Sound (Bound b ∷ t)
-taken_sound t b marked takes sound = bound_sound b t (subst (λ (up : Bool). BindsAs up t b) (sym marked) takes) sound
+pub taken_sound : (t : List Entry) (b : Binding) → TakesUp t b → Sound t → Sound (Bound b ∷ t)
+taken_sound t b takes sound = bound_sound b t (subst (λ (up : Option TakenUp). BindsAs (is_some up) t b) (sym takes.taken) takes) sound
 
 -- an item that satisfies the laws
 

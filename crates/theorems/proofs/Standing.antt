@@ -35,7 +35,7 @@ use Rattle.router_trace.specs.Trace.{Beginning, Entry, Did, Out, Took, Bound, Bo
 use Rattle.router_trace.specs.Sessions.{maps, theirs}
 use Rattle.router_trace.specs.Links.{Link, Happened, durable_key, flowed_from, flowed_to, started, came_to, sends, receives, is_lost, ends_handle, ends_handle_in, handle_asked, answers_in, answers_by, answered_handle, asked, address_by, attachments, attached, after_our_flow, after_our_transfer, after_their_flow, after_their_transfer, is_handle, link_in, link_after, heard_link, link_by, link_at, names, names_by, their_handle, key_at, link, has_number, is_attached, if_attached, same_key, newest_in, last_of_key, holder}
 use Rattle.router_trace.specs.Following.{is_sending, link_of}
-use Rattle.router_trace.specs.Deliveries.{Delivery, either_origin, bindings, name_in, delivery, source, is_undecided, ended_by}
+use Rattle.router_trace.specs.Deliveries.{Delivery, either_origin, bindings, name_in, delivery, source, is_undecided, ended_by, bound}
 use Rattle.state_messages.specs.Messages.{standing_at}
 use Rattle.state_deliveries.proofs.Called.{uncalled}
 use Rattle.state_connections.proofs.Lists.{by_test}
@@ -464,7 +464,7 @@ booked_standing t acts was = record {
   producers = was.producers;
 }
 
-pub bound_standing : (b : Binding) (t : List Entry) → Sends t b.consumer → ((p : Origin) → b.origin ≡ Some p → is_attached t p.link ≡ true) → Standing t → Standing (Bound b ∷ t)
+pub bound_standing : (b : Binding) (t : List Entry) → Sends t b.consumer → ((p : Origin) → source (bound (name_in t b) b) ≡ Some p → is_attached t p.link ≡ true) → Standing t → Standing (Bound b ∷ t)
 bound_standing b t consumer producer was = record {
   answered = was.answered;
   keys = was.keys;
@@ -472,16 +472,12 @@ bound_standing b t consumer producer was = record {
       (λ e. subst (λ (a : Attachment). Sends (Bound b ∷ t) a) (ap (λ (x : Delivery). x.link) (some_same (rw e at is))) (moved consumer))
       (λ e. moved (was.consumers n d (uncalled (name_in t b) (delivery t n) d (rw e at is)).0 undecided));
   producers = λ n d p is from. by_test (bindings t + 1 == n)
-      (λ e. producer p (from_bound b.origin (ap source (some_same (rw e at is)) ∙ from)))
+      (λ e. producer p (ap source (some_same (rw e at is)) ∙ from))
       (λ e. was.producers n d p (uncalled (name_in t b) (delivery t n) d (rw e at is)).0 from);
 }
   where
     moved : {a : Attachment} → Sends t a → Sends (Bound b ∷ t) a
     moved at = record { at = at.at; there = at.there; number = at.number; way = at.way }
-
-    from_bound : {p : Origin} (o : Option Origin) → either_origin o None ≡ Some p → o ≡ Some p
-    from_bound None e = absurd (none_not_some e)
-    from_bound (Some q) e = e
 
 -- a durable link that stands keeps its key
 

@@ -23,7 +23,7 @@ use Rattle.reply_rows.specs.Rows.{down_reply}
 use Rattle.router_reply.specs.Replies.{ends, row_found, item_put, item_row, own_row, bound_for, item_bound, bound_by, replied_after}
 use Rattle.router_after.specs.After.{widened, followed}
 use Rattle.router_reply.specs.Acts.{journaled, book_in, booked, found_journal, full_at, answer_by, answer_to_event}
-use Rattle.router_reply.specs.Resuming.{key_taken, key_by, key_in, resumed_key, rows_for, with_rows, resumed_by, resumed}
+use Rattle.router_reply.specs.Resuming.{key_taken, key_by, key_in, resumed_key, attach_in, rows_for, rows_taken, with_rows, resumed_by, resumed}
 use Rattle.router_core.specs.Replies.{answered, handled}
 use Rattle.core_machine.specs.Moves.{took_one}
 use Rattle.router_core.specs.Moves.{Goes, outs}
@@ -161,8 +161,8 @@ same_resumed_key t event.Start y = refl
 
 same_resumed : (t u : List Entry) (e : Event) → Calm t → due t e ≡ [] → FindsAlike t e → untaken (resumed t e u) ≡ plain_resumed (untaken t) e (untaken u)
 same_resumed t u e calm none same =
-    untaken_rows (resumed_key t e (answer_to_event t e)) (rows_for (book_in t) (resumed_key t e (answer_to_event t e))) u
-    ∙ (λ j. with_rows (key j) (rows_for (same_journaled t j).book (key j)) (untaken u))
+    untaken_rows (resumed_key t e (answer_to_event t e)) (rows_taken t e (answer_to_event t e)) u
+    ∙ (λ j. with_rows (key j) (rows_for (same_journaled t j).book (attach_in e) (key j)) (untaken u))
   where
     key : resumed_key t e (answer_to_event t e) ≡ resumed_key (untaken t) e (plain_answer_to (untaken t) e)
     key = ap (resumed_key t e) (same_answer_to t e calm none same) ∙ same_resumed_key t e (plain_answer_to (untaken t) e)

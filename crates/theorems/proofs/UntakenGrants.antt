@@ -1,6 +1,6 @@
 -- What takes don't change: a trace without its takes has the same grants, and chooses the same consumers.
 use Rattle.std.proofs.Common.{◌≡◌, ◌∙◌, refl, ℕ, ◌+◌, ◌==◌, not, ◌&&◌, List, [], ◌∷◌, ◌++◌}
-use Rattle.std.specs.Prelude.{Option, Some, None, if◌then◌else◌}
+use Rattle.std.specs.Prelude.{Option, Some, None, if◌then◌else◌, is_none}
 use Rattle.amqp_link.specs.Credit as credit
 use Rattle.route_credit.specs.Granting.{choice, grants_of}
 use Rattle.state_pools.specs.Sharing.{Figure, consumer, producer, sharing}
@@ -71,7 +71,7 @@ same_last (Out c i ∷ t) address = same_last t address
 same_last (Took c n ∷ t) address = same_last t address
 same_last (Began g ∷ t) address = refl
 same_last (Bound b ∷ t) address =
-    λ j. if not b.taken_up && is_of address (same_link t b.consumer.conn.0 b.consumer.channel b.consumer.handle j) b.consumer.number then b.consumer.number else same_last t address j
+    λ j. if is_none b.taken_up && is_of address (same_link t b.consumer.conn.0 b.consumer.channel b.consumer.handle j) b.consumer.number then b.consumer.number else same_last t address j
 same_last (Booked acts full ∷ t) address = same_last t address
 
 same_pool : (t : List Entry) (address : List ℕ) → pool_of t address ≡ pool_of (untaken t) address

@@ -4,15 +4,16 @@ use Rattle.std.specs.Prelude.{Option, Some, None}
 use Rattle.book_model.specs.declared.row.RowNumber.{RowNumber}
 use Rattle.book_model.specs.declared.terminus.LinkKey.{LinkKey}
 use Rattle.router_trace.specs.declared.binding.Binding.{Binding}
+use Rattle.router_trace.specs.declared.binding.Resumed.{Resumed}
 use Rattle.router_trace.specs.declared.binding.DeliveryName.TheVariants.{Row}
 use Rattle.router_trace.specs.declared.handle.Attachment.{Attachment}
 use Rattle.router_trace.specs.Trace.{Entry, Bound, Put, goes}
-use Rattle.router_trace.specs.Deliveries.{origin_in}
+use Rattle.router_trace.specs.Deliveries.{origin_in, told_in, early_in}
 use Rattle.router_trace.specs.Following.{tells, sends_due, drains_due}
 use Rattle.state_messages.specs.Asking.{consumer_with}
-use Rattle.state_messages.specs.Messages.{grants_due, taken_up_by, with_bound}
+use Rattle.state_messages.specs.Messages.{grants_due, payload_as, taken_up_by, with_bound}
 use Rattle.router_after.specs.After.{told, sent, drained}
-use Rattle.router_reply.specs.declared.resuming.WaitingRow.{WaitingRow}
+use Rattle.resume_core.specs.declared.consumer.Sending.{Sending}
 use Rattle.router_reply.specs.Resuming.{bound_to, bound_if, with_rows}
 use Rattle.theorems.specs.Takes.{untaken}
 use Rattle.router_core.proofs.Following.{due_alike, passed_on}
@@ -28,28 +29,28 @@ untaken_bound (Some b) t = refl
 
 -- the rows that are taken up
 
-same_taken_up : (t : List Entry) (row : RowNumber) (format : ℕ) (payload : List ℕ) (at : Attachment) → taken_up_by t row format payload at ≡ taken_up_by (untaken t) row format payload at
-same_taken_up t row format payload at = λ j. record {
+same_taken_up : (t : List Entry) (row : RowNumber) (how : Resumed) (format : ℕ) (payload : List ℕ) (at : Attachment) → taken_up_by t row how format payload at ≡ taken_up_by (untaken t) row how format payload at
+same_taken_up t row how format payload at = λ j. record {
   consumer = at;
   origin = origin_in (same_called t (Row row) j);
   row = Some row;
   lasting = same_lasts t at j;
   format = format;
-  payload = payload;
-  taken_up = true;
+  payload = payload_as how payload;
+  taken_up = Some (record { how = how; told = told_in (same_called t (Row row) j); early = early_in (same_called t (Row row) j) });
 }
 
-untaken_bound_to : (at : Attachment) (rs : List WaitingRow) (t u : List Entry) → untaken t ≡ u → untaken (bound_to at rs t) ≡ bound_to at rs u
+untaken_bound_to : (at : Attachment) (rs : List Sending) (t u : List Entry) → untaken t ≡ u → untaken (bound_to at rs t) ≡ bound_to at rs u
 untaken_bound_to at [] t u e = e
 untaken_bound_to at (r ∷ rs) t u e =
-    untaken_bound_to at rs (Bound (taken_up_by t r.number r.format r.payload at) ∷ t) (Bound (taken_up_by u r.number r.format r.payload at) ∷ u)
-    (λ j. Bound ((same_taken_up t r.number r.format r.payload at ∙ ap (λ (v : List Entry). taken_up_by v r.number r.format r.payload at) e) j) ∷ e j)
+    untaken_bound_to at rs (Bound (taken_up_by t r.row r.how r.format r.payload at) ∷ t) (Bound (taken_up_by u r.row r.how r.format r.payload at) ∷ u)
+    (λ j. Bound ((same_taken_up t r.row r.how r.format r.payload at ∙ ap (λ (v : List Entry). taken_up_by v r.row r.how r.format r.payload at) e) j) ∷ e j)
 
-untaken_if : (at : Option Attachment) (rs : List WaitingRow) (t : List Entry) → untaken (bound_if at rs t) ≡ bound_if at rs (untaken t)
+untaken_if : (at : Option Attachment) (rs : List Sending) (t : List Entry) → untaken (bound_if at rs t) ≡ bound_if at rs (untaken t)
 untaken_if None rs t = refl
 untaken_if (Some at) rs t = untaken_bound_to at rs t (untaken t) refl
 
-pub untaken_rows : (k : Option LinkKey) (rs : List WaitingRow) (t : List Entry) → untaken (with_rows k rs t) ≡ with_rows k rs (untaken t)
+pub untaken_rows : (k : Option LinkKey) (rs : List Sending) (t : List Entry) → untaken (with_rows k rs t) ≡ with_rows k rs (untaken t)
 untaken_rows None rs t = refl
 untaken_rows (Some k) rs t = untaken_if (consumer_with t k) rs t ∙ ap (λ (at : Option Attachment). bound_if at rs (untaken t)) (same_consumer_with t k)
 

@@ -38,8 +38,8 @@ use Rattle.reply_rows.specs.Rows.{Finds, said, item_reply}
 use Rattle.reply_rows.specs.Finding.{finds}
 use Rattle.reply_rows.specs.Booking.{wants_durable, wanted_address, new_terminus, has_room, durable_refusal, book_refusal, booked_attach, stands_from, repeats, booked_transfer, booked, answer_at}
 use Rattle.reply_transfers.specs.Transfers.{claimed_id, settled_answers, from_link, origin_of, lasts_on, may_pass, consumer_for, fresh_bound, whole_bound, let_go, unless_many, ignored_put, released_by, released, unbound_put, whole_put, part_put, part_bound}
-use Rattle.router_reply.specs.Resuming.{receives, consumer_key, rows_for, map_of}
-use Rattle.router_reply.specs.Replies.{map_for, stolen_by, attach_answer, taken_after, taken, refused, row_found, bound_for, links_put, item_put}
+use Rattle.router_reply.specs.Resuming.{receives, consumer_key, map_for}
+use Rattle.router_reply.specs.Replies.{map_told, stolen_by, attach_answer, taken_after, taken, refused, row_found, bound_for, links_put, item_put}
 use Rattle.theorems.specs.Takes.{untaken}
 use Rattle.theorems.proofs.Untaken.{untaken_goes, same_journaled, same_place, same_free}
 use Rattle.theorems.proofs.UntakenDeliveries.{same_named, same_delivery, same_claims, same_numbered}
@@ -109,8 +109,8 @@ same_taken t c own ours a =
 pub same_consumer_key : (t : List Entry) (c : ℕ) (a : AnAttach) → consumer_key t c a ≡ consumer_key (untaken t) c a
 same_consumer_key t c a = λ j. if wants_durable a && receives a.role then Some (same_key_at t c (plain_answer a 0) j) else None
 
-same_map : (t : List Entry) (c own : ℕ) (a : AnAttach) → map_for t c a (Attach own) ≡ map_for (untaken t) c a (Attach own)
-same_map t c own a = λ j. map_of (rows_for (same_journaled t j).book (same_consumer_key t c a j))
+same_map : (t : List Entry) (c own : ℕ) (a : AnAttach) → map_told t c a (Attach own) ≡ map_told (untaken t) c a (Attach own)
+same_map t c own a = λ j. map_for (same_journaled t j).book (Some a) (same_consumer_key t c a j)
 
 -- a whole delivery
 
@@ -174,7 +174,7 @@ same_lasts t at = ap (λ (l : Option Link). is_some (durable_key l)) (same_link 
 same_binding : (t : List Entry) (origin : Option Origin) (row : Option RowNumber) (format : ℕ) (payload : List ℕ) (at : Attachment)
     → binding_to t origin row format payload at ≡ binding_to (untaken t) origin row format payload at
 same_binding t origin row format payload at =
-    λ j. record { consumer = at; origin = origin; row = row; lasting = same_lasts t at j; format = format; payload = payload; taken_up = false }
+    λ j. record { consumer = at; origin = origin; row = row; lasting = same_lasts t at j; format = format; payload = payload; taken_up = None }
 
 same_binding_for : (t : List Entry) (from : Attachment) (origin : Option Origin) (row : Option RowNumber) (format : ℕ) (payload : List ℕ)
     → binding_for t from origin row format payload ≡ binding_for (untaken t) from origin row format payload
@@ -221,7 +221,7 @@ same_links t u c (item.Frame sasl channel body payload) a rows = by_perf body a
     by_attach : (x : AnAttach) (a : Answer)
         → links_put t u c (item.Frame sasl channel (perf.Attach x) payload) a ≡ links_put (untaken t) (untaken u) c (item.Frame sasl channel (perf.Attach x) payload) a
     by_attach x (Attach own) =
-        (λ j. taken u c own (same_map t c own x j) x) ∙ same_taken u c own (map_for (untaken t) c x (Attach own)) x
+        (λ j. taken u c own (same_map t c own x j) x) ∙ same_taken u c own (map_told (untaken t) c x (Attach own)) x
     by_attach x (Refuse own handle e) = ap (λ (n : ℕ). each_to c (refused n own handle e x)) (same_largest u c)
     by_attach x _ = refl
 

@@ -1,6 +1,6 @@
 -- Durable messages and the book (AMQP 1.0 part 2, sections 2.6.12 and 2.7.5; part 3, sections 3.5.3 to 3.5.5): a message that has a row is bound once the
 -- row is in the book.
-use Rattle.std.specs.Prelude.{◌≡◌, ◌<◌, ◌≤◌, ℕ, ◌+◌, ◌==◌, ◌&&◌, Bool, true, false, not, if◌then◌else◌, [], ◌∷◌, Option, Some, None, unwrap_or, List}
+use Rattle.std.specs.Prelude.{◌≡◌, ◌<◌, ◌≤◌, ℕ, ◌+◌, ◌==◌, ◌&&◌, Bool, true, false, is_none, is_some, if◌then◌else◌, [], ◌∷◌, Option, Some, None, unwrap_or, List}
 use Rattle.amqp_link.specs.declared.part.Delivery.{Delivery as Told}
 use Rattle.book_model.specs.declared.act.Act.TheVariants.{Admit}
 use Rattle.book_model.specs.declared.act.Admission.{Admission}
@@ -52,7 +52,7 @@ IsAdmittedUnless true t b = Unit {0}
 IsAdmittedUnless false t b = IsAdmittedUnder t b b.row
 
 abbrev pub RowIsAdmitted : Trace → Binding → Type 0
-RowIsAdmitted t b = IsAdmittedUnless b.taken_up t b
+RowIsAdmitted t b = IsAdmittedUnless (is_some b.taken_up) t b
 
 -- how often the row with a number was bound, but for the times when it was taken up again
 abbrev pub is_row : Option RowNumber → ℕ → Bool
@@ -64,7 +64,7 @@ times_bound [] n = 0
 times_bound (Did s ∷ t) n = times_bound t n
 times_bound (Out c i ∷ t) n = times_bound t n
 times_bound (Took c k ∷ t) n = times_bound t n
-times_bound (Bound b ∷ t) n = times_bound t n + (if not b.taken_up && is_row b.row n then 1 else 0)
+times_bound (Bound b ∷ t) n = times_bound t n + (if is_none b.taken_up && is_row b.row n then 1 else 0)
 times_bound (Booked acts full ∷ t) n = times_bound t n
 times_bound (Began g ∷ t) n = times_bound t n
 

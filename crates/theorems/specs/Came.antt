@@ -19,12 +19,13 @@ use Rattle.router_trace.specs.declared.event.ConnectionId.{ConnectionId}
 use Rattle.router_trace.specs.declared.event.Event.TheVariants as event
 use Rattle.router_trace.specs.Trace.{Trace, Did, Out, Took, Bound, Booked, Began, Step}
 use Rattle.router_trace.specs.declared.binding.DeliveryName.TheVariants.{Row}
-use Rattle.router_trace.specs.Deliveries.{Delivery, delivery as delivery_in, called, origin_in}
+use Rattle.router_trace.specs.declared.binding.TakenUp.{TakenUp}
+use Rattle.router_trace.specs.Deliveries.{Delivery, delivery as delivery_in, called, outcome_as, origin_in, told_in, early_in}
 use Rattle.router_trace.specs.Sessions.{theirs}
 use Rattle.router_trace.specs.Links.{Link, receives, link, link_place, on}
 use Rattle.router_trace.specs.Settling.{is_claimed_on}
 use Rattle.state_messages.specs.Asking.{consumer_with}
-use Rattle.state_messages.specs.Messages.{consumer_of, lasts}
+use Rattle.state_messages.specs.Messages.{consumer_of, lasts, payload_as}
 use Rattle.reply_transfers.specs.Transfers.{claimed_id, from_link, lasts_on}
 use Rattle.router_reply.specs.Acts.{book_in}
 use Rattle.router_reply.specs.Replies.{row_found}
@@ -107,23 +108,28 @@ pub record BindsMessage (t : Trace) (b : Binding) : Type 0 where
   pub has_row : HasRowOn (lasts_on (Some producer)) b.origin b.row
   pub lasting : b.lasting ≡ lasts t b.consumer
 
--- A row is bound again when a consumer's durable link takes it up: the book has it, undecided, for the terminus of that
--- link. It is bound as the book has it, and its producer's delivery is that of the delivery which it had until then.
+-- A row is bound again when a consumer's durable link takes it up: the book has it for the terminus of that link. It is
+-- bound as the book has it: with its outcome, if it is decided, and else with its message. Its producer's delivery is
+-- that of the delivery which it had until then, whether that was told, or settled early, or neither.
 pub record TakesUp (t : Trace) (b : Binding) : Type 0 where
+  pub brought : TakenUp
+  pub taken : b.taken_up ≡ Some brought
   pub row : ARow
   pub number : b.row ≡ Some row.number
   pub earlier : List ARow
   pub later : List ARow
   pub kept : (book_in t).rows ≡ earlier ++ row ∷ later
-  pub undecided : row.outcome ≡ None
+  pub outcome : outcome_as brought.how ≡ row.outcome
   pub format : b.format ≡ row.format
-  pub payload : b.payload ≡ row.payload
+  pub payload : b.payload ≡ payload_as brought.how row.payload
   pub key : LinkKey
   pub terminus : Terminus
   pub of_key : terminus_of key (book_in t).termini ≡ Some terminus
   pub waits : is_for terminus.number.0 row ≡ true
   pub attached : consumer_with t key ≡ Some b.consumer
   pub origin : b.origin ≡ origin_in (called t (Row row.number))
+  pub told : brought.told ≡ told_in (called t (Row row.number))
+  pub early : brought.early ≡ early_in (called t (Row row.number))
   pub lasting : b.lasting ≡ lasts t b.consumer
 
 -- What is bound is a message, or a row that is taken up again.
@@ -132,7 +138,7 @@ BindsAs true t b = TakesUp t b
 BindsAs false t b = BindsMessage t b
 
 abbrev pub BindsOrTakesUp : Trace → Binding → Type 0
-BindsOrTakesUp t b = BindsAs b.taken_up t b
+BindsOrTakesUp t b = BindsAs (is_some b.taken_up) t b
 
 -- So each delivery is of a message that was received completely and was bound, or of a row that was taken up.
 pub record CameAndWasBound (u : Trace) (n : ℕ) (d : Delivery) : Type 0 where

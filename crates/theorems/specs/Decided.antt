@@ -1,6 +1,6 @@
 -- What decided a delivery (AMQP 1.0 part 2, sections 2.6.12 and 2.7.6; the outcomes in part 3, section 3.4): an entry of the trace, which
 -- gives the outcome. All of this holds of any trace.
-use Rattle.std.specs.Prelude.{◌≡◌, ℕ, Bool, true, false, List, ◌∷◌, ◌++◌, Some, None}
+use Rattle.std.specs.Prelude.{◌≡◌, ℕ, ◌+◌, Bool, true, false, List, ◌∷◌, ◌++◌, Option, Some, None}
 use Rattle.amqp_model.specs.declared.perf.Disposition.{Disposition}
 use Rattle.amqp_model.specs.declared.perf.Perf.TheVariants as perf
 use Rattle.amqp_model.specs.declared.perf.Role.TheVariants.{Receiver}
@@ -13,9 +13,10 @@ use Rattle.amqp_session.specs.Ranges.{in_range}
 use Rattle.router_trace.specs.declared.event.ConnectionId.{ConnectionId}
 use Rattle.router_trace.specs.declared.event.Event.TheVariants as event
 use Rattle.router_trace.specs.declared.channel.PeerChannel.TheVariants.{Mapped}
-use Rattle.router_trace.specs.Trace.{Trace, Entry, Did, Out, Step, IsOneRun}
+use Rattle.router_trace.specs.declared.binding.Binding.{Binding}
+use Rattle.router_trace.specs.Trace.{Trace, Entry, Did, Out, Bound, Step, IsOneRun}
 use Rattle.router_trace.specs.Links.{ends_handle}
-use Rattle.router_trace.specs.Deliveries.{Delivery, channels_found, number_named, delivery, named, terminal, decision, failed, closes, last_of, tag_in, carried, sending}
+use Rattle.router_trace.specs.Deliveries.{Delivery, bindings, brought, outcome_as, channels_found, number_named, delivery, named, terminal, decision, failed, closes, last_of, tag_in, carried, sending}
 
 -- Its consumer gave it: a disposition was received, as a receiver's, on the link's session; the delivery's id is in its range, and
 -- names this delivery; the outcome is its state if that is terminal, and modified with delivery-failed if it settles without one.
@@ -75,12 +76,25 @@ pub record SentSettled (entry : Entry) (t : Trace) (n : ℕ) (d : Delivery) : Ty
   pub last : transfer.more ≡ false
   pub presettled : d.presettled ≡ true
 
+-- A row that its consumer's link takes up again may be decided: its binding brings the outcome that the book has of it (`TakesUp`). So there was no
+-- delivery with that number before.
+pub record BroughtBack (entry : Entry) (t : Trace) (n : ℕ) (outcome : DeliveryState) : Type 0 where
+  pub binding : Binding
+  pub entry_is : entry ≡ Bound binding
+  pub number : bindings t + 1 ≡ n
+  pub brings : brought (λ u. outcome_as u.how) binding.taken_up ≡ Some outcome
+
 -- an entry after a trace decides the delivery with a number, as it was in the trace
 pub data Decides (entry : Entry) (t : Trace) (n : ℕ) (d : Delivery) (outcome : DeliveryState) : Type 0 where
   given_by_consumer : GivenByConsumer entry t n d outcome → Decides entry t n d outcome
   link_lost : LinkLost entry d → d.outcome ≡ None → outcome ≡ failed → Decides entry t n d outcome
   link_ended : LinkEnded entry d → d.outcome ≡ None → outcome ≡ failed → Decides entry t n d outcome
   sent_settled : SentSettled entry t n d → outcome ≡ state.Accepted → Decides entry t n d outcome
+
+-- it decides the delivery that was found there, or brings it decided
+abbrev pub DecidesFound : Entry → Trace → ℕ → Option Delivery → DeliveryState → Type 0
+DecidesFound entry t n None outcome = BroughtBack entry t n outcome
+DecidesFound entry t n (Some d) outcome = Decides entry t n d outcome
 
 -- an entry of a trace decided a delivery in this run, and the outcome is the one that it gives
 pub record Decided (u : Trace) (n : ℕ) (outcome : DeliveryState) : Type 0 where
@@ -89,20 +103,25 @@ pub record Decided (u : Trace) (n : ℕ) (outcome : DeliveryState) : Type 0 wher
   pub before : Trace
   pub trace : u ≡ later ++ entry ∷ before
   pub one_run : IsOneRun later
-  pub found : Delivery
-  pub there : delivery before n ≡ Some found
-  pub decides : Decides entry before n found outcome
+  pub found : Option Delivery
+  pub there : delivery before n ≡ found
+  pub decides : DecidesFound entry before n found outcome
 
--- the delivery is decided by its consumer, or by the end of the consumer's link
+-- the delivery is decided by its consumer, or by the end of the consumer's link, or was brought decided
 abbrev pub IsByConsumer : (entry : Entry) (t : Trace) (n : ℕ) (d : Delivery) (outcome : DeliveryState) → Decides entry t n d outcome → Type 0
 IsByConsumer entry t n d outcome (sent_settled by accepted) = ⊥
 IsByConsumer entry t n d outcome _ = Unit {0}
 
+abbrev pub IsFoundByConsumer : (entry : Entry) (t : Trace) (n : ℕ) (found : Option Delivery) (outcome : DeliveryState) → DecidesFound entry t n found outcome → Type 0
+IsFoundByConsumer entry t n None outcome decides = Unit {0}
+IsFoundByConsumer entry t n (Some d) outcome decides = IsByConsumer entry t n d outcome decides
+
 pub record DecidedByConsumer (u : Trace) (n : ℕ) (outcome : DeliveryState) : Type 0 where
   pub decided : Decided u n outcome
-  pub by_consumer : IsByConsumer decided.entry decided.before n decided.found outcome decided.decides
+  pub by_consumer : IsFoundByConsumer decided.entry decided.before n decided.found outcome decided.decides
 
--- Each outcome of a delivery is as it was given: by its consumer, or the end of the consumer's link, if its producer hadn't settled it.
+-- Each outcome of a delivery is as it was given: by its consumer, or the end of the consumer's link, or as the book had it of a row that was taken up
+-- again, if its producer hadn't settled it.
 abbrev pub OutcomesAreGiven : Type 0
 OutcomesAreGiven = (u : Trace) (n : ℕ) (d : Delivery) (outcome : DeliveryState)
     → delivery u n ≡ Some d → d.outcome ≡ Some outcome → Decided u n outcome

@@ -1,6 +1,6 @@
 -- A message is bound to one consumer, and to no other (AMQP 1.0 part 2, sections 2.6.12 and 2.7.5: a delivery belongs to one link, and has one
 -- payload). All of this holds of any trace.
-use Rattle.std.specs.Prelude.{◌≡◌, ◌≤◌, ◌⊎◌, ◌&&◌, not, ℕ, ◌+◌, ◌∷◌, ◌++◌, Option, Some, None, is_none}
+use Rattle.std.specs.Prelude.{◌≡◌, ◌≤◌, ◌⊎◌, ◌&&◌, ℕ, ◌+◌, ◌∷◌, ◌++◌, Option, Some, None, is_none}
 use Rattle.router_trace.specs.declared.binding.Binding.{Binding}
 use Rattle.router_trace.specs.declared.binding.Origin.{Origin}
 use Rattle.router_trace.specs.Trace.{Trace, Bound, IsOneRun}
@@ -18,7 +18,7 @@ pub record IsOf (b : Binding) (d : Delivery) : Type 0 where
   pub payload : d.payload ≡ b.payload
   pub format : d.format ≡ b.format
   pub origin : IsOrNone d.origin b.origin
-  pub presettled : d.presettled ≡ (is_none b.origin && not b.taken_up)
+  pub presettled : d.presettled ≡ (is_none b.origin && is_none b.taken_up)
   pub lasting : d.lasting ≡ (has_row d.name && b.lasting)
 
 -- as long as a delivery exists

@@ -1,14 +1,11 @@
--- What a consumer's link takes up again: its key is that before its attach too, and its rows are among those of its
--- terminus.
-use Rattle.std.proofs.Common.{◌≡◌, refl, ap, ℕ, Bool, true, false, ◌==◌, ◌&&◌, ◌||◌, List, [], ◌∷◌, Option, Some, None}
-use Rattle.std.specs.Prelude.{filter, if◌then◌else◌}
+-- What a consumer's link takes up again: its key is that before its attach too.
+use Rattle.std.proofs.Common.{◌≡◌, refl, ap, ℕ, Bool, true, false, ◌==◌, ◌&&◌, List, ◌∷◌, Option, Some, None}
+use Rattle.std.specs.Prelude.{if◌then◌else◌}
 use Rattle.amqp_model.specs.declared.perf.Attach.{Attach as AnAttach}
 use Rattle.amqp_model.specs.declared.perf.Perf.{Perf}
 use Rattle.amqp_model.specs.declared.perf.Perf.TheVariants as perf
 use Rattle.amqp_model.specs.declared.item.Item.{Item}
 use Rattle.amqp_model.specs.declared.item.Item.TheVariants as item
-use Rattle.book_model.specs.Book.{is_from, is_for, is_of, is_undecided}
-use Rattle.book_model.specs.declared.row.Row.{Row}
 use Rattle.router_trace.specs.declared.event.ConnectionId.{ConnectionId}
 use Rattle.router_trace.specs.declared.event.Event.{Event}
 use Rattle.router_trace.specs.declared.event.Event.TheVariants as event
@@ -16,30 +13,10 @@ use Rattle.router_trace.specs.LinkFrames.{plain_answer}
 use Rattle.router_trace.specs.Links.{key_of}
 use Rattle.router_trace.specs.Peers.{Container, container, user}
 use Rattle.router_trace.specs.Trace.{Trace, did}
-use Rattle.state_connections.proofs.Lists.{by_test}
 use Rattle.reply_rows.specs.Booking.{wants_durable}
 use Rattle.reply_rows.specs.declared.answer.Answer.{Answer}
 use Rattle.reply_rows.specs.declared.answer.Answer.TheVariants.{Attach}
-use Rattle.router_reply.specs.Resuming.{receives, key_taken, key_by, key_in, resumed_key, waits_for}
-
--- a filter after one that passes all that it does
-filter_within : {A : Type 0} (p q : A → Bool) → ((x : A) → p x ≡ false → q x ≡ false) → (xs : List A) → filter q (filter p xs) ≡ filter q xs
-filter_within p q none [] = refl
-filter_within p q none (x ∷ xs) =
-    by_test (p x)
-    (λ e. by_test (q x)
-    (λ f. rw (e, f) (ap (λ ys. x ∷ ys) (filter_within p q none xs)))
-    (λ f. rw (e, f) (filter_within p q none xs)))
-    (λ e. rw (e, none x e) (filter_within p q none xs))
-
--- what waits for a terminus is one of its rows
-waits_not : (from bound undecided : Bool) → (from || bound) ≡ false → (bound && undecided) ≡ false
-waits_not true bound undecided e = absurd cc
-waits_not false true undecided e = absurd cc
-waits_not false false undecided e = refl
-
-pub all_waiting : (n : ℕ) (rows : List Row) → filter (waits_for n) (filter (is_of n) rows) ≡ filter (waits_for n) rows
-all_waiting n rows = filter_within (is_of n) (waits_for n) (λ r e. waits_not (is_from n r) (is_for n r) (is_undecided r) e) rows
+use Rattle.router_reply.specs.Resuming.{receives, key_taken, key_by, key_in, resumed_key}
 
 -- an attach says nothing of its container
 told_kept : (here sasl : Bool) (told : Option Container) → (if here then (if sasl then told else told) else told) ≡ told
