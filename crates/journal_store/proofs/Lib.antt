@@ -12,4 +12,5 @@ pub mod Rowwise
 pub mod Settled
 pub mod Released
 pub mod Gathered
+pub mod Given
 pub mod Events

@@ -1,19 +1,21 @@
--- A store whose disk is left alone.
-use Rattle.std.proofs.Common.{◌≡◌, ℕ, List, sym, subst}
+-- A store whose two files are left alone.
+use Rattle.std.proofs.Common.{◌≡◌, ℕ, sym, subst}
 use Rattle.disk_core.specs.Disk.{LeavesOnly}
 use Rattle.disk_core.specs.DiskLaws.{started}
-use Rattle.journal_codec.specs.Batches.{Holds}
+use Rattle.disk_core.specs.Twin.{Contents}
 use Rattle.journal_store.specs.declared.store.Store.{Store}
-use Rattle.journal_store.specs.Store.{OpensTo, Stands, disk_of, book_of}
+use Rattle.journal_store.specs.Store.{OpensTo, Stands, twin_of, book_of}
+use Rattle.journal_store.proofs.Opened.{kept_opens}
+
+-- whatever a crash leaves of a store that stands opens to its book
+pub left_opens : {T : Type 0} (seen : T → Contents) (may_leave : T → Contents → Type 0) (s : Store T) (c : Contents) → Stands seen may_leave s → may_leave (twin_of s) c → OpensTo c (book_of s)
+left_opens seen may_leave s c stands left =
+    subst (λ (d : Contents). OpensTo d (book_of s)) (sym (stands.keeps.at.durable c left)) (kept_opens seen may_leave s.journal s.kept.book stands)
 
 -- a crash leaves the book that it would have left before
-pub unmoved : {D : Type 0} (seen : D → List ℕ) (may_leave : D → List ℕ → Type 0) (moment : D → ℕ) (left_since : D → ℕ → List ℕ → Type 0)
-    → ((disk : D) (c : List ℕ) → left_since disk (moment disk) c → may_leave disk c) → (old : Store D) (disk : D) → disk ≡ disk_of old → Stands seen may_leave old
-    → LeavesOnly moment left_since (disk_of old) disk (λ c. OpensTo c (book_of old))
-unmoved seen may_leave moment left_since only_now old disk same stands =
-    subst (λ d. LeavesOnly moment left_since (disk_of old) d (λ c. OpensTo c (book_of old))) (sym same)
-    (started moment left_since (disk_of old) (λ c. OpensTo c (book_of old)) (λ c left. record {
-      batches = stands.batches;
-      holds = subst (λ (file : List ℕ). Holds file stands.batches) (sym (stands.keeps.at.durable c (only_now (disk_of old) c left))) stands.keeps.at.file;
-      leaves = stands.leaves;
-    }))
+pub unmoved : {T : Type 0} (seen : T → Contents) (may_leave : T → Contents → Type 0) (moment : T → ℕ) (left_since : T → ℕ → Contents → Type 0)
+    → ((twin : T) (c : Contents) → left_since twin (moment twin) c → may_leave twin c) → (old : Store T) (twin : T) → twin ≡ twin_of old → Stands seen may_leave old
+    → LeavesOnly moment left_since (twin_of old) twin (λ c. OpensTo c (book_of old))
+unmoved seen may_leave moment left_since only_now old twin same stands =
+    subst (λ d. LeavesOnly moment left_since (twin_of old) d (λ c. OpensTo c (book_of old))) (sym same)
+    (started moment left_since (twin_of old) (λ c. OpensTo c (book_of old)) (λ c left. left_opens seen may_leave old c stands (only_now (twin_of old) c left)))

@@ -1,60 +1,15 @@
--- Sound books: a file opens to one, and the numbers of one rise.
-use Rattle.std.proofs.Common.{◌≡◌, sym, subst, ℕ, ◌<◌, List, [], ◌∷◌}
-use Rattle.std.specs.List.{AllByRecursion}
-use Rattle.std.proofs.lemmas.List.Elements.{recursion_from_All}
-use Rattle.book_model.specs.declared.act.Act.{Act}
-use Rattle.book_model.specs.declared.row.Row.{Row}
-use Rattle.book_model.specs.declared.terminus.Terminus.{Terminus}
-use Rattle.book_model.specs.Book.{BookView, empty_book, effects}
-use Rattle.book_model.specs.Sound.{IsSound, IsSoundRow, IsSoundTerminus}
-use Rattle.book_laws.proofs.KeptSound.{empty_sound, acts_keep}
-use Rattle.book_laws.proofs.Lists.{Pairs, pairs_of}
-use Rattle.book_core.specs.Rising.{Rises, AllAbove, AllBelow}
-use Rattle.journal_codec.specs.Batches.{AllApply, book_after}
-use Rattle.gate_journal.specs.Ordered.{IsOrdered, number_of_row, number_of_terminus}
-use Rattle.gate_journal.specs.Reserve.{reserve}
+-- Sound books: two files open to one, and the numbers of one rise.
+use Rattle.disk_core.specs.Twin.{Contents}
+use Rattle.book_model.specs.Book.{BookView}
+use Rattle.book_model.specs.Sound.{IsSound}
+use Rattle.gate_journal.specs.Ordered.{IsOrdered}
+use Rattle.twin_journal.proofs.Ordered as ordered
+use Rattle.twin_journal.proofs.Unique as unique
 use Rattle.journal_store.specs.Store.{OpensTo}
 
--- Batches that apply keep a book sound.
-batches_keep : (b : BookView) (bs : List (List Act)) → IsSound b → AllApply b bs → IsSound (book_after b bs)
-unfolding AllApply book_after
-batches_keep b [] sound all = sound
-batches_keep b (acts ∷ bs) sound all = batches_keep (effects b acts) bs (acts_keep b acts all.1 sound) all.2
-
--- the book to which a file opens
-pub opened_sound : (file : List ℕ) (b : BookView) → OpensTo file b → IsSound b
-opened_sound file b opens = subst IsSound (sym opens.leaves) (batches_keep empty_book opens.batches empty_sound opens.holds.valid)
-
--- Numbers of which each is below those after it, and each of which is between two others.
-module _ {V : Type 0} (number : V → ℕ) (n : ℕ) (P : V → Type 0) where
-  above : ((v : V) → P v → n < number v) → (vs : List V) → AllByRecursion P vs → AllAbove number n vs
-  above is [] all = tt
-  above is (v ∷ vs) all = (is v all.0, above is vs all.1)
-
-  below : ((v : V) → P v → number v < n) → (vs : List V) → AllByRecursion P vs → AllBelow number n vs
-  below is [] all = tt
-  below is (v ∷ vs) all = (is v all.0, below is vs all.1)
-
-module _ {V : Type 0} (number : V → ℕ) where
-  rise : (vs : List V) → Pairs (λ (v w : V). number v < number w) vs → Rises number vs
-  rise [] pairs = tt
-  rise (v ∷ vs) pairs = (above number (number v) (λ (w : V). number v < number w) (λ w less. less) vs pairs.0, rise vs pairs.1)
+-- the book to which two files open
+pub opened_sound : (contents : Contents) (b : BookView) → OpensTo contents b → IsSound b
+opened_sound = unique.opened_sound
 
 pub sound_is_ordered : (b : BookView) → IsSound b → IsOrdered b
-sound_is_ordered b sound =
-    let rows = recursion_from_All (IsSoundRow b.termini b.next_row) b.rows sound.rows in
-    let termini = recursion_from_All (IsSoundTerminus b.next_terminus) b.termini sound.termini in
-    record {
-      rows_rise = rise number_of_row b.rows (pairs_of (λ (r s : Row). r.number.0 < s.number.0) b.rows sound.rows_rise);
-      rows_below = below number_of_row b.next_row (IsSoundRow b.termini b.next_row) (λ r is. is.below) b.rows rows;
-      termini_rise = rise number_of_terminus b.termini (pairs_of (λ (t u : Terminus). t.number.0 < u.number.0) b.termini sound.termini_rise);
-      termini_below = below number_of_terminus b.next_terminus (IsSoundTerminus b.next_terminus) (λ t is. is.below) b.termini termini;
-      termini_above = above number_of_terminus 0 (IsSoundTerminus b.next_terminus) (λ t is. is.above) b.termini termini;
-      next_above = sound.next_terminus;
-    }
-
--- what is kept free after acts, of a sound book
-pub kept_after : (b given : BookView) (acts : List Act) (old new : ℕ) → IsSound given → given ≡ b
-    → (IsOrdered given → old ≡ reserve given → new ≡ reserve (effects given acts)) → old ≡ reserve b → new ≡ reserve (effects b acts)
-kept_after b given acts old new sound same behind =
-    subst (λ (x : BookView). old ≡ reserve x → new ≡ reserve (effects x acts)) same (behind (sound_is_ordered given sound))
+sound_is_ordered = ordered.sound_is_ordered

@@ -9,14 +9,17 @@ use Rattle.amqp_model.specs.Texts.{given, described_text, joined}
 use Rattle.amqp_model.specs.PerfSpelling.{state_spelling, modified_texts}
 use Rattle.book_model.specs.declared.row.Row.{Row}
 use Rattle.book_model.specs.Book.{BookView, refusal, effect, first_fault, row_at, with_row, decided, is_undecided}
+use Rattle.book_model.specs.Sound.{IsSound}
 use Rattle.book_core.specs.Rising.{Rises, AllAbove}
 use Rattle.book_core.proofs.Shown as shown
 use Rattle.journal_codec.specs.Batches.{HaveOutcomes, IsOutcome}
 use Rattle.journal_codec.specs.Format.{act_bytes, acts_bytes, in_8, in_2}
 use Rattle.journal_codec.proofs.Spelled.{length-in_2, length-in_8}
-use Rattle.gate_journal.specs.Reserve.{OnlyRelease, IsFull}
-use Rattle.gate_journal.proofs.Releases.{releases_fit}
+use Rattle.gate_journal.specs.Reserve.{OnlyRelease}
 use Rattle.journal_codec.proofs.Terminal.{is_outcome}
+use Rattle.twin_journal.specs.Room.{IsFull}
+use Rattle.twin_journal.proofs.Fulls.{releases_are_taken}
+use Rattle.journal_store.proofs.Sound.{sound_is_ordered}
 use Rattle.journal_store.specs.Lost.{failed, is_lost, failure_of, start_acts}
 
 abbrev number_of_row : Row → ℕ
@@ -150,5 +153,5 @@ all_release : (rs : List Row) → OnlyRelease (map failure_of rs)
 all_release [] = tt
 all_release (r ∷ rs) = (short_outcome, all_release rs)
 
-pub start_fits : (b : BookView) (used kept : ℕ) → start_acts b ≢ [] → IsFull used kept (start_acts b) → ⊥
-start_fits b used kept some full = releases_fit (start_acts b) some (all_release (filter is_lost b.rows)) full.0
+pub start_fits : (b : BookView) → IsSound b → start_acts b ≢ [] → IsFull b (start_acts b) → ⊥
+start_fits b sound some = releases_are_taken b (start_acts b) sound (start_applies b (sound_is_ordered b sound).rows_rise) some (all_release (filter is_lost b.rows))

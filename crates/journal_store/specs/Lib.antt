@@ -1,4 +1,5 @@
 pub mod Acting
+pub mod Exceeding
 pub mod Lost
 pub mod Settling
 pub mod Store

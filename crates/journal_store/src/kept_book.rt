@@ -1,10 +1,11 @@
 //! The book of a store, and what can be written to it.
-ghost use Rattle.std.specs.Prelude.{◌≡◌, ◌≤◌, None, length, OnOk, OnErr, IfOk};
+ghost use Rattle.std.specs.Prelude.{◌≡◌, ◌≤◌, None, false, length, OnOk, OnErr, IfOk};
 ghost use Rattle.book_model.specs.Book.{first_fault, effects};
 ghost use Rattle.book_model.specs.Sound.{IsSound};
 ghost use Rattle.journal_codec.specs.Batches.{HaveOutcomes};
 ghost use Rattle.journal_codec.specs.Format.{acts_bytes};
 ghost use Rattle.journal_store.specs.Acting.{admission_acts, event_acts};
+ghost use Rattle.journal_store.specs.Exceeding.{exceeds};
 ghost use Rattle.journal_store.specs.Lost.{start_acts};
 ghost use Rattle.journal_store.specs.Writable.{Writable};
 
@@ -48,12 +49,13 @@ impl KeptBook {
     }
 
     /// What a router decides when it starts on this book. It can be written: the acts apply, they fit a batch, and their
-    /// outcomes are given back by their encodings.
+    /// outcomes are given back by their encodings. A journal of the book is never too full for it.
     pub fn start_acts(&self, alloc: Global) -> Result<Vec<Act>, AllocError>
         ensures acts { IfOk result (λ acts. acts.items ≡ start_acts self.now.book) }
         ensures applies { IfOk result (λ acts. first_fault self.now.book acts.items ≡ None) }
         ensures small { IfOk result (λ acts. length (acts_bytes acts.items) ≤ 4194304) }
         ensures outcomes { IfOk result (λ acts. HaveOutcomes acts.items) }
+        ensures fits { exceeds self.now.book (start_acts self.now.book) ≡ false }
     {
         self.book.is_sound();
         start_acts(alloc, &self.book)

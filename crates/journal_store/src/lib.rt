@@ -1,5 +1,5 @@
-//! The delivery store of a router: the book of its durable deliveries, and the journal that keeps it on a disk. What is
-//! written to the store is on the disk, whole or not at all, wherever a crash comes.
+//! The delivery store of a router: the book of its durable deliveries, and the journal that keeps it on two files.
+//! What is written to the store is on them, whole or not at all, wherever a crash comes.
 #![tactic(auto)]
 
 mod acting;

@@ -31,6 +31,12 @@ pub record IsFull (b : BookView) (acts : List Act) : Type 0 where
   pub costs : Costs b acts
   pub exceeds : Exceeds b acts
 
+-- The same as a test (`fullness_is_tested`).
+unfoldable pub is_full : BookView → List Act → Bool
+is_full b acts =
+    nat_lt (reserve b) (batch_bytes acts + reserve (effects b acts))
+    && nat_lt journal_limit (renewed_bytes b + batch_bytes acts + reserve (effects b acts))
+
 -- What a journal knows of its book without asking it: what the book needs free, and a bound to the bytes of its
 -- checkpoint.
 pub record Suits (needs : Needs) (b : BookView) : Type 0 where

@@ -190,15 +190,14 @@ impl<T: Twin> Journal<T> {
         }
     }
 
-    /// Whether `append` answers `Full` to a batch of acts that apply to the journal's book: it costs more than nothing,
-    /// and more than the room.
+    /// Whether `append` answers `Full` to a batch: it costs more than nothing, and more than the room. This is told of
+    /// acts that apply to the journal's book.
     ///
     /// # Errors
     ///
     /// `AllocError` where memory was refused, or an act can't be encoded.
     pub fn is_full(&self, book: &Book, acts: &[Act]) -> Result<bool, AllocError>
-        requires applies { first_fault book.now acts.now ≡ None }
-        ensures { IfOk result (λ full. SuitsBook self.now book.now → IsTrue full ↔ IsFull book.now acts.now) }
+        ensures { IfOk result (λ full. first_fault book.now acts.now ≡ None → SuitsBook self.now book.now → IsTrue full ↔ IsFull book.now acts.now) }
     {
         match plan_batch(self.alloc, self.figures, self.needs, book, acts) {
             Ok(_plan) => Ok(false),

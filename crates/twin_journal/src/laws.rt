@@ -1,5 +1,5 @@
 //! Laws of the journal's definitions. Each is the clause of a function that does nothing.
-ghost use Rattle.std.specs.Prelude.{◌≡◌, ◌≢◌, ◌<◌, ◌≤◌, ◌+◌, ◌⊎◌, ℕ, List, [], None, get_or, length};
+ghost use Rattle.std.specs.Prelude.{◌≡◌, ◌≢◌, ◌<◌, ◌≤◌, ◌+◌, ◌⊎◌, ◌↔◌, ℕ, List, [], true, None, get_or, length};
 ghost use Rattle.disk_core.specs.declared.side.Side.{Side};
 ghost use Rattle.disk_core.specs.Twin.{Contents};
 ghost use Rattle.book_model.specs.declared.act.Act.{Act};
@@ -11,7 +11,7 @@ ghost use Rattle.gate_journal.specs.declared.fault.OpenFault.TheVariants.{NotAJo
 ghost use Rattle.twin_journal.specs.Format.{checkpoint_size};
 ghost use Rattle.twin_journal.specs.Holding.{TwinHolds, OpensTo};
 ghost use Rattle.twin_journal.specs.Judging.{Explains, IsDamagedAt};
-ghost use Rattle.twin_journal.specs.Room.{IsFull, renewed_bytes};
+ghost use Rattle.twin_journal.specs.Room.{IsFull, is_full, renewed_bytes};
 ghost use Rattle.twin_journal.specs.Sides.{IsActive};
 
 /// At most one side is active.
@@ -65,4 +65,9 @@ pub fn room_stays()
     ensures new { renewed_bytes empty_book + reserve empty_book ≤ journal_limit }
     ensures batch { (b : BookView) (acts : List Act) → IsSound b → first_fault b acts ≡ None → (IsFull b acts → ⊥)
         → renewed_bytes b + reserve b ≤ journal_limit → renewed_bytes (effects b acts) + reserve (effects b acts) ≤ journal_limit }
+{}
+
+/// A batch costs more than nothing, and more than the room, exactly where the test says so.
+pub fn fullness_is_tested()
+    ensures { (b : BookView) (acts : List Act) → IsFull b acts ↔ (is_full b acts ≡ true) }
 {}

@@ -39,13 +39,12 @@ pub(crate) fn plan_batch(
     book: &Book,
     acts: &[Act],
 ) -> Result<Plan, JournalFault>
-    requires applies { first_fault book.now acts.now ≡ None }
     ensures spells { IfOk result (λ p. Spells p.batch acts.now) }
     ensures writable { OnOk result (HaveOutcomes acts.now → HaveTermini acts.now → AreWritable acts.now) }
-    ensures suits { IfOk result (λ p. Suits needs book.now → Suits p.after (effects book.now acts.now)) }
-    ensures due { IfOk result (λ p. Suits needs book.now → p.due ≡ is_due figures acts.now (reserve (effects book.now acts.now))) }
-    ensures full { IsErrOf result JournalFault.Full → Suits needs book.now → IsFull book.now acts.now }
-    ensures room { OnOk result (Suits needs book.now → IsFull book.now acts.now → ⊥) }
+    ensures suits { IfOk result (λ p. first_fault book.now acts.now ≡ None → Suits needs book.now → Suits p.after (effects book.now acts.now)) }
+    ensures due { IfOk result (λ p. first_fault book.now acts.now ≡ None → Suits needs book.now → p.due ≡ is_due figures acts.now (reserve (effects book.now acts.now))) }
+    ensures full { IsErrOf result JournalFault.Full → first_fault book.now acts.now ≡ None → Suits needs book.now → IsFull book.now acts.now }
+    ensures room { OnOk result (first_fault book.now acts.now ≡ None → Suits needs book.now → IsFull book.now acts.now → ⊥) }
     ensures fault { IfErr result (λ f. (f ≡ JournalFault.Full) ⊎ (f ≡ JournalFault.Memory)) }
 {
     book.is_sound();

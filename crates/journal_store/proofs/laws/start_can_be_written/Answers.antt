@@ -3,10 +3,10 @@ use Rattle.journal_store.proofs.Started.{start_applies, start_small, start_outco
 use Rattle.journal_store.proofs.laws.start_can_be_written.Goals as goal
 
 pub returns-clause-applies : goal.returns-clause-applies
-returns-clause-applies c = λ file book opens. start_applies book (sound_is_ordered book (opened_sound file book opens)).rows_rise
+returns-clause-applies c = λ contents book opens. start_applies book (sound_is_ordered book (opened_sound contents book opens)).rows_rise
 
 pub returns-clause-small : goal.returns-clause-small
-returns-clause-small c = λ file book opens. start_small book (opened_sound file book opens).few_rows
+returns-clause-small c = λ contents book opens. start_small book (opened_sound contents book opens).few_rows
 
 pub returns-clause-outcomes : goal.returns-clause-outcomes
 returns-clause-outcomes c = start_outcomes

@@ -21,7 +21,7 @@ returns-in-Ok-clause-suits g c =
     let book = c.args.book.now in
     let acts = c.args.acts.now in
     if_ok c.add_planned.result
-    (λ x after suits. after acts (sound_is_ordered book c.is_sound.ensures) c.in-Ok.ensures.spells c.requires.applies (c.in-Ok.ensures.suits suits)) c.add_planned.ensures.suits
+    (λ x after suits. after acts (sound_is_ordered book c.is_sound.ensures) c.in-Ok.ensures.spells c.requires.applies (c.in-Ok.ensures.suits c.requires.applies suits)) c.add_planned.ensures.suits
 
 pub returns-in-Ok-clause-any_moment : goal.returns-in-Ok-clause-any_moment
 returns-in-Ok-clause-any_moment g c stamp start bs at leaves =

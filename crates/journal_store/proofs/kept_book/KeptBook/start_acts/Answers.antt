@@ -5,6 +5,7 @@ use Rattle.journal_codec.specs.Batches.{HaveOutcomes}
 use Rattle.journal_codec.specs.Format.{acts_bytes}
 use Rattle.journal_store.proofs.Sound.{sound_is_ordered}
 use Rattle.journal_store.proofs.Started.{start_applies, start_small, start_outcomes}
+use Rattle.journal_store.proofs.Writing.{start_never_exceeds}
 use Rattle.std.proofs.lemmas.Result.{IfOk-weaker}
 use Rattle.journal_store.proofs.kept_book.KeptBook.start_acts.Goals as goal
 
@@ -22,3 +23,6 @@ pub returns-clause-outcomes : goal.returns-clause-outcomes
 returns-clause-outcomes c = IfOk-weaker c.start_acts.result _ _
     (λ v is. subst HaveOutcomes (sym is) (start_outcomes c.args.self.now.book))
     c.start_acts.ensures
+
+pub returns-clause-fits : goal.returns-clause-fits
+returns-clause-fits c = start_never_exceeds c.args.self.now.book c.is_sound.ensures

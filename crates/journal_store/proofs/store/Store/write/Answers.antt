@@ -1,49 +1,52 @@
-use Rattle.std.proofs.Common.{◌++◌, [], ◌∷◌, inr, sym, ap, ◌∙◌}
-use Rattle.gate_journal.specs.Reserve.{reserve}
-use Rattle.disk_core.specs.DiskLaws.{widened}
-use Rattle.gate_journal.proofs.Fulls.{test_full, not_full_tested}
-use Rattle.journal_store.proofs.Opened.{leaves_more, before_or_after}
-use Rattle.journal_store.proofs.Sound.{kept_after}
+use Rattle.std.proofs.Common.{◌≡◌, ◌∙◌, subst, Err, IsErrOf}
+use Rattle.std.proofs.lemmas.Result.{err_from_is_err_and}
+use Rattle.gate_journal.specs.declared.fault.JournalFault.TheVariants.{Full}
+use Rattle.twin_journal.proofs.Fulls.{full_tested, test_full, not_full_tested}
+use Rattle.journal_store.proofs.Given.{moments, stands_after, suits_after, base_after_it, full_of, room_of, untouched_by}
+use Rattle.journal_store.proofs.Writing.{base_of_some}
 use Rattle.journal_store.proofs.store.Store.write.Goals as goal
 
 pub returns-in_err-number-clause-any_moment : goal.returns-in_err-number-clause-any_moment
 returns-in_err-number-clause-any_moment g c stands =
-    widened g.D.Disk.moment g.D.Disk.left_since _ _ _ _ (c.append.ensures.any_moment stands.batches stands.keeps (sym stands.leaves ∙ sym c.book.ensures.same))
-    (before_or_after _ stands.batches _ stands.leaves)
-
-pub returns-in-Ok-clause-stands : goal.returns-in-Ok-clause-stands
-returns-in-Ok-clause-stands g c stands = record {
-  batches = stands.batches ++ c.args.acts.now ∷ [];
-  keeps = c.in_ok-number.ensures.done stands.batches stands.keeps (sym stands.leaves ∙ sym c.book.ensures.same);
-  leaves = c.in-Ok.ensures.applied ∙ leaves_more _ stands.batches _ stands.leaves;
-}
+    let T = g.T.Twin in
+    moments _ _ _ c.book.ensures.same T.moment T.left_since T.seen T.may_leave _ _ _ c.append.ensures.any_moment stands
 
 pub returns-in-Ok-clause-any_moment : goal.returns-in-Ok-clause-any_moment
 returns-in-Ok-clause-any_moment g c stands =
-    widened g.D.Disk.moment g.D.Disk.left_since _ _ _ _ (c.append.ensures.any_moment stands.batches stands.keeps (sym stands.leaves ∙ sym c.book.ensures.same))
-    (before_or_after _ stands.batches _ stands.leaves)
+    let T = g.T.Twin in
+    moments _ _ _ c.book.ensures.same T.moment T.left_since T.seen T.may_leave _ _ _ c.append.ensures.any_moment stands
 
 pub returns-in-Err-clause-any_moment : goal.returns-in-Err-clause-any_moment
 returns-in-Err-clause-any_moment g c stands =
-    widened g.D.Disk.moment g.D.Disk.left_since _ _ _ _ (c.append.ensures.any_moment stands.batches stands.keeps (sym stands.leaves ∙ sym c.book.ensures.same))
-    (before_or_after _ stands.batches _ stands.leaves)
+    let T = g.T.Twin in
+    moments _ _ _ c.book.ensures.same T.moment T.left_since T.seen T.may_leave _ _ _ c.append.ensures.any_moment stands
 
-pub returns-in-Ok-clause-kept : goal.returns-in-Ok-clause-kept
-returns-in-Ok-clause-kept g c was =
-    kept_after _ _ _ _ _ c.book.ensures.sound c.book.ensures.same c.in_ok-number.ensures.kept was ∙ ap reserve (sym c.in-Ok.ensures.applied)
+pub returns-in-Ok-clause-stands : goal.returns-in-Ok-clause-stands
+returns-in-Ok-clause-stands g c stands =
+    let T = g.T.Twin in
+    stands_after _ _ _ c.book.ensures.same T.seen T.may_leave _ _ _ _ c.in-Ok.ensures.applied c.in_ok-number.ensures.done stands
+
+pub returns-in-Ok-clause-suits : goal.returns-in-Ok-clause-suits
+returns-in-Ok-clause-suits g c suits = suits_after _ _ _ c.book.ensures.same c.args.self.now.journal c.append.new.self _ c.in-Ok.ensures.applied c.in_ok-number.ensures.suits suits
+
+pub returns-in-Ok-clause-base : goal.returns-in-Ok-clause-base
+returns-in-Ok-clause-base g c suits =
+    base_after_it _ _ c.args.acts.now c.book.ensures.same c.args.self.now.journal _ _ _ c.in_ok-number.ensures.base suits ∙ base_of_some c.args.self.now c.args.acts.now c.requires.some
+
+pub returns-in_err-number-clause-full : goal.returns-in_err-number-clause-full
+returns-in_err-number-clause-full g c is suits =
+    let told = err_from_is_err_and c.from_residual.result c.from_residual.ensures.1 in
+    let same : c.from_residual.result ≡ Err c.in_err-number.field-0.0 = cc (told.1, told.2) in
+    full_tested _ _ (full_of _ _ c.args.acts.now c.book.ensures.same c.args.self.now.journal (c.in_err-number.ensures.full (subst (λ r. IsErrOf r Full) same is)) suits)
 
 pub returns-in-Ok-clause-room : goal.returns-in-Ok-clause-room
-returns-in-Ok-clause-room g c = not_full_tested _ _ _ c.in_ok-number.ensures.room
-
-pub returns-in-Err-clause-length_at_memory : goal.returns-in-Err-clause-length_at_memory
-returns-in-Err-clause-length_at_memory g c is =
-    inr (c.in_ok-number.ensures.length, kept_after _ _ _ _ _ c.book.ensures.sound c.book.ensures.same c.in_ok-number.ensures.kept)
+returns-in-Ok-clause-room g c suits = not_full_tested _ _ (room_of _ _ c.args.acts.now c.book.ensures.same c.args.self.now.journal c.in_ok-number.ensures.room suits)
 
 pub returns-in_err-number-clause-untouched : goal.returns-in_err-number-clause-untouched
-returns-in_err-number-clause-untouched g c full = c.append.ensures.untouched (test_full _ _ _ full)
+returns-in_err-number-clause-untouched g c suits full = untouched_by _ _ c.args.acts.now c.book.ensures.same c.args.self.now.journal _ _ c.append.ensures.untouched suits (test_full _ _ full)
 
 pub returns-in-Ok-clause-untouched : goal.returns-in-Ok-clause-untouched
-returns-in-Ok-clause-untouched g c full = c.append.ensures.untouched (test_full _ _ _ full)
+returns-in-Ok-clause-untouched g c suits full = untouched_by _ _ c.args.acts.now c.book.ensures.same c.args.self.now.journal _ _ c.append.ensures.untouched suits (test_full _ _ full)
 
 pub returns-in-Err-clause-untouched : goal.returns-in-Err-clause-untouched
-returns-in-Err-clause-untouched g c full = c.append.ensures.untouched (test_full _ _ _ full)
+returns-in-Err-clause-untouched g c suits full = untouched_by _ _ c.args.acts.now c.book.ensures.same c.args.self.now.journal _ _ c.append.ensures.untouched suits (test_full _ _ full)
