@@ -3,8 +3,8 @@ use Rattle.std.specs.Prelude.{◌≡◌, ◌⊎◌, ℕ, Bool, true, false, if�
 use Rattle.book_model.specs.declared.act.Act.{Act}
 use Rattle.book_model.specs.Book.{BookView}
 use Rattle.journal_store.specs.declared.store.Store.{Store}
-use Rattle.gate_journal.specs.Reserve.{reserve}
-use Rattle.journal_store.specs.Store.{OpensTo, book_of, count_of, used_of, kept_of, exceeds}
+use Rattle.disk_core.specs.Twin.{Contents}
+use Rattle.journal_store.specs.Store.{OpensTo, IsSuited, book_of, count_of, exceeds}
 use Rattle.router_core.specs.declared.router.Core.{Core}
 use Rattle.core_machine.specs.declared.counts.Counts.{Counts}
 use Rattle.amqp_conn.specs.declared.conn.Conn.{Conn}
@@ -23,15 +23,14 @@ use Rattle.router_reply.specs.Heard.{IsHeard}
 use Rattle.router_core.specs.declared.router.Ready.{Ready}
 use Rattle.core_machine.specs.Turns.{is_started, declines}
 
--- a router's journal agrees with the trace: its book, how many batches it has, how long it is, and what it keeps free
-pub record Journals {D : Type 0} (core : Core D) (t : Trace) : Type 0 where
+-- a router's journal agrees with the trace: its book, and how many batches it has; and it knows what the book needs
+pub record Journals {T : Type 0} (core : Core T) (t : Trace) : Type 0 where
   pub book : book_of core.store ≡ book_in t
   pub batches : count_of core.store ≡ (journaled t).batches
-  pub used : used_of core.store ≡ (journaled t).used
-  pub kept : kept_of core.store ≡ reserve (book_in t)
+  pub suits : IsSuited core.store
 
 -- the router agrees with the trace: its tables, whether it was started, and its journal
-pub record Fits {D : Type 0} (core : Core D) (t : Trace) : Type 0 where
+pub record Fits {T : Type 0} (core : Core T) (t : Trace) : Type 0 where
   pub tables : TablesFit core.state t
   pub started : core.started ≡ is_started t
   pub journal : Journals core t
@@ -62,46 +61,46 @@ abbrev pub within : Bool → List Act → List Act
 within true acts = []
 within false acts = acts
 
-abbrev pub or_within : ℕ → ℕ → List Act → List Act → List Act
-or_within used kept [] admitted = within (exceeds used kept admitted) admitted
-or_within used kept (act ∷ acts) admitted = act ∷ acts
+abbrev pub or_within : BookView → List Act → List Act → List Act
+or_within b [] admitted = within (exceeds b admitted) admitted
+or_within b (act ∷ acts) admitted = act ∷ acts
 
-abbrev pub with_admission : Bool → ℕ → ℕ → List Act → List Act → List Act
-with_admission full used kept acts admitted = if full then acts else or_within used kept acts admitted
+abbrev pub with_admission : Bool → BookView → List Act → List Act → List Act
+with_admission full b acts admitted = if full then acts else or_within b acts admitted
 
 -- An event finds the journal full: by what is planned; or, if nothing is, by an admission that exceeds the room.
-abbrev pub or_exceeds : ℕ → ℕ → List Act → List Act → Bool
-or_exceeds used kept [] admitted = exceeds used kept admitted
-or_exceeds used kept (act ∷ acts) admitted = false
+abbrev pub or_exceeds : BookView → List Act → List Act → Bool
+or_exceeds b [] admitted = exceeds b admitted
+or_exceeds b (act ∷ acts) admitted = false
 
-abbrev pub full_with : Bool → ℕ → ℕ → List Act → List Act → Bool
-full_with full used kept acts admitted = if full then true else or_exceeds used kept acts admitted
+abbrev pub full_with : Bool → BookView → List Act → List Act → Bool
+full_with full b acts admitted = if full then true else or_exceeds b acts admitted
 
 -- it failed with a fault of the disk or of memory, and answers nothing else
-abbrev pub is_failed : {D : Type 0} → Core D → Bool
+abbrev pub is_failed : {T : Type 0} → Core T → Bool
 is_failed core = core.failed
 
 -- its container-id
-abbrev pub id_of : {D : Type 0} → Core D → List ℕ
+abbrev pub id_of : {T : Type 0} → Core T → List ℕ
 id_of core = core.id
 
 -- its store, the book of that, and its tables
-abbrev pub store_of : {D : Type 0} → Core D → Store D
+abbrev pub store_of : {T : Type 0} → Core T → Store T
 store_of core = core.store
 
-abbrev pub kept_book : {D : Type 0} → Core D → BookView
+abbrev pub kept_book : {T : Type 0} → Core T → BookView
 kept_book core = book_of core.store
 
-abbrev pub state_of : {D : Type 0} → Core D → State
+abbrev pub state_of : {T : Type 0} → Core T → State
 state_of core = core.state
 
 -- how many events it handled, and how many batches it returned
-abbrev pub counts_of : {D : Type 0} → Core D → Counts
+abbrev pub counts_of : {T : Type 0} → Core T → Counts
 counts_of core = core.counts
 
--- a file opens to the book before an event, or to the book after it
-abbrev pub BeforeOrAfterEvent : Trace → Event → List ℕ → Type 0
-BeforeOrAfterEvent t e file = OpensTo file (book_in t) ⊎ OpensTo file (book_after_event t e)
+-- two files open to the book before an event, or to the book after it
+abbrev pub BeforeOrAfterEvent : Trace → Event → Contents → Type 0
+BeforeOrAfterEvent t e contents = OpensTo contents (book_in t) ⊎ OpensTo contents (book_after_event t e)
 
 -- the book before an event, or the one after it: what a fault leaves
 abbrev pub LeftBook : Trace → Event → BookView → Type 0

@@ -1,5 +1,6 @@
 -- What a crash leaves while a list of events is run.
 use Rattle.std.specs.Prelude.{◌≡◌, ◌⊎◌, ℕ, false, List, [], ◌∷◌, ◌++◌, length}
+use Rattle.disk_core.specs.Twin.{Contents}
 use Rattle.book_model.specs.Book.{BookView}
 use Rattle.journal_store.specs.Store.{OpensTo}
 use Rattle.router_trace.specs.declared.event.Event.{Event}
@@ -9,9 +10,9 @@ use Rattle.core_machine.specs.Turns.{declines}
 use Rattle.router_core.specs.declared.driving.Sent.{Sent}
 use Rattle.router_core.specs.Runs.{Run}
 
--- a file opens to the book before an event; or, if the event is in turn, to that book after its acts
-abbrev pub BeforeOrInTurn : Trace → Event → List ℕ → Type 0
-BeforeOrInTurn t e file = OpensTo file (book_in t) ⊎ ((declines t e ≡ false) × OpensTo file (book_after_event t e))
+-- two files open to the book before an event; or, if the event is in turn, to that book after its acts
+abbrev pub BeforeOrInTurn : Trace → Event → Contents → Type 0
+BeforeOrInTurn t e contents = OpensTo contents (book_in t) ⊎ ((declines t e ≡ false) × OpensTo contents (book_after_event t e))
 
 -- the book in which a trace ends; or, if the event that comes next is in turn, that book after its acts
 abbrev pub IsBookAt : Trace → List Event → BookView → Type 0
@@ -28,12 +29,12 @@ pub record IsLeftBy (id : List ℕ) (t : Trace) (es : List Event) (b : BookView)
   pub run : Run id 0 t first taken mid
   pub book : IsBookAt mid rest b
 
--- a file opens to such a book
-abbrev pub LeftBy : List ℕ → Trace → List Event → List ℕ → Type 0
-LeftBy id t es file = (b : BookView) × OpensTo file b × IsLeftBy id t es b
+-- two files open to such a book
+abbrev pub LeftBy : List ℕ → Trace → List Event → Contents → Type 0
+LeftBy id t es contents = (b : BookView) × OpensTo contents b × IsLeftBy id t es b
 
--- a file opens to the book after as many first events, or to that book after the acts of the event that comes next, if it is in turn
-pub record IsLeftAfter (id : List ℕ) (t : Trace) (es : List Event) (handled : ℕ) (file : List ℕ) : Type 0 where
+-- two files open to the book after as many first events, or to that book after the acts of the event that comes next, if it is in turn
+pub record IsLeftAfter (id : List ℕ) (t : Trace) (es : List Event) (handled : ℕ) (contents : Contents) : Type 0 where
   pub first : List Event
   pub rest : List Event
   pub events : es ≡ first ++ rest
@@ -43,4 +44,4 @@ pub record IsLeftAfter (id : List ℕ) (t : Trace) (es : List Event) (handled : 
   pub run : Run id 0 t first taken mid
   pub book : BookView
   pub is : IsBookAt mid rest book
-  pub opens : OpensTo file book
+  pub opens : OpensTo contents book

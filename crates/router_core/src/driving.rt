@@ -3,7 +3,8 @@ ghost use Rattle.std.specs.Prelude.{◌≡◌, ◌≢◌, ◌≤◌, ◌<◌, �
 ghost use Rattle.router_trace.specs.Trace.{Entry};
 ghost use Rattle.router_trace.specs.Connection.{conn as known, is_ready};
 ghost use Rattle.disk_core.specs.Disk.{LeavesOnly};
-ghost use Rattle.journal_store.specs.Store.{Stands, disk_of};
+ghost use Rattle.disk_core.specs.Twin.{Contents};
+ghost use Rattle.journal_store.specs.Store.{Stands, twin_of};
 ghost use Rattle.router_core.specs.Handling.{Fits, id_of, is_failed, store_of};
 ghost use Rattle.router_core.specs.Leaving.{BeforeOrInTurn, IsLeftAfter, LeftBy};
 ghost use Rattle.router_core.specs.Runs.{Emptied, Steps, Run, MayStep, InTurn, Broken, Stopped, Waits, as_sent, sent};
@@ -13,7 +14,7 @@ ghost use Rattle.router_core.specs.declared.driving.Sent.{Sent as ASent};
 use crate::router::Core;
 use amqp_model::Item;
 use core_machine::CoreFault;
-use disk_core::Disk;
+use disk_core::Twin;
 use router_trace::{ConnectionId, Event};
 use std::alloc::Global;
 
@@ -53,8 +54,8 @@ fn append(taken: &mut Vec<Sent>, event: usize, conn: ConnectionId, items: Vec<It
 }
 
 /// Takes items from one outbox. Room for them is made before they are taken.
-fn take_one<D: Disk>(
-    core: &mut Core<D>,
+fn take_one<T: Twin>(
+    core: &mut Core<T>,
     event: usize,
     conn: ConnectionId,
     taken: &mut Vec<Sent>,
@@ -81,7 +82,7 @@ fn take_one<D: Disk>(
 }
 
 /// Empties all outboxes, by connection.
-fn empty<D: Disk>(core: &mut Core<D>, event: usize, taken: &mut Vec<Sent>) -> Result<(), CoreFault>
+fn empty<T: Twin>(core: &mut Core<T>, event: usize, taken: &mut Vec<Sent>) -> Result<(), CoreFault>
     ensures fits { OnOk result ((t : List Entry) → Fits core.old t → (ys : List ASent) × (u : List Entry) × Emptied event t ys u × Fits core.new u × (taken.new.items ≡ taken.old.items ++ ys)) }
     ensures works { OnOk result (is_failed core.new ≡ true → is_failed core.old ≡ true) }
     ensures named { id_of core.new ≡ id_of core.old }
@@ -107,8 +108,8 @@ fn empty<D: Disk>(core: &mut Core<D>, event: usize, taken: &mut Vec<Sent>) -> Re
 }
 
 /// Handles an event, which may be refused, and empties all outboxes.
-fn step<D: Disk>(
-    core: &mut Core<D>,
+fn step<T: Twin>(
+    core: &mut Core<T>,
     place: usize,
     event: Event,
     taken: &mut Vec<Sent>,
@@ -123,19 +124,19 @@ fn step<D: Disk>(
     ensures failed { IfErr result (λ f. f ≡ CoreFault.Failed → is_failed core.old ≡ true) }
     ensures memory { IfErr result (λ f. f ≡ CoreFault.Memory → ((t : List Entry) → Fits core.new t → Waits t) ⊎ (is_failed core.new ≡ true)) }
     ensures disk { IfErr result (λ f. f ≡ CoreFault.Disk → is_failed core.new ≡ true) }
-    ensures cause { IfErr result (λ f. f ≡ CoreFault.Disk → D.failures (disk_of (store_of core.old)) < D.failures (disk_of (store_of core.new))) }
-    ensures no_other { (IsErrOf result CoreFault.Disk → ⊥) → D.failures (disk_of (store_of core.new)) ≡ D.failures (disk_of (store_of core.old)) }
+    ensures cause { IfErr result (λ f. f ≡ CoreFault.Disk → T.failures (twin_of (store_of core.old)) < T.failures (twin_of (store_of core.new))) }
+    ensures no_other { (IsErrOf result CoreFault.Disk → ⊥) → T.failures (twin_of (store_of core.new)) ≡ T.failures (twin_of (store_of core.old)) }
 
-    ensures stands { OnOk result (Stands D.seen D.may_leave (store_of core.old) → Stands D.seen D.may_leave (store_of core.new)) }
-    ensures any_moment { (t : List Entry) → Fits core.old t → Stands D.seen D.may_leave (store_of core.old)
-        → LeavesOnly D.moment D.left_since (disk_of (store_of core.old)) (disk_of (store_of core.new)) (BeforeOrInTurn t event) }
+    ensures stands { OnOk result (Stands T.seen T.may_leave (store_of core.old) → Stands T.seen T.may_leave (store_of core.new)) }
+    ensures any_moment { (t : List Entry) → Fits core.old t → Stands T.seen T.may_leave (store_of core.old)
+        → LeavesOnly T.moment T.left_since (twin_of (store_of core.old)) (twin_of (store_of core.new)) (BeforeOrInTurn t event) }
 {
     hear(core, event)?;
     empty(core, place, taken)
 }
 
 /// Handles an event, which may be refused.
-fn hear<D: Disk>(core: &mut Core<D>, event: Event) -> Result<(), CoreFault>
+fn hear<T: Twin>(core: &mut Core<T>, event: Event) -> Result<(), CoreFault>
     ensures fits { OnOk result ((t : List Entry) → Fits core.old t → (u : List Entry) × MayStep (id_of core.old) t event u × Fits core.new u) }
     ensures works { OnOk result (is_failed core.new ≡ true → is_failed core.old ≡ true) }
     ensures named { id_of core.new ≡ id_of core.old }
@@ -145,12 +146,12 @@ fn hear<D: Disk>(core: &mut Core<D>, event: Event) -> Result<(), CoreFault>
     ensures failed { IfErr result (λ f. f ≡ CoreFault.Failed → is_failed core.old ≡ true) }
     ensures memory { IfErr result (λ f. f ≡ CoreFault.Memory → is_failed core.new ≡ true) }
     ensures disk { IfErr result (λ f. f ≡ CoreFault.Disk → is_failed core.new ≡ true) }
-    ensures cause { IfErr result (λ f. f ≡ CoreFault.Disk → D.failures (disk_of (store_of core.old)) < D.failures (disk_of (store_of core.new))) }
-    ensures no_other { (IsErrOf result CoreFault.Disk → ⊥) → D.failures (disk_of (store_of core.new)) ≡ D.failures (disk_of (store_of core.old)) }
+    ensures cause { IfErr result (λ f. f ≡ CoreFault.Disk → T.failures (twin_of (store_of core.old)) < T.failures (twin_of (store_of core.new))) }
+    ensures no_other { (IsErrOf result CoreFault.Disk → ⊥) → T.failures (twin_of (store_of core.new)) ≡ T.failures (twin_of (store_of core.old)) }
 
-    ensures stands { OnOk result (Stands D.seen D.may_leave (store_of core.old) → Stands D.seen D.may_leave (store_of core.new)) }
-    ensures any_moment { (t : List Entry) → Fits core.old t → Stands D.seen D.may_leave (store_of core.old)
-        → LeavesOnly D.moment D.left_since (disk_of (store_of core.old)) (disk_of (store_of core.new)) (BeforeOrInTurn t event) }
+    ensures stands { OnOk result (Stands T.seen T.may_leave (store_of core.old) → Stands T.seen T.may_leave (store_of core.new)) }
+    ensures any_moment { (t : List Entry) → Fits core.old t → Stands T.seen T.may_leave (store_of core.old)
+        → LeavesOnly T.moment T.left_since (twin_of (store_of core.old)) (twin_of (store_of core.new)) (BeforeOrInTurn t event) }
 {
     match core.handle(event) {
         Ok(done) => {
@@ -167,7 +168,7 @@ fn hear<D: Disk>(core: &mut Core<D>, event: Event) -> Result<(), CoreFault>
 /// Handles events one after another, and takes all items that are put out after each. It ends at the first answer `Disk`,
 /// `Memory` or `Failed`, and with `Memory` if the list of items can't grow, before they are taken: the core is then as
 /// its last call left it. A refused event (`NoConnection`) never ends it.
-pub fn drive<D: Disk>(alloc: Global, core: &mut Core<D>, events: Vec<Event>) -> Driven
+pub fn drive<T: Twin>(alloc: Global, core: &mut Core<T>, events: Vec<Event>) -> Driven
     // Without a fault all events were handled.
     ensures ran { result.fault ≡ None → (t : List Entry) → Fits core.old t → (u : List Entry) × Run (id_of core.old) 0 t events.items result.taken.items u × Fits core.new u }
     ensures all { result.fault ≡ None → result.handled ≡ length events.items }
@@ -180,17 +181,17 @@ pub fn drive<D: Disk>(alloc: Global, core: &mut Core<D>, events: Vec<Event>) -> 
     ensures disk { IfSome result.fault (λ f. f ≡ CoreFault.Disk → is_failed core.new ≡ true) }
 
     // The disk failed meanwhile exactly where the fault is `Disk`.
-    ensures cause { IfSome result.fault (λ f. f ≡ CoreFault.Disk → D.failures (disk_of (store_of core.old)) < D.failures (disk_of (store_of core.new))) }
-    ensures no_other { result.fault ≢ Some CoreFault.Disk → D.failures (disk_of (store_of core.new)) ≡ D.failures (disk_of (store_of core.old)) }
+    ensures cause { IfSome result.fault (λ f. f ≡ CoreFault.Disk → T.failures (twin_of (store_of core.old)) < T.failures (twin_of (store_of core.new))) }
+    ensures no_other { result.fault ≢ Some CoreFault.Disk → T.failures (twin_of (store_of core.new)) ≡ T.failures (twin_of (store_of core.old)) }
 
     // Whatever happens, a crash at any moment of the call leaves the book after some first events, or that book after the acts of the
     // event that comes next. Without a fault it leaves, at the end, the book after all of them.
-    ensures any_moment { (t : List Entry) → Fits core.old t → Stands D.seen D.may_leave (store_of core.old)
-        → LeavesOnly D.moment D.left_since (disk_of (store_of core.old)) (disk_of (store_of core.new)) (LeftBy (id_of core.old) t events.items) }
+    ensures any_moment { (t : List Entry) → Fits core.old t → Stands T.seen T.may_leave (store_of core.old)
+        → LeavesOnly T.moment T.left_since (twin_of (store_of core.old)) (twin_of (store_of core.new)) (LeftBy (id_of core.old) t events.items) }
     // With a fault it leaves, at the end, the book after those that were handled, or that book after the acts of the next one.
-    ensures left { IfSome result.fault (λ f. (t : List Entry) → Fits core.old t → Stands D.seen D.may_leave (store_of core.old)
-        → (file : List ℕ) → D.may_leave (disk_of (store_of core.new)) file → IsLeftAfter (id_of core.old) t events.items result.handled file) }
-    ensures stands { result.fault ≡ None → Stands D.seen D.may_leave (store_of core.old) → Stands D.seen D.may_leave (store_of core.new) }
+    ensures left { IfSome result.fault (λ f. (t : List Entry) → Fits core.old t → Stands T.seen T.may_leave (store_of core.old)
+        → (contents : Contents) → T.may_leave (twin_of (store_of core.new)) contents → IsLeftAfter (id_of core.old) t events.items result.handled contents) }
+    ensures stands { result.fault ≡ None → Stands T.seen T.may_leave (store_of core.old) → Stands T.seen T.may_leave (store_of core.new) }
 {
     let mut taken = Vec::new(alloc);
     let mut handled = 0;

@@ -4,11 +4,11 @@ ghost use Rattle.router_core.specs.Machine.{core_meaning};
 
 use crate::router::Core;
 use core_machine::{CoreFault, Counts, Done, Fused, Machine, Taken};
-use disk_core::{Crash, Disk};
+use disk_core::{CrashTwin, Twin};
 use router_trace::{ConnectionId, Event};
 
-impl<D: Disk> Machine for Core<D> {
-    ghost meaning = { core_meaning D.seen D.may_leave D.failures };
+impl<T: Twin> Machine for Core<T> {
+    ghost meaning = { core_meaning T.seen T.may_leave T.failures };
 
     fn handle(&mut self, event: Event) -> Result<Done, CoreFault> {
         Core::handle(self, event)
@@ -47,7 +47,7 @@ impl<D: Disk> Machine for Core<D> {
     }
 }
 
-impl<D: Crash> Fused for Core<D> {
+impl<T: CrashTwin> Fused for Core<T> {
     fn fuse(&mut self, calls: u64) {
         Core::fuse(self, calls);
     }

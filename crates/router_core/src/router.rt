@@ -1,15 +1,15 @@
 //! The router: one event or one take at a time.
 ghost use Rattle.std.specs.Prelude.{◌≡◌, ◌≢◌, ◌⊎◌, ◌+◌, ◌<◌, ◌≤◌, ◌∷◌, ◌&&◌, nat_lt, List, [], length, true, false, Ok, Err, None, option_map, is_some, OnOk, OnErr, IfOk, IfErr, IfSome, IfNone, IsErrOf};
 ghost use Rattle.disk_core.specs.Disk.{LeavesOnly, NoMore};
-ghost use Rattle.gate_journal.specs.Journal.{batch_count};
-ghost use Rattle.gate_journal.specs.Opening.{Explains};
-ghost use Rattle.journal_store.specs.Store.{OpensTo, Stands, Writable, journal_of, disk_of, count_of, used_of, kept_of, used_after, batches_after, exceeds};
+ghost use Rattle.twin_journal.specs.Journal.{batch_count};
+ghost use Rattle.twin_journal.specs.Judging.{Explains};
+ghost use Rattle.journal_store.specs.Store.{OpensTo, Stands, Writable, IsSuited, journal_of, twin_of, count_of, base_of, batches_after, exceeds};
 ghost use Rattle.router_trace.specs.Configuration.{opened};
 ghost use Rattle.router_trace.specs.Trace.{Entry, Trace, Took, did, step_of};
 ghost use Rattle.router_trace.specs.Connection.{conn as known, is_ready, is_live, due, phase_before, phase_found};
 ghost use Rattle.state_connections.specs.Fits.{IsLeast};
 ghost use Rattle.book_model.specs.Book.{effects};
-ghost use Rattle.gate_journal.specs.Reserve.{reserve};
+ghost use Rattle.twin_journal.specs.Room.{room};
 ghost use Rattle.router_reply.specs.Acts.{planned_acts, event_answer, acts_of, book_in, book_after_event, booked, finds_full, journaled};
 ghost use Rattle.router_reply.specs.Admitting.{admits, event_admission, without_acts};
 ghost use Rattle.router_reply.specs.Heard.{IsHeard};
@@ -29,8 +29,7 @@ use amqp_conn::Conn;
 use book_core::Book;
 use book_model::{Act, RowNumber};
 use core_machine::{Batch, CoreFault, Counts, Done, Taken};
-use disk_core::{Crash, Disk};
-use gate_journal::{JournalFault, OpenFault};
+use disk_core::{CrashTwin, Twin};
 use journal_store::Store;
 use reply_rows::Answer;
 use route_table::{Config, Table};
@@ -42,6 +41,7 @@ use router_state::State;
 use router_trace::{ConnectionId, Event, RouterId};
 use state_connections::{Refused, phase_found};
 use std::alloc::{AllocError, Global};
+use twin_journal::{JournalFault, OpenFault};
 
 /// The batch that was written, if one was: its number and its acts.
 type Written = Option<(u64, Vec<Act>)>;
@@ -84,18 +84,18 @@ impl Ready {
 }
 
 /// The router. It handles one event at a time; the items that it puts out are fetched with `take`. Its durable deliveries
-/// are kept by a journal on a disk.
-pub struct Core<D: Disk> {
+/// are kept by a journal on two files.
+pub struct Core<T: Twin> {
     alloc: Global,
     id: RouterId,
     state: State,
-    store: Store<D>,
+    store: Store<T>,
     counts: Counts,
     started: bool,
     failed: bool,
 }
 
-impl<D: Disk> Drop for Core<D> {
+impl<T: Twin> Drop for Core<T> {
     /// Drops what it holds by one call, where a derived drop is its steps at each exit of a function that holds one.
     fn drop(self) {
         let Core {
@@ -110,29 +110,29 @@ impl<D: Disk> Drop for Core<D> {
     }
 }
 
-impl<D: Disk> Core<D> {
-    /// A new router, opened with a configuration on the journal that a disk keeps. At an `Err` the disk is dropped: `Disk`
-    /// comes where it failed, `Memory` where memory was refused, and the others where the disk holds no journal, or a
+impl<T: Twin> Core<T> {
+    /// A new router, opened with a configuration on the journal that two files keep. At an `Err` the files are dropped:
+    /// `Disk` comes where they failed, `Memory` where memory was refused, and the others where they hold no journal, or a
     /// damaged one.
-    pub fn open(alloc: Global, disk: D, config: &Config) -> Result<Core<D>, OpenFault>
+    pub fn open(alloc: Global, twin: T, config: &Config) -> Result<Core<T>, OpenFault>
         ensures fits { IfOk result (λ core. (below : Trace) → Fits core (opened (opening_of config.now core) below)) }
         ensures works { IfOk result (λ core. is_failed core ≡ false) }
         ensures named { IfOk result (λ core. id_of core ≡ config.now.router_id) }
         ensures counts { IfOk result (λ core. counts_of core ≡ uncounted) }
 
         // Nothing has happened to it: it can be driven as a machine.
-        ensures opened { IfOk result (λ core. IsOpened (core_meaning D.seen D.may_leave D.failures) (opening_of config.now core) core) }
+        ensures opened { IfOk result (λ core. IsOpened (core_meaning T.seen T.may_leave T.failures) (opening_of config.now core) core) }
 
-        // Its book is the one that the disk opens to, and a crash leaves just that.
-        ensures stands { IfOk result (λ core. Stands D.seen D.may_leave (store_of core)) }
-        ensures book { IfOk result (λ core. OpensTo (D.seen disk) (kept_book core)) }
-        ensures seen { IfOk result (λ core. D.seen (disk_of (store_of core)) ≡ D.seen disk) }
-        ensures any_moment { IfOk result (λ core. LeavesOnly D.moment D.left_since disk (disk_of (store_of core)) (D.may_leave disk)) }
-        ensures crash { IfOk result (λ core. NoMore (D.may_leave disk) (D.may_leave (disk_of (store_of core)))) }
+        // Its book is the one that the files open to, and a crash leaves just that.
+        ensures stands { IfOk result (λ core. Stands T.seen T.may_leave (store_of core)) }
+        ensures book { IfOk result (λ core. OpensTo (T.seen twin) (kept_book core)) }
+        ensures seen { IfOk result (λ core. T.seen (twin_of (store_of core)) ≡ T.seen twin) }
+        ensures any_moment { IfOk result (λ core. LeavesOnly T.moment T.left_since twin (twin_of (store_of core)) (T.may_leave twin)) }
+        ensures crash { IfOk result (λ core. NoMore (T.may_leave twin) (T.may_leave (twin_of (store_of core)))) }
 
-        ensures fault { IfErr result (Explains (D.seen disk)) }
+        ensures fault { IfErr result (Explains (T.seen twin)) }
     {
-        let store = Store::open(alloc, disk)?;
+        let store = Store::open(alloc, twin)?;
         let Ok(table) = Table::new(alloc, config) else {
             drop(store);
             return Err(OpenFault::Memory);
@@ -181,16 +181,24 @@ impl<D: Disk> Core<D> {
         self.store.batch()
     }
 
-    /// How many batches its journal has that no longer stand in it: none in the journal's format 1.
+    /// How many batches its journal has that no longer stand in it: they are in the book of its checkpoint.
     pub fn base(&self) -> u64
-        ensures { result ≡ 0 }
+        ensures { result ≡ base_of (store_of self.now) }
     {
         self.store.base()
     }
 
-    /// The disk, after the router is given up.
-    pub fn into_disk(self) -> D
-        ensures { result ≡ disk_of (store_of self) }
+    /// How many bytes the journal has room for beside a checkpoint of its book and what is kept free for it. It encodes the
+    /// book. `AllocError` comes where memory is refused, or an act of the book can't be encoded.
+    pub fn room(&self) -> Result<i128, AllocError>
+        ensures { IfOk result (λ n. n ≡ room (kept_book self.now)) }
+    {
+        self.store.room()
+    }
+
+    /// The two files, after the router is given up.
+    pub fn into_twin(self) -> T
+        ensures { result ≡ twin_of (store_of self) }
     {
         let Core {
             alloc: _alloc,
@@ -203,7 +211,7 @@ impl<D: Disk> Core<D> {
         } = self;
         drop(id);
         drop(state);
-        store.into_disk()
+        store.into_twin()
     }
 
     /// Handles an event. `Start` comes first, and once. It answers `NoConnection` exactly if the event comes out of this
@@ -221,7 +229,7 @@ impl<D: Disk> Core<D> {
         ensures named { id_of self.new ≡ id_of self.old }
 
         // The event's acts are done to the book, and written as one batch; where there are none, nothing is written.
-        ensures stands { OnOk result (Stands D.seen D.may_leave (store_of self.old) → Stands D.seen D.may_leave (store_of self.new)) }
+        ensures stands { OnOk result (Stands T.seen T.may_leave (store_of self.old) → Stands T.seen T.may_leave (store_of self.new)) }
         ensures book { OnOk result ((t : List Entry) → Fits self.old t → kept_book self.new ≡ book_after_event t event) }
         ensures written { IfOk result (λ done. (t : List Entry) → Fits self.old t → IfSome done.journal (λ batch.
             (batch.0 ≡ batch_count (journal_of (store_of self.old)) + 1) × (batch.1.items ≡ acts_of t event))) }
@@ -231,8 +239,8 @@ impl<D: Disk> Core<D> {
 
         // Whatever is answered, a crash at any moment of the call leaves the book before the event or the book after it; and after
         // a fault of the disk or of memory no item waits in any outbox.
-        ensures any_moment { (t : List Entry) → Fits self.old t → Stands D.seen D.may_leave (store_of self.old)
-            → LeavesOnly D.moment D.left_since (disk_of (store_of self.old)) (disk_of (store_of self.new)) (BeforeOrAfterEvent t event) }
+        ensures any_moment { (t : List Entry) → Fits self.old t → Stands T.seen T.may_leave (store_of self.old)
+            → LeavesOnly T.moment T.left_since (twin_of (store_of self.old)) (twin_of (store_of self.new)) (BeforeOrAfterEvent t event) }
         ensures given_up { OnErr result (is_failed self.old ≡ false → is_failed self.new ≡ true → NothingWaits (state_of self.new)) }
 
         // One more event is counted exactly if the call answers Ok.
@@ -252,8 +260,8 @@ impl<D: Disk> Core<D> {
         ensures disk { IfErr result (λ f. f ≡ DiskFailed → is_failed self.new ≡ true) }
 
         // The disk failed meanwhile exactly where `Disk` is answered.
-        ensures cause { IfErr result (λ f. f ≡ DiskFailed → D.failures (disk_of (store_of self.old)) < D.failures (disk_of (store_of self.new))) }
-        ensures no_other { (IsErrOf result DiskFailed → ⊥) → D.failures (disk_of (store_of self.new)) ≡ D.failures (disk_of (store_of self.old)) }
+        ensures cause { IfErr result (λ f. f ≡ DiskFailed → T.failures (twin_of (store_of self.old)) < T.failures (twin_of (store_of self.new))) }
+        ensures no_other { (IsErrOf result DiskFailed → ⊥) → T.failures (twin_of (store_of self.new)) ≡ T.failures (twin_of (store_of self.old)) }
     {
         if self.failed {
             drop(event);
@@ -295,23 +303,23 @@ impl<D: Disk> Core<D> {
         ensures fits { OnOk result ((t : List Entry) → Fits self.old t → IsTaken t event phase → Fits self.new (handled (id_of self.old) t (step_of event))) }
         ensures works { is_failed self.new ≡ is_failed self.old }
         ensures named { id_of self.new ≡ id_of self.old }
-        ensures stands { OnOk result (Stands D.seen D.may_leave (store_of self.old) → Stands D.seen D.may_leave (store_of self.new)) }
+        ensures stands { OnOk result (Stands T.seen T.may_leave (store_of self.old) → Stands T.seen T.may_leave (store_of self.new)) }
         ensures book { OnOk result ((t : List Entry) → Fits self.old t → IsTaken t event phase → kept_book self.new ≡ book_after_event t event) }
         ensures written { IfOk result (λ done. (t : List Entry) → Fits self.old t → IsTaken t event phase → IfSome done.journal (λ batch.
             (batch.0 ≡ batch_count (journal_of (store_of self.old)) + 1) × (batch.1.items ≡ acts_of t event))) }
         ensures some_acts { IfOk result (λ done. IfSome done.journal (λ batch. batch.1.items ≢ [])) }
         ensures silent { IfOk result (λ done. (t : List Entry) → Fits self.old t → IsTaken t event phase → IfNone done.journal (acts_of t event ≡ [])) }
         ensures full { IfOk result (λ done. (t : List Entry) → Fits self.old t → IsTaken t event phase → done.full ≡ finds_full (journaled t) t event) }
-        ensures any_moment { (t : List Entry) → Fits self.old t → IsTaken t event phase → Stands D.seen D.may_leave (store_of self.old)
-            → LeavesOnly D.moment D.left_since (disk_of (store_of self.old)) (disk_of (store_of self.new)) (BeforeOrAfterEvent t event) }
+        ensures any_moment { (t : List Entry) → Fits self.old t → IsTaken t event phase → Stands T.seen T.may_leave (store_of self.old)
+            → LeavesOnly T.moment T.left_since (twin_of (store_of self.old)) (twin_of (store_of self.new)) (BeforeOrAfterEvent t event) }
         ensures counted { OnOk result (counts_of self.new ≡ with_event event (counts_of self.old)) }
         ensures uncounted { OnErr result (counts_of self.new ≡ counts_of self.old) }
         ensures left { OnErr result ((t : List Entry) → Fits self.old t → IsTaken t event phase → LeftBook t event (kept_book self.new)) }
         ensures unwritten { IfErr result (λ f. f ≡ DiskFailed → kept_book self.new ≡ kept_book self.old) }
         ensures not_refused { IfErr result (λ f. f ≢ NoConnection) }
         ensures not_failed { IfErr result (λ f. f ≢ Failed) }
-        ensures cause { IfErr result (λ f. f ≡ DiskFailed → D.failures (disk_of (store_of self.old)) < D.failures (disk_of (store_of self.new))) }
-        ensures no_other { (IsErrOf result DiskFailed → ⊥) → D.failures (disk_of (store_of self.new)) ≡ D.failures (disk_of (store_of self.old)) }
+        ensures cause { IfErr result (λ f. f ≡ DiskFailed → T.failures (twin_of (store_of self.old)) < T.failures (twin_of (store_of self.new))) }
+        ensures no_other { (IsErrOf result DiskFailed → ⊥) → T.failures (twin_of (store_of self.new)) ≡ T.failures (twin_of (store_of self.old)) }
     {
         let mut ready = Ready::nothing(self.alloc);
         let Ok(Prepared { full, acts }) = self.prepare(&event, phase, &mut ready) else {
@@ -368,7 +376,7 @@ impl<D: Disk> Core<D> {
     /// is room for that, else by what it does to a full one.
     fn plan(&self, ends: &[u64], phase: Option<Conn>, event: &Event) -> Result<Planned, AllocError>
         ensures full { IfOk result (λ p. (t : List Entry) → TablesAt (state_of self.now) t event.now ends.now → phase ≡ phase_found t event.now
-            → p.full ≡ exceeds (used_of (store_of self.now)) (kept_of (store_of self.now)) (planned_acts false (kept_book self.now) t event.now)) }
+            → IsSuited (store_of self.now) → p.full ≡ exceeds (kept_book self.now) (planned_acts false (kept_book self.now) t event.now)) }
         ensures answer { IfOk result (λ p. (t : List Entry) → TablesAt (state_of self.now) t event.now ends.now → phase ≡ phase_found t event.now → p.answer ≡ event_answer p.full (kept_book self.now) t event.now) }
         ensures acts { IfOk result (λ p. (t : List Entry) → TablesAt (state_of self.now) t event.now ends.now → phase ≡ phase_found t event.now → p.acts.items ≡ planned_acts p.full (kept_book self.now) t event.now) }
         ensures writable { IfOk result (λ p. Writable (kept_book self.now) p.acts.items) }
@@ -428,9 +436,9 @@ impl<D: Disk> Core<D> {
         ensures rest { self.new ≡ record self.old { state = state_of self.new } }
         ensures tables { OnOk result ((t : List Entry) → TablesFit (state_of self.old) t → TablesFit (state_of self.new) t) }
         ensures acts { IfOk result (λ r. (t : List Entry) → TablesFit (state_of self.old) (without_acts t event.now) → ends.now ≡ due t event.now → IsHeard t event.now answer.now heard.now
-            → TakenIn t event.now answer.now → r.acts.items ≡ with_admission full (used_of (store_of self.old)) (kept_of (store_of self.old)) acts.items (admits (kept_book self.old) (event_admission (kept_book self.old) t event.now answer.now))) }
+            → TakenIn t event.now answer.now → IsSuited (store_of self.old) → r.acts.items ≡ with_admission full (kept_book self.old) acts.items (admits (kept_book self.old) (event_admission (kept_book self.old) t event.now answer.now))) }
         ensures full { IfOk result (λ r. (t : List Entry) → TablesFit (state_of self.old) (without_acts t event.now) → ends.now ≡ due t event.now → IsHeard t event.now answer.now heard.now
-            → TakenIn t event.now answer.now → r.full ≡ full_with full (used_of (store_of self.old)) (kept_of (store_of self.old)) acts.items (admits (kept_book self.old) (event_admission (kept_book self.old) t event.now answer.now))) }
+            → TakenIn t event.now answer.now → IsSuited (store_of self.old) → r.full ≡ full_with full (kept_book self.old) acts.items (admits (kept_book self.old) (event_admission (kept_book self.old) t event.now answer.now))) }
         ensures writable { IfOk result (λ r. Writable (kept_book self.old) r.acts.items) }
     {
         if full || !acts.is_empty() {
@@ -494,21 +502,20 @@ impl<D: Disk> Core<D> {
     fn write(&mut self, acts: Vec<Act>) -> Result<Written, CoreFault>
         requires writable { Writable (kept_book self.old) acts.items }
         ensures rest { self.new ≡ record self.old { store = store_of self.new } }
-        ensures stands { OnOk result (Stands D.seen D.may_leave (store_of self.old) → Stands D.seen D.may_leave (store_of self.new)) }
+        ensures stands { OnOk result (Stands T.seen T.may_leave (store_of self.old) → Stands T.seen T.may_leave (store_of self.new)) }
         ensures book { OnOk result (kept_book self.new ≡ effects (kept_book self.old) acts.items) }
         ensures count { OnOk result (count_of (store_of self.new) ≡ batches_after (count_of (store_of self.old)) acts.items) }
-        ensures used { OnOk result (used_of (store_of self.new) ≡ used_after (used_of (store_of self.old)) acts.items) }
-        ensures kept { OnOk result (kept_of (store_of self.old) ≡ reserve (kept_book self.old) → kept_of (store_of self.new) ≡ reserve (kept_book self.new)) }
+        ensures suits { OnOk result (IsSuited (store_of self.old) → IsSuited (store_of self.new)) }
         ensures written { IfOk result (λ w. IfSome w (λ batch. (batch.0 ≡ batch_count (journal_of (store_of self.old)) + 1) × (batch.1.items ≡ acts.items))) }
         ensures some_acts { IfOk result (λ w. IfSome w (λ batch. batch.1.items ≢ [])) }
         ensures silent { IfOk result (λ w. IfNone w (acts.items ≡ [])) }
-        ensures any_moment { Stands D.seen D.may_leave (store_of self.old) → LeavesOnly D.moment D.left_since (disk_of (store_of self.old)) (disk_of (store_of self.new))
-            (λ file. OpensTo file (kept_book self.old) ⊎ OpensTo file (effects (kept_book self.old) acts.items)) }
+        ensures any_moment { Stands T.seen T.may_leave (store_of self.old) → LeavesOnly T.moment T.left_since (twin_of (store_of self.old)) (twin_of (store_of self.new))
+            (λ c. OpensTo c (kept_book self.old) ⊎ OpensTo c (effects (kept_book self.old) acts.items)) }
         ensures unwritten { OnErr result (kept_book self.new ≡ kept_book self.old) }
         ensures not_refused { IfErr result (λ f. f ≢ NoConnection) }
         ensures not_failed { IfErr result (λ f. f ≢ Failed) }
-        ensures cause { IfErr result (λ f. f ≡ DiskFailed → D.failures (disk_of (store_of self.old)) < D.failures (disk_of (store_of self.new))) }
-        ensures no_other { (IsErrOf result DiskFailed → ⊥) → D.failures (disk_of (store_of self.new)) ≡ D.failures (disk_of (store_of self.old)) }
+        ensures cause { IfErr result (λ f. f ≡ DiskFailed → T.failures (twin_of (store_of self.old)) < T.failures (twin_of (store_of self.new))) }
+        ensures no_other { (IsErrOf result DiskFailed → ⊥) → T.failures (twin_of (store_of self.new)) ≡ T.failures (twin_of (store_of self.old)) }
     {
         match self.store.commit(acts) {
             Ok(batch) => Ok(batch),
@@ -664,16 +671,16 @@ impl<D: Disk> Core<D> {
     }
 }
 
-impl<D: Crash> Core<D> {
-    /// After so many calls of the disk more every call fails, on a disk that has a fuse.
+impl<T: CrashTwin> Core<T> {
+    /// After so many calls of the files more, on either side, every call fails, on files that have a fuse.
     pub fn fuse(&mut self, calls: u64)
         ensures rest { self.new ≡ record self.old { store = store_of self.new } }
-        ensures stands { Stands D.Disk.seen D.Disk.may_leave (store_of self.old) → Stands D.Disk.seen D.Disk.may_leave (store_of self.new) }
+        ensures stands { Stands T.Twin.seen T.Twin.may_leave (store_of self.old) → Stands T.Twin.seen T.Twin.may_leave (store_of self.new) }
         ensures book { kept_book self.new ≡ kept_book self.old }
         ensures batches { batch_count (journal_of (store_of self.new)) ≡ batch_count (journal_of (store_of self.old)) }
         ensures fits { (t : List Entry) → Fits self.old t → Fits self.new t }
-        ensures set { D.lets_through (disk_of (store_of self.new)) ≡ D.fused calls }
-        ensures failures { D.Disk.failures (disk_of (store_of self.new)) ≡ D.Disk.failures (disk_of (store_of self.old)) }
+        ensures set { T.lets_through (twin_of (store_of self.new)) ≡ T.fused calls }
+        ensures failures { T.Twin.failures (twin_of (store_of self.new)) ≡ T.Twin.failures (twin_of (store_of self.old)) }
     {
         self.store.fuse(calls);
     }

@@ -22,11 +22,11 @@ pub use Rattle.core_player.specs.Script.{Scene, say_all, say, refused, out_line,
 
 -- a router with this configuration, on a journal that holds this
 abbrev pub router_on : Settings → Journaled → Beginning
-router_on config j = record { routing = routing_of config; book = j.book; used = j.used; batches = j.batches }
+router_on config j = record { routing = routing_of config; book = j.book; batches = j.batches }
 
--- a new journal: it has no batch, and nine bytes
+-- a new journal: it has no batch
 abbrev pub new_journal : Journaled
-new_journal = record { book = empty_book; used = 9; batches = 0 }
+new_journal = record { book = empty_book; batches = 0 }
 
 abbrev pub new_router : Settings → Beginning
 new_router config = router_on config new_journal

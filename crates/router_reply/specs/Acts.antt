@@ -4,10 +4,9 @@ use Rattle.amqp_model.specs.declared.item.Item.{Item}
 use Rattle.amqp_conn.specs.declared.conn.Conn.{Conn}
 use Rattle.book_model.specs.declared.act.Act.{Act}
 use Rattle.book_model.specs.Book.{BookView, empty_book, effects}
-use Rattle.gate_journal.specs.Reserve.{reserve}
 use Rattle.journal_store.specs.Acting.{event_acts as settled_acts}
 use Rattle.journal_store.specs.Lost.{start_acts}
-use Rattle.journal_store.specs.Store.{used_after, batches_after, exceeds}
+use Rattle.journal_store.specs.Store.{batches_after, exceeds}
 use Rattle.router_trace.specs.declared.event.Event.{Event}
 use Rattle.router_trace.specs.declared.event.Event.TheVariants as event
 use Rattle.router_trace.specs.Trace.{Trace, Did, Out, Took, Bound, Booked, Began}
@@ -48,29 +47,28 @@ or_admits (act ∷ acts) admitted = act ∷ acts
 abbrev pub event_acts : Bool → BookView → Trace → Event → List Act
 event_acts full b t e = or_admits (planned_acts full b t e) (admitted_acts full b t e)
 
--- What a journal keeps: its book, and how many bytes and batches it has.
+-- What a journal keeps: its book, and how many batches it has had.
 pub record Journaled : Type 0 where
   pub book : BookView
-  pub used : ℕ
   pub batches : ℕ
 
--- An event finds the journal full exactly if the acts that it would have cost more than nothing, and more than the room.
+-- An event finds the journal full exactly if the acts that it would have cost more than nothing, and more than the room of the book.
 abbrev pub finds_full : Journaled → Trace → Event → Bool
-finds_full j t e = exceeds j.used (reserve j.book) (event_acts false j.book t e)
+finds_full j t e = exceeds j.book (event_acts false j.book t e)
 
 -- the journal after acts: they are done to the book and written as one batch
 abbrev pub with_acts : Journaled → List Act → Journaled
-with_acts j acts = record { book = effects j.book acts; used = used_after j.used acts; batches = batches_after j.batches acts }
+with_acts j acts = record { book = effects j.book acts; batches = batches_after j.batches acts }
 
 -- the journal in which a trace ends
 abbrev pub journaled : Trace → Journaled
-journaled [] = record { book = empty_book; used = 0; batches = 0 }
+journaled [] = record { book = empty_book; batches = 0 }
 journaled (Did s ∷ t) = journaled t
 journaled (Out c i ∷ t) = journaled t
 journaled (Took c n ∷ t) = journaled t
 journaled (Bound b ∷ t) = journaled t
 journaled (Booked acts full ∷ t) = with_acts (journaled t) acts
-journaled (Began g ∷ t) = record { book = g.book; used = g.used; batches = g.batches }
+journaled (Began g ∷ t) = record { book = g.book; batches = g.batches }
 
 abbrev pub book_in : Trace → BookView
 book_in t = (journaled t).book

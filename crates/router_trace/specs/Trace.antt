@@ -22,12 +22,11 @@ pub record Put : Type 0 where
   pub conn : ℕ
   pub item : Item
 
--- what a router begins with: how its configuration shares addresses, the book that its disk opened to, and how many bytes and
--- batches its journal had then
+-- what a router begins with: how its configuration shares addresses, the book that its journal opened to, and how many batches
+-- that had then
 pub record Beginning : Type 0 where
   pub routing : Routing
   pub book : BookView
-  pub used : ℕ
   pub batches : ℕ
 
 pub data Entry : Type 0 where
