@@ -4,87 +4,83 @@ ghost use Rattle.core_machine.specs.Opened.{IsOpened};
 ghost use Rattle.router_core.specs.Machine.{opening_of};
 ghost use Rattle.amqr_files.specs.Journals.{IsNotListed};
 
-use amqr_files::{JournalDisk, MOST_BYTES, Refusal, Unopened, journal_disk};
+use amqr_files::{JournalTwin, MOST_BYTES, Refusal, Unopened, journal_twin};
 use core_machine::Machine;
-use disk_core::{Disk, DiskFault, MemDisk};
-use gate_journal::format;
+use disk_core::{DiskFault, MemTwin, Twin};
 use route_table::Config;
 use router_core::Core;
 use std::alloc::{AllocError, Global};
-use std::fs::{self, File};
+use std::fs::File;
 use std::rt::Files;
 use std::time::Clock;
+use twin_journal::format;
 
-/// A router over the journal in the file that is named, or over a new one in memory.
+/// A router over the journal that is named, on its two files, or over a new one in memory.
 ///
 /// # Errors
 ///
-/// `InUse` where another server has the file in use, `File` where it can't be opened for reading and writing; else as `opened`.
+/// `InUse` where another server has it in use, `NoJournal` where its name itself is a file's, `File` where one of its files can't be opened for reading and
+/// writing; else as `opened`.
 pub fn open_router<R: Files<File = File> + Clock>(
     rt: &R,
     alloc: Global,
     journal: Option<&str>,
     config: &Config,
-) -> Result<Core<JournalDisk>, Unopened>
-    ensures opened { IfOk result (λ core. IsOpened ⟦<Core<JournalDisk> as Machine>⟧.meaning (opening_of config.now core) core) }
+) -> Result<Core<JournalTwin>, Unopened>
+    ensures opened { IfOk result (λ core. IsOpened ⟦<Core<JournalTwin> as Machine>⟧.meaning (opening_of config.now core) core) }
 {
-    let disk = match journal {
-        Some(path) => JournalDisk::File(journal_disk(rt, alloc, path)?),
+    let twin = match journal {
+        Some(path) => JournalTwin::File(journal_twin(rt, alloc, path)?),
         None => match new_journal(alloc) {
-            Ok(disk) => JournalDisk::Memory(disk),
+            Ok(twin) => JournalTwin::Memory(twin),
             Err(fault) => return Err(Unopened::Refused(Refusal::from(fault))),
         },
     };
-    match opened(alloc, disk, config) {
+    match opened(alloc, twin, config) {
         Ok(core) => Ok(core),
         Err(refusal) => Err(Unopened::Refused(refusal)),
     }
 }
 
 /// A new journal in memory.
-fn new_journal(alloc: Global) -> Result<MemDisk, DiskFault> {
-    let mut disk = MemDisk::new(alloc);
-    format(&mut disk)?;
-    Ok(disk)
+fn new_journal(alloc: Global) -> Result<MemTwin, DiskFault> {
+    let mut twin = MemTwin::new(alloc);
+    format(&mut twin)?;
+    Ok(twin)
 }
 
-/// A router over the journal on a disk.
+/// A router over the journal on two files.
 ///
 /// # Errors
 ///
-/// `NoJournal` where the disk has none; `Damaged` where an open gate has no batch after it; `Disk` where it failed; `Memory` where
+/// `NoJournal` where they have none; `Damaged` where no head can be read, or an open gate has no batch after it; `Disk` where they failed; `Memory` where
 /// memory was refused.
-fn opened(alloc: Global, disk: JournalDisk, config: &Config) -> Result<Core<JournalDisk>, Refusal>
-    ensures opened { IfOk result (λ core. IsOpened ⟦<Core<JournalDisk> as Machine>⟧.meaning (opening_of config.now core) core) }
-    ensures refusal { IfErr result (IsNotListed (⟦<JournalDisk as Disk>⟧.seen disk) ⊤) }
+fn opened(alloc: Global, twin: JournalTwin, config: &Config) -> Result<Core<JournalTwin>, Refusal>
+    ensures opened { IfOk result (λ core. IsOpened ⟦<Core<JournalTwin> as Machine>⟧.meaning (opening_of config.now core) core) }
+    ensures refusal { IfErr result (IsNotListed (⟦<JournalTwin as Twin>⟧.seen twin) ⊤) }
 {
-    match Core::open(alloc, disk, config) {
+    match Core::open(alloc, twin, config) {
         Ok(core) => Ok(core),
         Err(fault) => Err(Refusal::from(fault)),
     }
 }
 
-/// What is reported of the journal when serving begins: where it is, how many rows and termini it has, and how full its file is.
+/// What is reported of the journal when serving begins: where it is, how many rows and termini it has, and how much room is left.
 ///
 /// # Errors
 ///
 /// Memory was refused.
-pub fn journal_words<R: Files<File = File>>(
-    rt: &R,
+pub fn journal_words(
     alloc: Global,
     path: Option<&str>,
-    core: &Core<JournalDisk>,
+    core: &Core<JournalTwin>,
 ) -> Result<String, AllocError> {
     let Some(path) = path else {
         return format!(in alloc;
             "the journal is kept in memory: durable deliveries don't outlive this process"
         );
     };
-    let bytes = match fs::metadata(rt, path) {
-        Ok(found) => found.len(),
-        Err(_) => 0,
-    };
-    let room = (MOST_BYTES as u64).saturating_sub(bytes);
+    let room = core.room()?.max(0);
     let RowsLeft {
         undecided,
         unforgotten,
@@ -104,7 +100,7 @@ struct RowsLeft {
 }
 
 /// How many rows of a router's book wait for a peer.
-fn rows_left(core: &Core<JournalDisk>) -> RowsLeft {
+fn rows_left(core: &Core<JournalTwin>) -> RowsLeft {
     let mut left = RowsLeft {
         undecided: 0,
         unforgotten: 0,

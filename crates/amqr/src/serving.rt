@@ -6,7 +6,7 @@ ghost use Rattle.serve_lock.specs.Blank.{AreOf};
 
 use crate::opening::{journal_words, open_router};
 use amqr_commands::{Refusal, Serving, Status, config_at, refuse};
-use amqr_files::{Endpoint, JournalDisk, Purpose, Unopened, refuse_journal, tell_file};
+use amqr_files::{Endpoint, JournalTwin, Purpose, Unopened, refuse_journal, tell_journal};
 use core_machine::Machine;
 use route_table::{Config, Listener, Role};
 use router_core::Core;
@@ -40,8 +40,8 @@ enum Bound {
     Ended(Status),
 }
 
-/// Serves clients at the configuration's listeners, or at the standard one where it has none, over the journal in the file that is
-/// named, or over one in memory. Why it doesn't is a line of the output, and a sentence of the errors unless it is to be quiet.
+/// Serves clients at the configuration's listeners, or at the standard one where it has none, over the journal that is named, or
+/// over one in memory. Why it doesn't is a line of the output, and a sentence of the errors unless it is to be quiet.
 pub fn serve<
     R: Net<Listener = TcpListener, Stream = TcpStream>
         + Files<File = File>
@@ -86,7 +86,7 @@ fn serve_telling<
     };
     match open_router(rt, alloc, serving.journal, &config) {
         Ok(core) => {
-            let Ok(journal) = journal_words(rt, alloc, serving.journal, &core) else {
+            let Ok(journal) = journal_words(alloc, serving.journal, &core) else {
                 drop(core);
                 drop(config);
                 return refuse(output, Refusal::Memory);
@@ -99,21 +99,23 @@ fn serve_telling<
         }
         Err(fault) => {
             drop(config);
-            refuse_router(rt, serving.journal.unwrap_or(""), fault, output, errors)
+            let path = serving.journal.unwrap_or("");
+            refuse_router(rt, alloc, path, fault, output, errors)
         }
     }
 }
 
-/// Writes why no router is opened over the journal in a file.
+/// Writes why no router is opened over a journal.
 fn refuse_router<R: Files<File = File>, O: Write, E: Write>(
     rt: &R,
+    alloc: Global,
     path: &str,
     fault: Unopened,
     output: &mut O,
     errors: &mut E,
 ) -> io::Result<Status> {
-    if fault == Unopened::Refused(Refusal::File) {
-        let _ = tell_file(rt, path, Purpose::Serve, errors);
+    if let Unopened::Refused(refusal) = fault {
+        let _ = tell_journal(rt, alloc, path, Purpose::Serve, refusal, errors);
     }
     refuse_journal(output, path, fault)
 }
@@ -135,12 +137,12 @@ fn serve_over<
     rt: &R,
     alloc: Global,
     config: Config,
-    core: Core<JournalDisk>,
+    core: Core<JournalTwin>,
     task: Task<'_>,
     output: &mut O,
     errors: &mut E,
 ) -> io::Result<Status>
-    requires opened { IsOpened ⟦<Core<JournalDisk> as Machine>⟧.meaning (opening_of config core) core }
+    requires opened { IsOpened ⟦<Core<JournalTwin> as Machine>⟧.meaning (opening_of config core) core }
 {
     let Ok(own) = standard_listeners(alloc) else {
         drop(core);
@@ -246,12 +248,12 @@ fn start<
     rt: &R,
     alloc: Global,
     config: Config,
-    core: Core<JournalDisk>,
+    core: Core<JournalTwin>,
     own: &[Listener],
     sockets: &[TcpListener],
     task: Task<'_>,
 ) -> Result<Status, AllocError>
-    requires opened { IsOpened ⟦<Core<JournalDisk> as Machine>⟧.meaning (opening_of config core) core }
+    requires opened { IsOpened ⟦<Core<JournalTwin> as Machine>⟧.meaning (opening_of config core) core }
 {
     let blanks = Blanks::new();
     counted::<Brand, R>(rt, alloc, config, own, sockets, task, core, blanks)
@@ -276,14 +278,14 @@ fn counted<
     own: &[Listener],
     sockets: &[TcpListener],
     task: Task<'_>,
-    core: Core<JournalDisk>,
+    core: Core<JournalTwin>,
     blanks: Blanks,
 ) -> Result<Status, AllocError>
-    requires opened { IsOpened ⟦<Core<JournalDisk> as Machine>⟧.meaning N.opening core }
+    requires opened { IsOpened ⟦<Core<JournalTwin> as Machine>⟧.meaning N.opening core }
     requires blanks { AreOf N.ups N.items N.downs N.ticks N.starts N.batches N.seats blanks }
     requires seats { N.seats ≡ 2 ^ 62 }
 {
-    let made: Result<Server<Core<JournalDisk>, N>, AllocError> = Server::new(alloc, core, blanks);
+    let made: Result<Server<Core<JournalTwin>, N>, AllocError> = Server::new(alloc, core, blanks);
     let Ok(router) = made else {
         drop(config);
         return Err(AllocError);
@@ -322,7 +324,7 @@ fn tell_limits<R: Wait + Clock>(rt: &R, state: &ProgramState) {
 }
 
 /// The seats that no thread uses come back, and all else is let go. It tells whether the router failed.
-fn close<N: Names>(program: Program<Server<Core<JournalDisk>, N>>) -> bool {
+fn close<N: Names>(program: Program<Server<Core<JournalTwin>, N>>) -> bool {
     let Program { router, state } = program;
     drop(state);
     let closed = router.close();

@@ -5,6 +5,8 @@ mod config;
 mod program;
 mod script;
 
-pub use amqr_files::{Refusal, Serving, Status, format_disk, list, list_journal, refuse};
+pub use amqr_files::{
+    Refusal, Serving, Status, format_twin, list, list_journal, refuse, summarize_journal,
+};
 pub use config::config_of;
 pub use program::{config_at, play_text, run, serving_in};

@@ -8,13 +8,13 @@ ghost use Rattle.amqr_commands.specs.Running.{Plays, PlaysInput, PlaysRuns, Writ
 use crate::config::config_of;
 use crate::script::{ScriptFault, read_script};
 use amqr_files::{
-    InputFault, MOST_BYTES, Purpose, Refusal, Serving, Status, Task, format_disk, is_in_use, list,
-    list_journal, print_lines, read_whole, read_words, refuse, tell_file, tell_line,
+    InputFault, MOST_BYTES, Purpose, Refusal, Serving, Status, Task, format_twin, is_any_taken,
+    is_in_use, is_taken, list, list_journal, print_lines, read_whole, read_words, refuse,
+    summarize_journal, tell_file, tell_journal, tell_line,
 };
 use clap::Error;
 use clap::error::ErrorKind;
-use disk_core::{DiskFault, FileDisk, FuseDisk, MemDisk};
-use gate_journal::{OpenFault, format};
+use disk_core::{DiskFault, FileTwin, FuseTwin, MemTwin};
 use route_table::Config;
 use router_play::{CoreFault, Report, Run, Step, play_runs};
 use std::alloc::Global;
@@ -22,8 +22,9 @@ use std::convert::AsStr;
 use std::fs::{self, File};
 use std::io::{self, Read, Write};
 use std::rt::Files;
+use twin_journal::{OpenFault, format};
 
-/// The most bytes of a journal's file that can be listed: those of a journal, and one gate.
+/// The most bytes of a side that can be listed: those of a journal, and one gate.
 const MOST_JOURNAL: usize = MOST_BYTES + 1;
 
 /// Does what the arguments ask for, the first of which is the program's name. Lines go to the output, faults of the arguments
@@ -51,7 +52,7 @@ pub fn run<R: Files<File = File> + AllocGlobal, S: AsStr, I: Read, O: Write, E: 
         }
         Ok(Task::Frames { file }) => list_frames(rt, file, output, errors),
         Ok(Task::Format { file }) => make(rt, file, output, errors),
-        Ok(Task::Journal { file }) => show(rt, file, output, errors),
+        Ok(Task::Journal { file, summary }) => show(rt, file, summary, output, errors),
         Err(fault) => explain(&fault, output, errors),
     }
 }
@@ -147,36 +148,39 @@ fn refuse_input<R: Files<File = File>, O: Write, E: Write>(
     }
 }
 
-/// Makes a journal in a file.
+/// Makes a journal on two files. Where its name, or that of one of its files, is taken, nothing is changed.
 fn make<R: Files<File = File> + AllocGlobal, O: Write, E: Write>(
     rt: &R,
     path: &str,
     output: &mut O,
     errors: &mut E,
 ) -> io::Result<Status> {
-    match FileDisk::create(rt, rt.alloc(), path) {
-        Ok(mut disk) => format_disk(&mut disk, output),
-        Err(fault) => refuse_disk(rt, path, Purpose::Make, fault, output, errors),
+    let alloc = rt.alloc();
+    match is_any_taken(rt, alloc, path) {
+        Ok(false) => {}
+        Ok(true) => return refuse(output, Refusal::Exists),
+        Err(_) => return refuse(output, Refusal::Memory),
+    }
+    match FileTwin::create(rt, alloc, path) {
+        Ok(mut twin) => format_twin(&mut twin, output),
+        Err(fault) => refuse_files(rt, path, Purpose::Make, not_opened(fault), output, errors),
     }
 }
 
-/// Writes why the disk over a file isn't opened.
-fn refuse_disk<R: Files<File = File>, O: Write, E: Write>(
+/// Writes why the files of a journal aren't used.
+fn refuse_files<R: Files<File = File> + AllocGlobal, O: Write, E: Write>(
     rt: &R,
     path: &str,
     purpose: Purpose,
-    fault: DiskFault,
+    refusal: Refusal,
     output: &mut O,
     errors: &mut E,
 ) -> io::Result<Status> {
-    let refusal = not_opened(fault);
-    if refusal == Refusal::File {
-        let _ = tell_file(rt, path, purpose, errors);
-    }
+    let _ = tell_journal(rt, rt.alloc(), path, purpose, refusal, errors);
     refuse(output, refusal)
 }
 
-/// The refusal where a file could not be opened or made as a disk.
+/// The refusal where two files could not be opened or made.
 fn not_opened(fault: DiskFault) -> Refusal
     ensures failed { fault ≡ DiskFault.Failed → result ≡ Refusal.File }
     ensures memory { fault ≡ DiskFault.Memory → result ≡ Refusal.Memory }
@@ -187,25 +191,49 @@ fn not_opened(fault: DiskFault) -> Refusal
     }
 }
 
-/// Lists the journal in a file. That a server has it in use is told on the errors.
+/// Lists a journal, or tells it in short. That a server has it in use is told on the errors.
 fn show<R: Files<File = File> + AllocGlobal, O: Write, E: Write>(
     rt: &R,
     path: &str,
+    summary: bool,
     output: &mut O,
     errors: &mut E,
 ) -> io::Result<Status> {
     let alloc = rt.alloc();
-    match FileDisk::open_to_read(rt, alloc, path, MOST_JOURNAL) {
-        Ok(mut disk) => {
-            if is_in_use(rt, path) {
-                let _ = writeln!(
-                    errors,
-                    "the journal {path} is in use: it may change meanwhile"
-                );
-            }
-            list_journal(alloc, &mut disk, output)
-        }
-        Err(fault) => refuse_disk(rt, path, Purpose::List, fault, output, errors),
+    let mut twin = match files_at(rt, alloc, path) {
+        Ok(twin) => twin,
+        Err(refusal) => return refuse_files(rt, path, Purpose::List, refusal, output, errors),
+    };
+    if is_in_use(rt, alloc, path) {
+        let _ = writeln!(
+            errors,
+            "the journal {path} is in use: it may change meanwhile"
+        );
+    }
+    if summary {
+        summarize_journal(alloc, &mut twin, output)
+    } else {
+        list_journal(alloc, &mut twin, output)
+    }
+}
+
+/// The two files of a journal, to be read.
+///
+/// # Errors
+///
+/// `NoJournal` if its name is that of something, and of no empty file; `File` if one of the two is missing or can't be read; `Memory` if one has more
+/// bytes than a journal may have, or memory was refused.
+fn files_at<R: Files<File = File>>(
+    rt: &R,
+    alloc: Global,
+    path: &str,
+) -> Result<FileTwin, Refusal> {
+    if is_taken(rt, path) {
+        return Err(Refusal::NoJournal);
+    }
+    match FileTwin::open_to_read(rt, alloc, path, MOST_JOURNAL) {
+        Ok(twin) => Ok(twin),
+        Err(fault) => Err(not_opened(fault)),
     }
 }
 
@@ -353,14 +381,14 @@ fn play_script<O: Write>(
 ) -> io::Result<Status>
     ensures { IfOk result (λ status. PlaysRuns config (map as_run runs.now) status (O.contents output.old) (O.contents output.new)) }
 {
-    let mut disk = FuseDisk::new(MemDisk::new(alloc));
-    match format(&mut disk) {
+    let mut twin = FuseTwin::new(MemTwin::new(alloc));
+    match format(&mut twin) {
         Ok(()) => {
-            let report = play_runs(alloc, disk, config, runs);
+            let report = play_runs(alloc, twin, config, runs);
             print_report(&report, sets_fuse(runs), output)
         }
         Err(_) => {
-            drop(disk);
+            drop(twin);
             drop(config);
             refuse(output, Refusal::Memory)
         }

@@ -1,6 +1,10 @@
 //! What is wrong with a file or a configuration, in a sentence for people.
 use crate::input::MOST_BYTES;
+use crate::journal::is_taken;
+use crate::status::Refusal;
+use disk_core::Side;
 use route_table::FaultKind;
+use std::alloc::{AllocError, Global};
 use std::fs::{self, File, OpenOptions, TryLockError};
 use std::io::{self, Write};
 use std::rt::Files;
@@ -11,12 +15,69 @@ use std::str;
 pub enum Purpose {
     /// To read it whole.
     Read,
-    /// To list the journal in it.
+    /// To list the journal that it is a side of.
     List,
     /// To keep a server's journal in it.
     Serve,
-    /// To make a journal in it.
+    /// To make a side of a journal in it.
     Make,
+}
+
+/// Writes a sentence with the reason why the files of a journal were refused, if there is one to tell: that its name is a file's, or which of its files could
+/// not be used, and why.
+///
+/// # Errors
+///
+/// The sentence could not be written, or memory was refused for it.
+pub fn tell_journal<R: Files<File = File>, E: Write>(
+    rt: &R,
+    alloc: Global,
+    name: &str,
+    purpose: Purpose,
+    refusal: Refusal,
+    errors: &mut E,
+) -> io::Result<()> {
+    match refusal {
+        Refusal::File => {
+            let path = faulty_side(rt, alloc, name, purpose)?;
+            tell_file(rt, &path, purpose, errors)
+        }
+        Refusal::NoJournal if is_taken(rt, name) => writeln!(
+            errors,
+            "{name} is there itself: a journal is in {name}.0 and {name}.1, and one of format 1 isn't read"
+        ),
+        _ => Ok(()),
+    }
+}
+
+/// The file of a journal that could not be used: the first, if that is so of it, or else the second.
+fn faulty_side<R: Files<File = File>>(
+    rt: &R,
+    alloc: Global,
+    name: &str,
+    purpose: Purpose,
+) -> Result<String, AllocError> {
+    let first = Side::First.file_name(alloc, name)?;
+    if is_usable(rt, &first, purpose) {
+        return Side::Second.file_name(alloc, name);
+    }
+    Ok(first)
+}
+
+/// Whether a regular file is there and can be opened, or may be made.
+fn is_usable<R: Files<File = File>>(rt: &R, path: &str, purpose: Purpose) -> bool {
+    match fs::metadata(rt, path) {
+        Ok(found) => found.is_file() && open_for(rt, path, purpose).is_ok(),
+        Err(_) => purpose == Purpose::Make,
+    }
+}
+
+/// Opens a file that is there, as it is opened for this.
+fn open_for<R: Files<File = File>>(rt: &R, path: &str, purpose: Purpose) -> io::Result<File> {
+    let writes = matches!(purpose, Purpose::Serve | Purpose::Make);
+    let mut options = OpenOptions::new();
+    options.read(true).write(writes);
+    options.open(rt, path)
 }
 
 /// Writes a sentence with the path of a file that could not be used, and the reason. What refused the file told none, so it is looked for here: the file is
@@ -44,10 +105,7 @@ pub fn tell_file<R: Files<File = File>, E: Write>(
             "the file {path} can't be used: it is no regular file"
         );
     }
-    let writes = matches!(purpose, Purpose::Serve | Purpose::Make);
-    let mut options = OpenOptions::new();
-    options.read(true).write(writes);
-    match options.open(rt, path) {
+    match open_for(rt, path, purpose) {
         Ok(file) => tell_opened(path, purpose, &file, errors),
         Err(error) => writeln!(errors, "the file {path} can't be used: {error}"),
     }

@@ -28,15 +28,17 @@ pub enum Task<'a> {
         /// The file.
         file: &'a str,
     },
-    /// To make a journal in a file.
+    /// To make a journal.
     Format {
-        /// The file.
+        /// The name of its files, without their numbers.
         file: &'a str,
     },
-    /// To list the journal in a file.
+    /// To list a journal.
     Journal {
-        /// The file.
+        /// The name of its files, without their numbers.
         file: &'a str,
+        /// Whether it is told in short.
+        summary: bool,
     },
 }
 
@@ -45,7 +47,7 @@ pub enum Task<'a> {
 pub struct Serving<'a> {
     /// The file of the router's configuration; the standard configuration where none is named.
     pub config: Option<&'a str>,
-    /// The file of the journal; without it the journal is kept in memory.
+    /// The name of the journal's files, without their numbers; without it the journal is kept in memory.
     pub journal: Option<&'a str>,
     /// The number of connections after which the program ends, at least 1; without it the program doesn't end.
     pub connections: Option<u64>,
@@ -99,7 +101,8 @@ pub fn read_words<'a, S: AsStr>(alloc: Global, words: &'a [S]) -> Result<Task<'a
         }
         Some(("journal", rest)) => {
             if let Some(file) = rest.get_str("FILE") {
-                return Ok(Task::Journal { file });
+                let summary = rest.get_flag("summary");
+                return Ok(Task::Journal { file, summary });
             }
         }
         _ => {}
@@ -157,7 +160,7 @@ fn serve<'a>(alloc: Global) -> Result<Command<'a>, AllocError> {
         .value_name("FILE")
         .action(ArgAction::Set)
         .help(
-            "A file that a journal was made in; without it durable deliveries are lost when the program ends",
+            "A journal, in FILE.0 and FILE.1; without it durable deliveries are lost when the program ends",
         );
     let connections = Arg::new(alloc, "connections")
         .long("connections")
@@ -204,19 +207,27 @@ fn frames<'a>(alloc: Global) -> Result<Command<'a>, AllocError> {
 
 /// The command that makes a journal.
 fn format<'a>(alloc: Global) -> Result<Command<'a>, AllocError> {
-    let file = file(alloc, "A file that is empty, or that is made");
+    let file = file(
+        alloc,
+        "The journal is made in FILE.0 and FILE.1, which are missing or empty",
+    );
     Command::new(alloc, "format")
-        .about("Makes a journal of durable deliveries in a file")
+        .about("Makes a journal of durable deliveries on two files")
         .arg(file)
 }
 
 /// The command that lists a journal.
 fn journal<'a>(alloc: Global) -> Result<Command<'a>, AllocError> {
-    let file = file(alloc, "A file that a journal was made in");
+    let summary = Arg::new(alloc, "summary")
+        .long("summary")
+        .action(ArgAction::SetTrue)
+        .help("Tells it in short: its size, its rows, each terminus, and the room that is left");
+    let file = file(alloc, "A journal, in FILE.0 and FILE.1");
     Command::new(alloc, "journal")
         .about(
             "Lists the acts of a journal, each with the place of its batch, and what its book has",
         )
+        .arg(summary)?
         .arg(file)
 }
 

@@ -1,11 +1,16 @@
 //! Questions on what the program does: scripts, listings, journals, and its arguments.
-use amqr_commands::{Status, format_disk, list, list_journal, play_text, run};
+use amqr_commands::{
+    Status, format_twin, list, list_journal, play_text, run, summarize_journal,
+};
 use case_files::{Case, CaseFault, Scene, bytes_of, digits_of, number_of};
-use disk_core::{Crash, FuseDisk, MemDisk};
+use disk_core::{CrashTwin, FuseTwin, MemTwin, Side};
 use route_table::Config;
 use std::alloc::Global;
 use std::fmt::Write;
 use std::fs;
+
+/// Two files in memory that can be made to fail.
+type Twin = FuseTwin<MemTwin>;
 
 /// What the program does; only files are kept between questions.
 #[derive(Clone, Copy)]
@@ -25,6 +30,7 @@ impl Scene for Scripts {
             Question::Play => play(alloc, case),
             Question::Frames => frames(alloc, case.words),
             Question::Journal => journal(alloc, case.words),
+            Question::Summary => summary(alloc, case.words),
             Question::Format => formatted(alloc, case.words),
             Question::File => file(rt, case),
             Question::Run => ran(rt, case),
@@ -40,9 +46,11 @@ enum Question {
     Play,
     /// To list the frames of bytes.
     Frames,
-    /// To list the journal in bytes.
+    /// To list the journal on two files with these bytes.
     Journal,
-    /// To make a journal on a disk with these bytes.
+    /// To tell the journal on two files with these bytes in short.
+    Summary,
+    /// To make a journal on two files with these bytes.
     Format,
     /// To put the input into a file.
     File,
@@ -58,6 +66,7 @@ fn question_of(case: &Case<'_>) -> Result<Question, CaseFault> {
         "play" => Ok(Question::Play),
         "frames" => Ok(Question::Frames),
         "journal" => Ok(Question::Journal),
+        "summary" => Ok(Question::Summary),
         "format" => Ok(Question::Format),
         "file" => Ok(Question::File),
         "run" => Ok(Question::Run),
@@ -93,52 +102,76 @@ fn frames(alloc: Global, words: &str) -> Result<String, CaseFault> {
     answer_of(printed, status)
 }
 
-/// A disk with these bytes, where each call after a number of calls fails: `BYTES CALLS`, or `BYTES` where none does.
-fn disk_of(alloc: Global, words: &str) -> Result<FuseDisk<MemDisk>, CaseFault> {
-    let (digits, calls) = match words.split_once(' ') {
-        None => (words, None),
-        Some((digits, calls)) => (digits, Some(number_of(Some(calls))?)),
+/// Two files with these bytes, where each call after a number of calls fails: `FIRST SECOND CALLS`, or `FIRST SECOND` where none does.
+fn twin_of(alloc: Global, words: &str) -> Result<Twin, CaseFault> {
+    let (first, rest) = words.split_once(' ').ok_or(CaseFault::Word)?;
+    let (second, calls) = match rest.split_once(' ') {
+        None => (rest, None),
+        Some((second, calls)) => (second, Some(number_of(Some(calls))?)),
     };
-    let bytes = bytes_of(alloc, digits)?;
-    let mut disk = FuseDisk::new(MemDisk::holding(alloc, bytes)?);
+    let first = bytes_of(alloc, first)?;
+    let second = bytes_of(alloc, second)?;
+    let mut twin = FuseTwin::new(MemTwin::holding(alloc, first, second)?);
     if let Some(calls) = calls {
-        Crash::fuse(&mut disk, calls);
+        CrashTwin::fuse(&mut twin, calls);
     }
-    Ok(disk)
+    Ok(twin)
 }
 
-/// Lists the journal on the disk that words tell.
+/// Lists the journal on the files that words tell.
 fn journal(alloc: Global, words: &str) -> Result<String, CaseFault> {
-    let mut disk = disk_of(alloc, words)?;
-    let answer = listed(alloc, &mut disk);
-    drop(disk);
+    let mut twin = twin_of(alloc, words)?;
+    let answer = listed(alloc, &mut twin);
+    drop(twin);
     answer
 }
 
-/// Lists the journal on a disk.
-fn listed(alloc: Global, disk: &mut FuseDisk<MemDisk>) -> Result<String, CaseFault> {
+/// Lists the journal on two files.
+fn listed(alloc: Global, twin: &mut Twin) -> Result<String, CaseFault> {
     let mut printed = Vec::new(alloc);
-    let status = list_journal(alloc, disk, &mut printed)?;
+    let status = list_journal(alloc, twin, &mut printed)?;
     answer_of(printed, status)
 }
 
-/// Makes a journal on the disk that words tell: what is printed, and the bytes that the disk has then.
+/// Tells the journal on the files that words tell in short.
+fn summary(alloc: Global, words: &str) -> Result<String, CaseFault> {
+    let mut twin = twin_of(alloc, words)?;
+    let answer = summarized(alloc, &mut twin);
+    drop(twin);
+    answer
+}
+
+/// Tells the journal on two files in short.
+fn summarized(alloc: Global, twin: &mut Twin) -> Result<String, CaseFault> {
+    let mut printed = Vec::new(alloc);
+    let status = summarize_journal(alloc, twin, &mut printed)?;
+    answer_of(printed, status)
+}
+
+/// Makes a journal on the files that words tell: what is printed, and the bytes that they have then.
 fn formatted(alloc: Global, words: &str) -> Result<String, CaseFault> {
-    let mut disk = disk_of(alloc, words)?;
-    let made = made(alloc, &mut disk);
-    let left = disk.into_inner();
-    let digits = digits_of(alloc, left.bytes());
+    let mut twin = twin_of(alloc, words)?;
+    let made = made(alloc, &mut twin);
+    let left = twin.into_inner();
+    let bytes = both(alloc, &left);
     drop(left);
     let mut text = made?;
-    let digits = digits?;
-    writeln!(text, "disk {digits}")?;
+    let bytes = bytes?;
+    writeln!(text, "files {bytes}")?;
     Ok(text)
 }
 
-/// Makes a journal on a disk.
-fn made(alloc: Global, disk: &mut FuseDisk<MemDisk>) -> Result<String, CaseFault> {
+/// The bytes of two files.
+fn both(alloc: Global, twin: &MemTwin) -> Result<String, CaseFault> {
+    let first = digits_of(alloc, twin.bytes(Side::First))?;
+    let second = digits_of(alloc, twin.bytes(Side::Second))?;
+    Ok(format!(in alloc; "{first} {second}")?)
+}
+
+/// Makes a journal on two files.
+fn made(alloc: Global, twin: &mut Twin) -> Result<String, CaseFault> {
     let mut printed = Vec::new(alloc);
-    let status = format_disk(disk, &mut printed)?;
+    let status = format_twin(twin, &mut printed)?;
     answer_of(printed, status)
 }
 

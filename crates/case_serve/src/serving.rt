@@ -7,8 +7,7 @@ ghost use Rattle.serve_lock.specs.Blank.{AreOf};
 use crate::row::Row;
 use crate::threads::serve_all;
 use core_machine::{Counts, Machine};
-use disk_core::{DiskFault, MemDisk};
-use gate_journal::{OpenFault, format};
+use disk_core::{DiskFault, MemTwin};
 use route_table::Config;
 use router_core::Core;
 use router_serve::{Blanks, Closed, Names, NoLog, Server};
@@ -16,6 +15,7 @@ use std::alloc::{AllocError, Global};
 use std::marker::Brand;
 use std::sync::Wait;
 use std::thread::Threads;
+use twin_journal::{OpenFault, format};
 
 /// What is left once a row was served.
 #[derive(Drop)]
@@ -26,25 +26,25 @@ pub struct Left {
     pub counts: Counts,
     /// The number of the journal's last batch.
     pub appended: u64,
-    /// The disk of the journal.
-    pub disk: MemDisk,
+    /// The files of the journal.
+    pub twin: MemTwin,
 }
 
 /// A new journal in memory.
-fn new_journal(alloc: Global) -> Result<MemDisk, DiskFault> {
-    let mut disk = MemDisk::new(alloc);
-    format(&mut disk)?;
-    Ok(disk)
+fn new_journal(alloc: Global) -> Result<MemTwin, DiskFault> {
+    let mut twin = MemTwin::new(alloc);
+    format(&mut twin)?;
+    Ok(twin)
 }
 
 /// A router over a new journal in memory.
-fn opened(alloc: Global, config: &Config) -> Result<Core<MemDisk>, OpenFault>
-    ensures opened { IfOk result (λ core. IsOpened ⟦<Core<MemDisk> as Machine>⟧.meaning (opening_of config.now core) core) }
+fn opened(alloc: Global, config: &Config) -> Result<Core<MemTwin>, OpenFault>
+    ensures opened { IfOk result (λ core. IsOpened ⟦<Core<MemTwin> as Machine>⟧.meaning (opening_of config.now core) core) }
 {
-    let Ok(disk) = new_journal(alloc) else {
+    let Ok(twin) = new_journal(alloc) else {
         return Err(OpenFault::Memory);
     };
-    match Core::open(alloc, disk, config) {
+    match Core::open(alloc, twin, config) {
         Ok(core) => Ok(core),
         Err(fault) => Err(fault),
     }
@@ -70,21 +70,21 @@ fn counted<N: Names, R: Threads + Wait + Sync>(
     alloc: Global,
     row: &Row,
     config: Config,
-    core: Core<MemDisk>,
+    core: Core<MemTwin>,
     blanks: Blanks,
 ) -> Result<Left, AllocError>
-    requires opened { IsOpened ⟦<Core<MemDisk> as Machine>⟧.meaning N.opening core }
+    requires opened { IsOpened ⟦<Core<MemTwin> as Machine>⟧.meaning N.opening core }
     requires blanks { AreOf N.ups N.items N.downs N.ticks N.starts N.batches N.seats blanks }
     requires seats { N.seats ≡ 2 ^ 62 }
 {
     drop(config);
-    let server: Server<Core<MemDisk>, N> = Server::new(alloc, core, blanks)?;
+    let server: Server<Core<MemTwin>, N> = Server::new(alloc, core, blanks)?;
     serve_all(rt, &server, row);
     Ok(left_of(server.close()))
 }
 
 /// What a router left, of which all but the journal is let go.
-fn left_of(closed: Closed<Core<MemDisk>, NoLog>) -> Left {
+fn left_of(closed: Closed<Core<MemTwin>, NoLog>) -> Left {
     let Closed {
         all,
         counts,
@@ -96,6 +96,6 @@ fn left_of(closed: Closed<Core<MemDisk>, NoLog>) -> Left {
         all,
         counts,
         appended,
-        disk: core.into_disk(),
+        twin: core.into_twin(),
     }
 }

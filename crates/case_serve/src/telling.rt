@@ -5,13 +5,13 @@ use crate::wire::{Ends, Wire};
 use amqr_files::list_journal;
 use case_files::{CaseFault, digits_of};
 use core_machine::Counts;
-use disk_core::MemDisk;
+use disk_core::{MemTwin, Side};
 use router_serve::{ReadEnd, WriteEnd};
 use std::alloc::Global;
 use std::io::Write;
 use std::sync::Wait;
 
-/// What the seats counted, but for the batches, whose number is the schedule's; the journal's batches, its length and its list; and a
+/// What the seats counted, but for the batches, whose number is the schedule's; the journal's batches, the lengths of its files and its list; and a
 /// line for each thing that isn't as the row has it.
 pub fn tell<R: Wait>(
     rt: &R,
@@ -21,7 +21,7 @@ pub fn tell<R: Wait>(
 ) -> Result<String, CaseFault> {
     let mut told = Vec::new(alloc);
     tell_counts(left, &mut told)?;
-    tell_journal(alloc, &mut left.disk, &mut told)?;
+    tell_journal(alloc, &mut left.twin, &mut told)?;
     if row.is_stuck(rt) {
         writeln!(told, "a thread gave up waiting")?;
     }
@@ -53,10 +53,12 @@ fn tell_counts(left: &Left, told: &mut Vec<u8>) -> Result<(), CaseFault> {
     Ok(writeln!(told, "appended {}", left.appended)?)
 }
 
-/// How many bytes a disk has, and the list of the journal on it.
-fn tell_journal(alloc: Global, disk: &mut MemDisk, told: &mut Vec<u8>) -> Result<(), CaseFault> {
-    writeln!(told, "journal {}", disk.bytes().len())?;
-    let _ = list_journal(alloc, disk, told)?;
+/// How many bytes two files have, and the list of the journal on them.
+fn tell_journal(alloc: Global, twin: &mut MemTwin, told: &mut Vec<u8>) -> Result<(), CaseFault> {
+    let first = twin.bytes(Side::First).len();
+    let second = twin.bytes(Side::Second).len();
+    writeln!(told, "journal {first} {second}")?;
+    let _ = list_journal(alloc, twin, told)?;
     Ok(())
 }
 
