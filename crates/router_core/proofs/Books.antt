@@ -5,8 +5,9 @@ use Rattle.amqp_model.specs.declared.item.Item.{Item}
 use Rattle.amqp_conn.specs.declared.conn.Conn.{Conn}
 use Rattle.book_model.specs.declared.act.Act.{Act}
 use Rattle.book_model.specs.Book.{BookView, effects}
-use Rattle.gate_journal.specs.Reserve.{reserve}
-use Rattle.journal_store.specs.Store.{OpensTo, book_of, count_of, used_of, kept_of, used_after, batches_after, exceeds}
+use Rattle.disk_core.specs.Twin.{Contents}
+use Rattle.journal_store.specs.declared.store.Store.{Store}
+use Rattle.journal_store.specs.Store.{OpensTo, IsSuited, book_of, count_of, batches_after, exceeds}
 use Rattle.router_trace.specs.declared.binding.Binding.{Binding}
 use Rattle.router_trace.specs.declared.event.Event.{Event}
 use Rattle.router_trace.specs.declared.event.Event.TheVariants as event
@@ -61,21 +62,19 @@ module _ {A : Type 0} (view : List Entry → A) (out : (c : ℕ) (i : Item) (t :
 journal_handled : (id : List ℕ) (t : List Entry) (e : Event) → journaled (booked t e) ≡ journaled (handled id t (step_of e))
 journal_handled id t e = sym (view_answered journaled (λ c i u. refl) (λ x u. refl) id (booked t e) e)
 
-pub journals_handled : {D : Type 0} (core : Core D) (id : List ℕ) (t : List Entry) (e : Event) → Journals core (booked t e) → Journals core (handled id t (step_of e))
+pub journals_handled : {T : Type 0} (core : Core T) (id : List ℕ) (t : List Entry) (e : Event) → Journals core (booked t e) → Journals core (handled id t (step_of e))
 journals_handled core id t e j = record {
   book = j.book ∙ ap (λ (x : Journaled). x.book) (journal_handled id t e);
   batches = j.batches ∙ ap (λ (x : Journaled). x.batches) (journal_handled id t e);
-  used = j.used ∙ ap (λ (x : Journaled). x.used) (journal_handled id t e);
-  kept = j.kept ∙ ap (λ (x : Journaled). reserve x.book) (journal_handled id t e);
+  suits = j.suits;
 }
 
 -- so does a router with the same store
-pub journals_stored : {D : Type 0} (old new : Core D) (t : List Entry) → new.store ≡ old.store → Journals old t → Journals new t
-journals_stored old new t same j = record {
+pub journals_stored : {T : Type 0} (old new : Core T) (t : List Entry) → new.store ≡ old.store → Journals old t → Journals new t
+journals_stored {T} old new t same j = record {
   book = ap (λ s. book_of s) same ∙ j.book;
   batches = ap (λ s. count_of s) same ∙ j.batches;
-  used = ap (λ s. used_of s) same ∙ j.used;
-  kept = ap (λ s. kept_of s) same ∙ j.kept;
+  suits = subst (λ (s : Store T). IsSuited s) (sym same) j.suits;
 }
 
 -- tests of two things
@@ -111,7 +110,7 @@ started_handled id t e taken =
     view_answered is_started (λ c i u. refl) (λ x u. refl) id (booked t e) e ∙ started_booked t e ∙ in_turn t e (or_first (is_out_of_turn t e) (refuses t e) taken)
 
 -- the router agrees with the trace after an event
-pub fits_handled : {D : Type 0} (new : Core D) (id : List ℕ) (t : List Entry) (e : Event) → declines t e ≡ false
+pub fits_handled : {T : Type 0} (new : Core T) (id : List ℕ) (t : List Entry) (e : Event) → declines t e ≡ false
     → TablesFit (state_of new) (handled id t (step_of e)) → new.started ≡ true → Journals new (booked t e) → Fits new (handled id t (step_of e))
 fits_handled new id t e taken tables started journal = record {
   tables = tables;
@@ -120,42 +119,25 @@ fits_handled new id t e taken tables started journal = record {
 }
 
 -- What is planned and admitted, by the journal that the router has, is the event's: its acts, and the answer to its item.
-abbrev pub early_of : {D : Type 0} → Core D → List Entry → Event → Bool
-early_of core t e = exceeds (used_of core.store) (kept_of core.store) (planned_acts false (kept_book core) t e)
+abbrev pub early_of : {T : Type 0} → Core T → List Entry → Event → Bool
+early_of core t e = exceeds (kept_book core) (planned_acts false (kept_book core) t e)
 
-abbrev admitted_of : Journaled → List Entry → Event → Bool → List Act
-admitted_of j t e full = admits j.book (event_admission j.book t e (event_answer full j.book t e))
-
-pub acts_are : {D : Type 0} (core : Core D) (t : List Entry) (e : Event) → Fits core t
-    → with_admission (early_of core t e) (used_of core.store) (kept_of core.store) (planned_acts (early_of core t e) (kept_book core) t e)
+pub acts_are : {T : Type 0} (core : Core T) (t : List Entry) (e : Event) → Fits core t
+    → with_admission (early_of core t e) (kept_book core) (planned_acts (early_of core t e) (kept_book core) t e)
     (admits (kept_book core) (event_admission (kept_book core) t e (event_answer (early_of core t e) (kept_book core) t e))) ≡ acts_of t e
 acts_are core t e f =
-    ap (λ (x : BookView). with_admission (exceeds (used_of core.store) (kept_of core.store) (planned_acts false x t e)) (used_of core.store) (kept_of core.store)
-    (planned_acts (exceeds (used_of core.store) (kept_of core.store) (planned_acts false x t e)) x t e)
-    (admits x (event_admission x t e (event_answer (exceeds (used_of core.store) (kept_of core.store) (planned_acts false x t e)) x t e)))) f.journal.book
-    ∙ ap (λ (u : ℕ). with_admission (exceeds u (kept_of core.store) (planned_acts false (book_in t) t e)) u (kept_of core.store)
-    (planned_acts (exceeds u (kept_of core.store) (planned_acts false (book_in t) t e)) (book_in t) t e)
-    (admitted_of (journaled t) t e (exceeds u (kept_of core.store) (planned_acts false (book_in t) t e)))) f.journal.used
-    ∙ ap (λ (k : ℕ). with_admission (exceeds (journaled t).used k (planned_acts false (book_in t) t e)) (journaled t).used k
-    (planned_acts (exceeds (journaled t).used k (planned_acts false (book_in t) t e)) (book_in t) t e)
-    (admitted_of (journaled t) t e (exceeds (journaled t).used k (planned_acts false (book_in t) t e)))) f.journal.kept
-    ∙ (chosen (journaled t).used (reserve (book_in t)) (book_in t) t e).acts
+    ap (λ (x : BookView). with_admission (exceeds x (planned_acts false x t e)) x (planned_acts (exceeds x (planned_acts false x t e)) x t e)
+    (admits x (event_admission x t e (event_answer (exceeds x (planned_acts false x t e)) x t e)))) f.journal.book
+    ∙ (chosen (book_in t) t e).acts
 
 -- whether it finds the journal full
-pub full_is : {D : Type 0} (core : Core D) (t : List Entry) (e : Event) → Fits core t
-    → full_with (early_of core t e) (used_of core.store) (kept_of core.store) (planned_acts (early_of core t e) (kept_book core) t e)
+pub full_is : {T : Type 0} (core : Core T) (t : List Entry) (e : Event) → Fits core t
+    → full_with (early_of core t e) (kept_book core) (planned_acts (early_of core t e) (kept_book core) t e)
     (admits (kept_book core) (event_admission (kept_book core) t e (event_answer (early_of core t e) (kept_book core) t e))) ≡ finds_full (journaled t) t e
 full_is core t e f =
-    ap (λ (x : BookView). full_with (exceeds (used_of core.store) (kept_of core.store) (planned_acts false x t e)) (used_of core.store) (kept_of core.store)
-    (planned_acts (exceeds (used_of core.store) (kept_of core.store) (planned_acts false x t e)) x t e)
-    (admits x (event_admission x t e (event_answer (exceeds (used_of core.store) (kept_of core.store) (planned_acts false x t e)) x t e)))) f.journal.book
-    ∙ ap (λ (u : ℕ). full_with (exceeds u (kept_of core.store) (planned_acts false (book_in t) t e)) u (kept_of core.store)
-    (planned_acts (exceeds u (kept_of core.store) (planned_acts false (book_in t) t e)) (book_in t) t e)
-    (admitted_of (journaled t) t e (exceeds u (kept_of core.store) (planned_acts false (book_in t) t e)))) f.journal.used
-    ∙ ap (λ (k : ℕ). full_with (exceeds (journaled t).used k (planned_acts false (book_in t) t e)) (journaled t).used k
-    (planned_acts (exceeds (journaled t).used k (planned_acts false (book_in t) t e)) (book_in t) t e)
-    (admitted_of (journaled t) t e (exceeds (journaled t).used k (planned_acts false (book_in t) t e)))) f.journal.kept
-    ∙ (chosen (journaled t).used (reserve (book_in t)) (book_in t) t e).full
+    ap (λ (x : BookView). full_with (exceeds x (planned_acts false x t e)) x (planned_acts (exceeds x (planned_acts false x t e)) x t e)
+    (admits x (event_admission x t e (event_answer (exceeds x (planned_acts false x t e)) x t e)))) f.journal.book
+    ∙ (chosen (book_in t) t e).full
 
 -- the answer to its item: it is the same after its acts
 answer_after : (full : Bool) (b : BookView) (t : List Entry) (e : Event) (c : ℕ) (p : Conn) (i : Item) → answer_at full b t c p i ≡ answer_at full b (booked t e) c p i
@@ -177,31 +159,25 @@ answer_found t (event.Down c) = refl
 answer_found t (event.Tick ms) = refl
 answer_found t event.Start = refl
 
-pub answer_is : {D : Type 0} (core : Core D) (t : List Entry) (e : Event) → Fits core t → event_answer (early_of core t e) (kept_book core) t e ≡ answer_to_event (booked t e) e
+pub answer_is : {T : Type 0} (core : Core T) (t : List Entry) (e : Event) → Fits core t → event_answer (early_of core t e) (kept_book core) t e ≡ answer_to_event (booked t e) e
 answer_is core t e f =
-    ap (λ (x : BookView). event_answer (exceeds (used_of core.store) (kept_of core.store) (planned_acts false x t e)) x t e) f.journal.book
-    ∙ ap (λ (u : ℕ). event_answer (exceeds u (kept_of core.store) (planned_acts false (book_in t) t e)) (book_in t) t e) f.journal.used
-    ∙ ap (λ (k : ℕ). event_answer (exceeds (journaled t).used k (planned_acts false (book_in t) t e)) (book_in t) t e) f.journal.kept
-    ∙ (chosen (journaled t).used (reserve (book_in t)) (book_in t) t e).answer
+    ap (λ (x : BookView). event_answer (exceeds x (planned_acts false x t e)) x t e) f.journal.book
+    ∙ (chosen (book_in t) t e).answer
     ∙ answer_found t e
 
 -- the journal after an event's acts are written
-pub journals_after : {D : Type 0} (old new : Core D) (t : List Entry) (e : Event) (acts : List Act) → Journals old t → acts ≡ acts_of t e
-    → kept_book new ≡ effects (kept_book old) acts → count_of new.store ≡ batches_after (count_of old.store) acts → used_of new.store ≡ used_after (used_of old.store) acts
-    → (kept_of old.store ≡ reserve (kept_book old) → kept_of new.store ≡ reserve (kept_book new)) → Journals new (booked t e)
-journals_after old new t e acts j are book count used kept =
-    let now : kept_book new ≡ book_after_event t e
-    = book ∙ ap (λ (x : BookView). effects x acts) j.book ∙ ap (effects (book_in t)) are
-    in record {
-      book = now;
-      batches = count ∙ ap (λ (n : ℕ). batches_after n acts) j.batches ∙ ap (batches_after (journaled t).batches) are;
-      used = used ∙ ap (λ (u : ℕ). used_after u acts) j.used ∙ ap (used_after (journaled t).used) are;
-      kept = kept (j.kept ∙ ap reserve (sym j.book)) ∙ ap reserve now;
-    }
+pub journals_after : {T : Type 0} (old new : Core T) (t : List Entry) (e : Event) (acts : List Act) → Journals old t → acts ≡ acts_of t e
+    → kept_book new ≡ effects (kept_book old) acts → count_of new.store ≡ batches_after (count_of old.store) acts → (IsSuited old.store → IsSuited new.store)
+    → Journals new (booked t e)
+journals_after old new t e acts j are book count suits = record {
+  book = book ∙ ap (λ (x : BookView). effects x acts) j.book ∙ ap (effects (book_in t)) are;
+  batches = count ∙ ap (λ (n : ℕ). batches_after n acts) j.batches ∙ ap (batches_after (journaled t).batches) are;
+  suits = suits j.suits;
+}
 
--- a file opens to the book before the event or after it
-pub before_or_after_event : {D : Type 0} (core : Core D) (t : List Entry) (e : Event) (acts : List Act) (file : List ℕ) → Fits core t → acts ≡ acts_of t e
-    → OpensTo file (kept_book core) ⊎ OpensTo file (effects (kept_book core) acts) → BeforeOrAfterEvent t e file
-before_or_after_event core t e acts file f are (inl opens) = inl (subst (λ (b : BookView). OpensTo file b) f.journal.book opens)
-before_or_after_event core t e acts file f are (inr opens) =
-    inr (subst (λ (b : BookView). OpensTo file b) (ap (λ (x : BookView). effects x acts) f.journal.book ∙ ap (effects (book_in t)) are) opens)
+-- two files open to the book before the event or after it
+pub before_or_after_event : {T : Type 0} (core : Core T) (t : List Entry) (e : Event) (acts : List Act) (contents : Contents) → Fits core t → acts ≡ acts_of t e
+    → OpensTo contents (kept_book core) ⊎ OpensTo contents (effects (kept_book core) acts) → BeforeOrAfterEvent t e contents
+before_or_after_event core t e acts contents f are (inl opens) = inl (subst (λ (b : BookView). OpensTo contents b) f.journal.book opens)
+before_or_after_event core t e acts contents f are (inr opens) =
+    inr (subst (λ (b : BookView). OpensTo contents b) (ap (λ (x : BookView). effects x acts) f.journal.book ∙ ap (effects (book_in t)) are) opens)

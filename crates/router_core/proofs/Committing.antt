@@ -88,20 +88,20 @@ nothing_admitted [] = refl
 nothing_admitted (act ∷ acts) = refl
 
 -- An event's answer and acts, as they are chosen: by what is planned, and what would be admitted if nothing is.
-module _ (used kept : ℕ) (b : BookView) (t : List Entry) (e : Event) where
+module _ (b : BookView) (t : List Entry) (e : Event) where
   abbrev pub early : Bool
-  early = exceeds used kept (planned_acts false b t e)
+  early = exceeds b (planned_acts false b t e)
 
   abbrev pub whole : Bool
-  whole = exceeds used kept (event_acts false b t e)
+  whole = exceeds b (event_acts false b t e)
 
   abbrev pub admitted : Bool → List Act
   admitted full = admits b (event_admission b t e (event_answer full b t e))
 
   pub record Chosen : Type 0 where
     pub answer : event_answer early b t e ≡ event_answer whole b t e
-    pub acts : with_admission early used kept (planned_acts early b t e) (admitted early) ≡ event_acts whole b t e
-    pub full : full_with early used kept (planned_acts early b t e) (admitted early) ≡ whole
+    pub acts : with_admission early b (planned_acts early b t e) (admitted early) ≡ event_acts whole b t e
+    pub full : full_with early b (planned_acts early b t e) (admitted early) ≡ whole
 
   -- something is planned
   some_planned : (act : Act) (acts : List Act) → planned_acts false b t e ≡ act ∷ acts → Chosen
@@ -111,20 +111,20 @@ module _ (used kept : ℕ) (b : BookView) (t : List Entry) (e : Event) where
       only = ap (λ (xs : List Act). or_admits xs (admitted_acts false b t e)) are
 
       alike : early ≡ whole
-      alike = ap (exceeds used kept) are ∙ sym (ap (exceeds used kept) only)
+      alike = ap (exceeds b) are ∙ sym (ap (exceeds b) only)
 
-      by_full : (full : Bool) → (full ≡ true) ⊎ (full ≡ false) → with_admission full used kept (planned_acts full b t e) (admitted full) ≡ event_acts full b t e
+      by_full : (full : Bool) → (full ≡ true) ⊎ (full ≡ false) → with_admission full b (planned_acts full b t e) (admitted full) ≡ event_acts full b t e
       by_full full (inl is) =
-          subst (λ (f : Bool). with_admission f used kept (planned_acts f b t e) (admitted f) ≡ event_acts f b t e) (sym is) (sym (nothing_admitted (planned_acts true b t e)))
+          subst (λ (f : Bool). with_admission f b (planned_acts f b t e) (admitted f) ≡ event_acts f b t e) (sym is) (sym (nothing_admitted (planned_acts true b t e)))
       by_full full (inr is) =
-          subst (λ (f : Bool). with_admission f used kept (planned_acts f b t e) (admitted f) ≡ event_acts f b t e) (sym is)
-          (ap (λ (xs : List Act). or_within used kept xs (admitted false)) are ∙ sym only)
+          subst (λ (f : Bool). with_admission f b (planned_acts f b t e) (admitted f) ≡ event_acts f b t e) (sym is)
+          (ap (λ (xs : List Act). or_within b xs (admitted false)) are ∙ sym only)
 
       -- it is full by what is planned, or not at all
-      told : (full : Bool) → (full ≡ true) ⊎ (full ≡ false) → full_with full used kept (planned_acts full b t e) (admitted full) ≡ full
-      told full (inl is) = subst (λ (f : Bool). full_with f used kept (planned_acts f b t e) (admitted f) ≡ f) (sym is) refl
+      told : (full : Bool) → (full ≡ true) ⊎ (full ≡ false) → full_with full b (planned_acts full b t e) (admitted full) ≡ full
+      told full (inl is) = subst (λ (f : Bool). full_with f b (planned_acts f b t e) (admitted f) ≡ f) (sym is) refl
       told full (inr is) =
-          subst (λ (f : Bool). full_with f used kept (planned_acts f b t e) (admitted f) ≡ f) (sym is) (ap (λ (xs : List Act). or_exceeds used kept xs (admitted false)) are)
+          subst (λ (f : Bool). full_with f b (planned_acts f b t e) (admitted f) ≡ f) (sym is) (ap (λ (xs : List Act). or_exceeds b xs (admitted false)) are)
 
       made : (early ≡ true) ⊎ (early ≡ false) → Chosen
       made is = record {
@@ -145,39 +145,39 @@ module _ (used kept : ℕ) (b : BookView) (t : List Entry) (e : Event) where
       only = ap (λ (xs : List Act). or_admits xs (admitted_acts false b t e)) none
 
       not_early : early ≡ false
-      not_early = ap (exceeds used kept) none
+      not_early = ap (exceeds b) none
 
       -- what is admitted exceeds the room
       over : whole ≡ true → (event_answer true b t e ≡ event_answer false b t e) ⊎ (event_admission b t e (event_answer false b t e) ≡ None)
-          → (event_answer false b t e ≡ event_answer true b t e) × (within (exceeds used kept (admitted false)) (admitted false) ≡ event_acts true b t e)
+          → (event_answer false b t e ≡ event_answer true b t e) × (within (exceeds b (admitted false)) (admitted false) ≡ event_acts true b t e)
       over is (inl same) = (
         sym same,
-        ap (λ (f : Bool). within f (admitted false)) (sym (ap (exceeds used kept) only) ∙ is)
+        ap (λ (f : Bool). within f (admitted false)) (sym (ap (exceeds b) only) ∙ is)
             ∙ sym (nothing_admitted (planned_acts true b t e) ∙ planned_alike b t e same ∙ none),
       )
       over is (inr gone) =
           let nothing : admitted false ≡ [] = ap (admits b) gone in
-          let room : whole ≡ false = ap (exceeds used kept) only ∙ ap (exceeds used kept) nothing in
+          let room : whole ≡ false = ap (exceeds b) only ∙ ap (exceeds b) nothing in
           absurd (true_false (sym is ∙ room))
         where
           true_false : true ≡ false → ⊥
           true_false h = absurd cc
 
       at_early : (full : Bool) → whole ≡ full
-          → (event_answer false b t e ≡ event_answer full b t e) × (within (exceeds used kept (admitted false)) (admitted false) ≡ event_acts full b t e) → Chosen
+          → (event_answer false b t e ≡ event_answer full b t e) × (within (exceeds b (admitted false)) (admitted false) ≡ event_acts full b t e) → Chosen
       at_early full is both = record {
         answer = ap (λ (f : Bool). event_answer f b t e) not_early ∙ both.0 ∙ ap (λ (f : Bool). event_answer f b t e) (sym is);
         acts =
-            ap (λ (f : Bool). with_admission f used kept (planned_acts f b t e) (admitted f)) not_early
-            ∙ ap (λ (xs : List Act). or_within used kept xs (admitted false)) none ∙ both.1 ∙ ap (λ (f : Bool). event_acts f b t e) (sym is);
+            ap (λ (f : Bool). with_admission f b (planned_acts f b t e) (admitted f)) not_early
+            ∙ ap (λ (xs : List Act). or_within b xs (admitted false)) none ∙ both.1 ∙ ap (λ (f : Bool). event_acts f b t e) (sym is);
         full =
-            ap (λ (f : Bool). full_with f used kept (planned_acts f b t e) (admitted f)) not_early
-            ∙ ap (λ (xs : List Act). or_exceeds used kept xs (admitted false)) none ∙ sym (ap (exceeds used kept) only);
+            ap (λ (f : Bool). full_with f b (planned_acts f b t e) (admitted f)) not_early
+            ∙ ap (λ (xs : List Act). or_exceeds b xs (admitted false)) none ∙ sym (ap (exceeds b) only);
       }
 
       by : (full : Bool) → whole ≡ full → Chosen
       by true is = at_early true is (over is (answer_alike b t e))
-      by false is = at_early false is (refl, ap (λ (f : Bool). within f (admitted false)) (sym (ap (exceeds used kept) only) ∙ is) ∙ sym only)
+      by false is = at_early false is (refl, ap (λ (f : Bool). within f (admitted false)) (sym (ap (exceeds b) only) ∙ is) ∙ sym only)
 
   pub chosen : Chosen
   chosen = by (planned_acts false b t e) refl

@@ -1,10 +1,11 @@
 -- What a core does, in the words of the trait that it is used through.
 use Rattle.std.proofs.Common.{◌≡◌, ◌∙◌, sym, ap, refl, subst, inl, inr, ◌⊎◌, ⊎_elim, ℕ, ◌+◌, ◌≤◌, List, [], ◌∷◌, Result, Ok, Err, OnOk, OnErr, IfOk}
 use Rattle.disk_core.specs.Disk.{LeavesOnly}
+use Rattle.disk_core.specs.Twin.{Contents}
 use Rattle.book_model.specs.declared.act.Act.{Act}
 use Rattle.book_model.specs.Book.{BookView}
-use Rattle.gate_journal.specs.Journal.{batch_count}
-use Rattle.journal_store.specs.Store.{Stands, batches_after, disk_of, journal_of}
+use Rattle.twin_journal.specs.Journal.{batch_count}
+use Rattle.journal_store.specs.Store.{Stands, batches_after, twin_of, journal_of}
 use Rattle.journal_store.specs.declared.store.Store.{Store}
 use Rattle.router_trace.specs.declared.event.Event.{Event}
 use Rattle.router_trace.specs.Trace.{Entry, step_of}
@@ -34,7 +35,7 @@ on_err (Ok x) Q is = tt
 on_err (Err e) Q is = is
 
 -- the trace after the event is the one that the definitions give
-pub fits_next : {D : Type 0} (new : Core D) (id : List ℕ) (t : List Entry) (e : Event) → (u : List Entry) × Replies id t (step_of e) u × Fits new u → Fits new (handled id t (step_of e))
+pub fits_next : {T : Type 0} (new : Core T) (id : List ℕ) (t : List Entry) (e : Event) → (u : List Entry) × Replies id t (step_of e) u × Fits new u → Fits new (handled id t (step_of e))
 fits_next new id t e more = subst (λ (u : List Entry). Fits new u) more.1.answers more.2
 
 -- the journal has one batch more exactly if there are acts
@@ -42,29 +43,29 @@ one_more : (old new : ℕ) (acts : List Act) → new ≡ batches_after old acts 
 one_more old new [] is = inl is
 one_more old new (act ∷ acts) is = inr is
 
-pub batches_next : {D : Type 0} (old new : Core D) (id : List ℕ) (t : List Entry) (e : Event) → Fits old t → Fits new (handled id t (step_of e))
+pub batches_next : {T : Type 0} (old new : Core T) (id : List ℕ) (t : List Entry) (e : Event) → Fits old t → Fits new (handled id t (step_of e))
     → (batch_count (journal_of (store_of new)) ≡ batch_count (journal_of (store_of old))) ⊎ (batch_count (journal_of (store_of new)) ≡ batch_count (journal_of (store_of old)) + 1)
 batches_next old new id t e before after =
     one_more (batch_count (journal_of (store_of old))) (batch_count (journal_of (store_of new))) (acts_of t e)
     (after.journal.batches ∙ ap (λ (j : Journaled). j.batches) (view_answered journaled (λ c i u. refl) (λ b u. refl) id (booked t e) e)
     ∙ ap (λ n. batches_after n (acts_of t e)) (sym before.journal.batches))
 
-module _ {D : Type 0} (seen : D → List ℕ) (may_leave : D → List ℕ → Type 0) where
-  -- the disk keeps the next book
-  pub keeps_next : (old new : Core D) (id : List ℕ) (t : List Entry) (e : Event) → Fits new (handled id t (step_of e))
+module _ {T : Type 0} (seen : T → Contents) (may_leave : T → Contents → Type 0) where
+  -- the files keep the next book
+  pub keeps_next : (old new : Core T) (id : List ℕ) (t : List Entry) (e : Event) → Fits new (handled id t (step_of e))
       → (Stands seen may_leave (store_of old) → Stands seen may_leave (store_of new))
       → KeepsBook seen may_leave old (book_in t) → KeepsBook seen may_leave new (book_in (handled id t (step_of e)))
   keeps_next old new id t e after stands keeps = (stands keeps.0, after.journal.book)
 
   -- nothing of the journal changes
-  pub keeps_on : (old new : Core D) (b : BookView) → store_of new ≡ store_of old → KeepsBook seen may_leave old b → KeepsBook seen may_leave new b
-  keeps_on old new b same keeps = (subst (λ (s : Store D). Stands seen may_leave s) (sym same) keeps.0, ap (λ (s : Store D). s.kept.book) same ∙ keeps.1)
+  pub keeps_on : (old new : Core T) (b : BookView) → store_of new ≡ store_of old → KeepsBook seen may_leave old b → KeepsBook seen may_leave new b
+  keeps_on old new b same keeps = (subst (λ (s : Store T). Stands seen may_leave s) (sym same) keeps.0, ap (λ (s : Store T). s.kept.book) same ∙ keeps.1)
 
   -- a crash leaves the book before the event, or the book after it
-  pub leaves_next : (moment : D → ℕ) (left_since : D → ℕ → List ℕ → Type 0) → ((disk : D) (t : ℕ) (c : List ℕ) → t ≤ moment disk → may_leave disk c → left_since disk t c)
-      → (failures : D → ℕ) (old new : Core D) (t : List Entry) (e : Event)
-      → LeavesOnly moment left_since (disk_of (store_of old)) (disk_of (store_of new)) (BeforeOrAfterEvent t e)
+  pub leaves_next : (moment : T → ℕ) (left_since : T → ℕ → Contents → Type 0) → ((twin : T) (t : ℕ) (c : Contents) → t ≤ moment twin → may_leave twin c → left_since twin t c)
+      → (failures : T → ℕ) (old new : Core T) (t : List Entry) (e : Event)
+      → LeavesOnly moment left_since (twin_of (store_of old)) (twin_of (store_of new)) (BeforeOrAfterEvent t e)
       → LeavesBook may_leave new (BookAt (core_meaning seen may_leave failures) t e)
-  leaves_next moment left_since counts_now failures old new t e run file left =
+  leaves_next moment left_since counts_now failures old new t e run contents left =
       ⊎_elim (λ opens. (book_in t, opens, inl refl)) (λ opens. (book_after_event t e, opens, inr refl))
-      (run.each file (counts_now (disk_of (store_of new)) (moment (disk_of (store_of old))) file run.later left))
+      (run.each contents (counts_now (twin_of (store_of new)) (moment (twin_of (store_of old))) contents run.later left))

@@ -2,9 +2,10 @@
 use Rattle.std.proofs.Common.{◌≡◌, subst, ℕ, List, ◌⊎◌, inl}
 use Rattle.disk_core.specs.Disk.{LeavesOnly}
 use Rattle.disk_core.specs.DiskLaws.{widened}
+use Rattle.disk_core.specs.Twin.{Contents}
 use Rattle.book_model.specs.declared.act.Act.{Act}
 use Rattle.book_model.specs.Book.{BookView, effects}
-use Rattle.journal_store.specs.Store.{OpensTo, Stands, disk_of}
+use Rattle.journal_store.specs.Store.{OpensTo, Stands, twin_of}
 use Rattle.journal_store.proofs.Moments.{unmoved}
 use Rattle.router_trace.specs.declared.event.Event.{Event}
 use Rattle.router_trace.specs.Trace.{Entry}
@@ -14,19 +15,19 @@ use Rattle.router_core.specs.Handling.{Fits, BeforeOrAfterEvent, store_of, kept_
 use Rattle.router_core.proofs.Books.{before_or_after_event}
 
 -- the book before these acts, or the book after them
-abbrev pub BeforeOrAfter : {D : Type 0} → Core D → List Act → List ℕ → Type 0
-BeforeOrAfter core acts file = OpensTo file (kept_book core) ⊎ OpensTo file (effects (kept_book core) acts)
+abbrev pub BeforeOrAfter : {T : Type 0} → Core T → List Act → Contents → Type 0
+BeforeOrAfter core acts contents = OpensTo contents (kept_book core) ⊎ OpensTo contents (effects (kept_book core) acts)
 
-module _ {D : Type 0} (seen : D → List ℕ) (may_leave : D → List ℕ → Type 0) (moment : D → ℕ) (left_since : D → ℕ → List ℕ → Type 0) where
+module _ {T : Type 0} (seen : T → Contents) (may_leave : T → Contents → Type 0) (moment : T → ℕ) (left_since : T → ℕ → Contents → Type 0) where
   -- these are the event's
-  pub known_moment : (core : Core D) (disk : D) (t : List Entry) (e : Event) (acts : List Act) → Fits core t → acts ≡ acts_of t e
-      → LeavesOnly moment left_since (disk_of (store_of core)) disk (BeforeOrAfter core acts) → LeavesOnly moment left_since (disk_of (store_of core)) disk (BeforeOrAfterEvent t e)
-  known_moment core disk t e acts f are run =
-      widened moment left_since _ _ _ _ run (λ file. before_or_after_event core t e acts file f are)
+  pub known_moment : (core : Core T) (twin : T) (t : List Entry) (e : Event) (acts : List Act) → Fits core t → acts ≡ acts_of t e
+      → LeavesOnly moment left_since (twin_of (store_of core)) twin (BeforeOrAfter core acts) → LeavesOnly moment left_since (twin_of (store_of core)) twin (BeforeOrAfterEvent t e)
+  known_moment core twin t e acts f are run =
+      widened moment left_since _ _ _ _ run (λ contents. before_or_after_event core t e acts contents f are)
 
-  -- the disk is left alone
-  pub still_moment : ((d : D) (c : List ℕ) → left_since d (moment d) c → may_leave d c) → (core : Core D) (disk : D) (t : List Entry) (e : Event) → Fits core t
-      → Stands seen may_leave (store_of core) → disk ≡ disk_of (store_of core) → LeavesOnly moment left_since (disk_of (store_of core)) disk (BeforeOrAfterEvent t e)
-  still_moment only_now core disk t e f stands same =
-      widened moment left_since _ _ _ _ (unmoved seen may_leave moment left_since only_now (store_of core) disk same stands)
-      (λ file opens. inl (subst (λ (b : BookView). OpensTo file b) f.journal.book opens))
+  -- the files are left alone
+  pub still_moment : ((twin : T) (c : Contents) → left_since twin (moment twin) c → may_leave twin c) → (core : Core T) (twin : T) (t : List Entry) (e : Event) → Fits core t
+      → Stands seen may_leave (store_of core) → twin ≡ twin_of (store_of core) → LeavesOnly moment left_since (twin_of (store_of core)) twin (BeforeOrAfterEvent t e)
+  still_moment only_now core twin t e f stands same =
+      widened moment left_since _ _ _ _ (unmoved seen may_leave moment left_since only_now (store_of core) twin same stands)
+      (λ contents opens. inl (subst (λ (b : BookView). OpensTo contents b) f.journal.book opens))

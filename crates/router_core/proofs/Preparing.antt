@@ -11,7 +11,6 @@ use Rattle.book_model.specs.declared.row.RowNumber.{RowNumber}
 use Rattle.book_model.specs.Book.{BookView}
 use Rattle.journal_store.specs.declared.acting.TerminusAct.{TerminusAct}
 use Rattle.journal_store.specs.Acting.{event_acts as settled_acts}
-use Rattle.journal_store.specs.Store.{used_of, kept_of}
 use Rattle.router_trace.specs.declared.event.ConnectionId.{ConnectionId}
 use Rattle.router_trace.specs.declared.event.Event.{Event}
 use Rattle.router_trace.specs.declared.event.Event.TheVariants as event
@@ -99,25 +98,25 @@ itemless_admits b t (event.Tick ms) a other = refl
 itemless_admits b t event.Start a other = refl
 
 -- all of it together
-pub prepared : {D : Type 0} (core : Core D) (t : List Entry) (e : Event) (full : Bool) (a : Answer) (planned acts : List Act) → Fits core t → full ≡ early_of core t e
+pub prepared : {T : Type 0} (core : Core T) (t : List Entry) (e : Event) (full : Bool) (a : Answer) (planned acts : List Act) → Fits core t → full ≡ early_of core t e
     → a ≡ event_answer full (kept_book core) t e → planned ≡ planned_acts full (kept_book core) t e
-    → acts ≡ with_admission full (used_of core.store) (kept_of core.store) planned (admits (kept_book core) (event_admission (kept_book core) t e a)) → acts ≡ acts_of t e
+    → acts ≡ with_admission full (kept_book core) planned (admits (kept_book core) (event_admission (kept_book core) t e a)) → acts ≡ acts_of t e
 prepared core t e full a planned acts f early answered are told =
     told
-    ∙ ap (λ (xs : List Act). with_admission full (used_of core.store) (kept_of core.store) xs (admits (kept_book core) (event_admission (kept_book core) t e a))) are
-    ∙ ap (λ (x : Answer). with_admission full (used_of core.store) (kept_of core.store) (planned_acts full (kept_book core) t e) (admits (kept_book core) (event_admission (kept_book core) t e x))) answered
-    ∙ ap (λ (b : Bool). with_admission b (used_of core.store) (kept_of core.store) (planned_acts b (kept_book core) t e)
+    ∙ ap (λ (xs : List Act). with_admission full (kept_book core) xs (admits (kept_book core) (event_admission (kept_book core) t e a))) are
+    ∙ ap (λ (x : Answer). with_admission full (kept_book core) (planned_acts full (kept_book core) t e) (admits (kept_book core) (event_admission (kept_book core) t e x))) answered
+    ∙ ap (λ (b : Bool). with_admission b (kept_book core) (planned_acts b (kept_book core) t e)
     (admits (kept_book core) (event_admission (kept_book core) t e (event_answer b (kept_book core) t e)))) early
     ∙ acts_are core t e f
 
 -- and whether it finds the journal full
-pub found_full : {D : Type 0} (core : Core D) (t : List Entry) (e : Event) (full : Bool) (a : Answer) (planned : List Act) (found : Bool) → Fits core t → full ≡ early_of core t e
+pub found_full : {T : Type 0} (core : Core T) (t : List Entry) (e : Event) (full : Bool) (a : Answer) (planned : List Act) (found : Bool) → Fits core t → full ≡ early_of core t e
     → a ≡ event_answer full (kept_book core) t e → planned ≡ planned_acts full (kept_book core) t e
-    → found ≡ full_with full (used_of core.store) (kept_of core.store) planned (admits (kept_book core) (event_admission (kept_book core) t e a)) → found ≡ finds_full (journaled t) t e
+    → found ≡ full_with full (kept_book core) planned (admits (kept_book core) (event_admission (kept_book core) t e a)) → found ≡ finds_full (journaled t) t e
 found_full core t e full a planned found f early answered are told =
     told
-    ∙ ap (λ (xs : List Act). full_with full (used_of core.store) (kept_of core.store) xs (admits (kept_book core) (event_admission (kept_book core) t e a))) are
-    ∙ ap (λ (x : Answer). full_with full (used_of core.store) (kept_of core.store) (planned_acts full (kept_book core) t e) (admits (kept_book core) (event_admission (kept_book core) t e x))) answered
-    ∙ ap (λ (b : Bool). full_with b (used_of core.store) (kept_of core.store) (planned_acts b (kept_book core) t e)
+    ∙ ap (λ (xs : List Act). full_with full (kept_book core) xs (admits (kept_book core) (event_admission (kept_book core) t e a))) are
+    ∙ ap (λ (x : Answer). full_with full (kept_book core) (planned_acts full (kept_book core) t e) (admits (kept_book core) (event_admission (kept_book core) t e x))) answered
+    ∙ ap (λ (b : Bool). full_with b (kept_book core) (planned_acts b (kept_book core) t e)
     (admits (kept_book core) (event_admission (kept_book core) t e (event_answer b (kept_book core) t e)))) early
     ∙ full_is core t e f

@@ -22,8 +22,8 @@ pub struct Ended<C: Drop> {
     pub failed: Option<CoreFault>,
     /// What its router keeps.
     pub size: Size,
-    /// Its disk, which isn't stopped yet.
-    pub disk: C,
+    /// Its two files, which aren't stopped yet.
+    pub twin: C,
 }
 
 /// The fault with which routers failed, of those of two: want of memory if one had too little, else that of the first.

@@ -3,6 +3,7 @@ ghost use Rattle.std.specs.Prelude.{◌≡◌, ◌+◌, ◌∷◌, ◌++◌, ℕ
 ghost use Rattle.core_machine.specs.Opened.{IsOpened};
 ghost use Rattle.core_player.specs.declared.line.Line.{Line as ALine};
 ghost use Rattle.core_player.specs.declared.line.Line.TheVariants as line;
+ghost use Rattle.disk_core.specs.Twin.{Contents};
 ghost use Rattle.journal_store.specs.Store.{OpensTo, count_of};
 ghost use Rattle.router_core.specs.Handling.{store_of, kept_book};
 ghost use Rattle.router_play.specs.Lives.{Life, Lives};
@@ -17,27 +18,27 @@ use crate::finish::{Ended, Size, graver};
 use crate::script::{Report, Run, Stop};
 use core_machine::CoreFault;
 use core_player::{Line, play};
-use disk_core::Crash;
-use gate_journal::OpenFault;
+use disk_core::CrashTwin;
 use router_core::{Config, Core};
 use std::alloc::{AllocError, Global};
+use twin_journal::OpenFault;
 
-/// Plays runs, one after another. The first router is opened on the journal of this disk, each other one on what the stop of the run before it left:
-/// then a line has the run's number. After each step all outboxes are emptied, by connection. The last line has the size of the book, and the number
-/// of the journal's last batch, at the end of the last run; then its disk is stopped too. If memory is refused to the play itself, or a journal can't be
-/// opened, the lines end there.
-pub fn play_runs<C: Crash>(alloc: Global, disk: C, config: Config, runs: &[Run]) -> Report<C>
-    ensures plays { result.halted ≡ None → result.failed ≡ None → (j : Journaled) → HoldsJournal (C.Disk.seen disk) j
+/// Plays runs, one after another. The first router is opened on the journal of these two files, each other one on what the stop of the run before it
+/// left: then a line has the run's number. After each step all outboxes are emptied, by connection. The last line has the size of the book, and the
+/// number of the journal's last batch, at the end of the last run; then its files are stopped too. If memory is refused to the play itself, or a journal
+/// can't be opened, the lines end there.
+pub fn play_runs<C: CrashTwin>(alloc: Global, twin: C, config: Config, runs: &[Run]) -> Report<C>
+    ensures plays { result.halted ≡ None → result.failed ≡ None → (j : Journaled) → HoldsJournal (C.Twin.seen twin) j
         → PlaysAll config 1 j (map (λ r. r.steps.items) runs.now) no_book result.lines.items }
-    ensures carries { result.halted ≡ None → result.failed ≡ None → (j : Journaled) → HoldsJournal (C.Disk.seen disk) j
+    ensures carries { result.halted ≡ None → result.failed ≡ None → (j : Journaled) → HoldsJournal (C.Twin.seen twin) j
         → RunsCarry config 1 j (map (λ r. r.steps.items) runs.now) no_book result.lines.items }
 
     // Where a router failed, a line says so.
     ensures told { result.halted ≡ None → TellsOf result.failed result.lines.items }
 
-    // Whatever fails, and whatever the stops leave: the disk left opens to the book of a run for each, on top of the runs of whose book the disk was.
-    ensures lives { IfSome result.disk (λ left. (past : List Life) (t : Trace) → Lives config.router_id past t → OpensTo (C.Disk.seen disk) (book_in t)
-        → EndsLives config.router_id past (length runs.now) (C.Disk.seen left)) }
+    // Whatever fails, and whatever the stops leave: the files left open to the book of a run for each, on top of the runs to whose book the files opened.
+    ensures lives { IfSome result.twin (λ left. (past : List Life) (t : Trace) → Lives config.router_id past t → OpensTo (C.Twin.seen twin) (book_in t)
+        → EndsLives config.router_id past (length runs.now) (C.Twin.seen left)) }
 {
     let mut lines = Vec::new(alloc);
     let mut failed = None;
@@ -46,7 +47,7 @@ pub fn play_runs<C: Crash>(alloc: Global, disk: C, config: Config, runs: &[Run])
         termini: 0,
         batches: 0,
     };
-    let mut last = disk;
+    let mut last = twin;
     let mut stop = None;
     let mut number = 0u64;
     for run in runs {
@@ -55,7 +56,7 @@ pub fn play_runs<C: Crash>(alloc: Global, disk: C, config: Config, runs: &[Run])
             Ok(ended) => {
                 failed = graver(failed, ended.failed);
                 size = ended.size;
-                last = ended.disk;
+                last = ended.twin;
                 stop = Some(run.stop);
             }
             Err(fault) => return halted(lines, failed, fault),
@@ -66,55 +67,55 @@ pub fn play_runs<C: Crash>(alloc: Global, disk: C, config: Config, runs: &[Run])
             lines,
             halted: None,
             failed,
-            disk: Some(left),
+            twin: Some(left),
         },
         Err(fault) => halted(lines, failed, fault),
     }
 }
 
 /// The report of a play that was halted.
-fn halted<C: Crash>(lines: Vec<Line>, failed: Option<CoreFault>, fault: OpenFault) -> Report<C>
-    ensures { result ≡ record { lines = lines; halted = Some fault; failed = failed; disk = None } }
+fn halted<C: CrashTwin>(lines: Vec<Line>, failed: Option<CoreFault>, fault: OpenFault) -> Report<C>
+    ensures { result ≡ record { lines = lines; halted = Some fault; failed = failed; twin = None } }
 {
     Report {
         lines,
         halted: Some(fault),
         failed,
-        disk: None,
+        twin: None,
     }
 }
 
-/// Appends the line of the book, and gives the disk after the last stop.
-fn close<C: Crash>(
-    disk: C,
+/// Appends the line of the book, and gives the two files after the last stop.
+fn close<C: CrashTwin>(
+    twin: C,
     stop: Option<Stop>,
     size: Size,
     lines: &mut Vec<Line>,
 ) -> Result<C, OpenFault>
     ensures said { OnOk result (lines.new.items ≡ lines.old.items ++ size_line size ∷ []) }
-    ensures left { IfOk result (λ left. IsLeft C.Disk.seen C.Disk.may_leave stop disk (C.Disk.seen left)) }
+    ensures left { IfOk result (λ left. IsLeft C.Twin.seen C.Twin.may_leave stop twin (C.Twin.seen left)) }
 {
     say(lines, line_of(size))?;
-    stopped(disk, stop)
+    stopped(twin, stop)
 }
 
-/// A disk after this stop; the same if there is none.
-fn stopped<C: Crash>(disk: C, stop: Option<Stop>) -> Result<C, OpenFault>
-    ensures left { IfOk result (λ left. IsLeft C.Disk.seen C.Disk.may_leave stop disk (C.Disk.seen left)) }
+/// Two files after this stop; the same if there is none.
+fn stopped<C: CrashTwin>(twin: C, stop: Option<Stop>) -> Result<C, OpenFault>
+    ensures left { IfOk result (λ left. IsLeft C.Twin.seen C.Twin.may_leave stop twin (C.Twin.seen left)) }
 {
     match stop {
-        None => Ok(disk),
-        Some(stop) => match disk.crash(stop.how()) {
+        None => Ok(twin),
+        Some(stop) => match twin.crash(stop.how()) {
             Ok(left) => Ok(left),
             Err(AllocError) => Err(OpenFault::Memory),
         },
     }
 }
 
-/// Opens a router on a disk after this stop, plays a run, and appends its lines.
-fn play_run<C: Crash>(
+/// Opens a router on two files after this stop, plays a run, and appends its lines.
+fn play_run<C: CrashTwin>(
     alloc: Global,
-    disk: C,
+    twin: C,
     stop: Option<Stop>,
     config: &Config,
     number: u64,
@@ -122,32 +123,32 @@ fn play_run<C: Crash>(
     lines: &mut Vec<Line>,
 ) -> Result<Ended<C>, OpenFault>
     // Whatever it finds, its lines are those of the steps from there.
-    ensures plays { IfOk result (λ ended. ended.failed ≡ None → (file : List ℕ) × IsLeft C.Disk.seen C.Disk.may_leave stop disk file × ((j : Journaled) → HoldsJournal file j
+    ensures plays { IfOk result (λ ended. ended.failed ≡ None → (contents : Contents) × IsLeft C.Twin.seen C.Twin.may_leave stop twin contents × ((j : Journaled) → HoldsJournal contents j
         → (u : Scene) × Plays run.now.steps.items (opening_on config.now j) u × (lines.new.items ≡ lines.old.items ++ run_line number ++ u.lines)
-        × (size_line ended.size ≡ book_line (journaled u.trace)) × ((left : List ℕ) → C.Disk.may_leave ended.disk left → HoldsJournal left (journaled u.trace)))) }
+        × (size_line ended.size ≡ book_line (journaled u.trace)) × ((left : Contents) → C.Twin.may_leave ended.twin left → HoldsJournal left (journaled u.trace)))) }
     ensures told { IfOk result (λ ended. TellsOf ended.failed lines.new.items) }
     ensures more { OnOk result ((more : List ALine) × (lines.new.items ≡ lines.old.items ++ more)) }
 
     // Whatever fails, a stop leaves the book of one more run.
-    ensures lives { IfOk result (λ ended. (file : List ℕ) × IsLeft C.Disk.seen C.Disk.may_leave stop disk file
-        × ((past : List Life) (t : Trace) → Lives config.now.router_id past t → OpensTo file (book_in t)
-        → (left : List ℕ) → C.Disk.may_leave ended.disk left → EndsLives config.now.router_id past 1 left)) }
+    ensures lives { IfOk result (λ ended. (contents : Contents) × IsLeft C.Twin.seen C.Twin.may_leave stop twin contents
+        × ((past : List Life) (t : Trace) → Lives config.now.router_id past t → OpensTo contents (book_in t)
+        → (left : Contents) → C.Twin.may_leave ended.twin left → EndsLives config.now.router_id past 1 left)) }
 {
-    let begun = stopped(disk, stop)?;
+    let begun = stopped(twin, stop)?;
     let core = Core::open(alloc, begun, config)?;
     say_run(lines, number)?;
     match play(alloc, config, core, &run.steps, lines) {
         Ok(played) => Ok(Ended {
             failed: played.fault,
             size: size_of(&played.core),
-            disk: played.core.into_disk(),
+            twin: played.core.into_twin(),
         }),
         Err(AllocError) => Err(OpenFault::Memory),
     }
 }
 
 /// The size of a router's book, and the number of its journal's last batch.
-fn size_of<C: Crash>(core: &Core<C>) -> Size
+fn size_of<C: CrashTwin>(core: &Core<C>) -> Size
     ensures rows { result.rows ≡ length (kept_book core.now).rows }
     ensures termini { result.termini ≡ length (kept_book core.now).termini }
     ensures batches { result.batches ≡ count_of (store_of core.now) }

@@ -4,9 +4,9 @@ ghost use Rattle.router_play.specs.Stopping.{how_of};
 
 use core_machine::CoreFault;
 use core_player::{Line, Step};
-use gate_journal::OpenFault;
+use twin_journal::OpenFault;
 
-/// How a run ends: by a stop of the router, of which the disk keeps what was synced, and some of what was not.
+/// How a run ends: by a stop of the router, of which its two files keep what was synced, and some of what was not.
 #[derive(Clone, Copy, Debug, PartialEq, Eq)]
 pub enum Stop {
     /// It keeps none of the writes since the last sync.
@@ -16,7 +16,7 @@ pub enum Stop {
 }
 
 impl Stop {
-    /// How the disk is crashed.
+    /// How the files are crashed.
     pub(crate) fn how(self) -> u8
         ensures { result ≡ how_of self }
     {
@@ -44,9 +44,9 @@ pub struct Report<C: Drop> {
     /// What ended the play before its end: `Memory` where memory was refused to the play itself, to a stop or to an opening, or another
     /// fault with which a journal couldn't be opened.
     pub halted: Option<OpenFault>,
-    /// The fault with which a router failed, of its disk or of memory, after which it answers nothing else. Where more than one
+    /// The fault with which a router failed, of its files or of memory, after which it answers nothing else. Where more than one
     /// failed: want of memory if one had too little, else the fault of the first.
     pub failed: Option<CoreFault>,
-    /// The disk after the last run's stop, with no fuse set; the one given where there is no run. None where the play was halted.
-    pub disk: Option<C>,
+    /// The two files after the last run's stop, with no fuse set; those given where there is no run. None where the play was halted.
+    pub twin: Option<C>,
 }

@@ -16,4 +16,4 @@ pub record AreOf (up item down tick start batch parts : ℕ) (blanks : Blanks) :
 
 -- an opening for names that a call has yet to pick
 abbrev pub unnamed : Beginning
-unnamed = record { routing = no_routing; book = empty_book; used = 0; batches = 0 }
+unnamed = record { routing = no_routing; book = empty_book; batches = 0 }

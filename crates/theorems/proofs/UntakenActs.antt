@@ -21,7 +21,6 @@ use Rattle.book_model.specs.declared.terminus.LinkKey.{LinkKey}
 use Rattle.book_model.specs.declared.terminus.Terminus.{Terminus}
 use Rattle.book_model.specs.declared.terminus.TerminusNumber.{TerminusNumber}
 use Rattle.book_model.specs.Book.{BookView, terminus_of}
-use Rattle.gate_journal.specs.Reserve.{reserve}
 use Rattle.journal_store.specs.declared.acting.TerminusAct.TheVariants as terminus
 use Rattle.journal_store.specs.Acting.{event_acts as settled_acts}
 use Rattle.journal_store.specs.Lost.{start_acts}
@@ -92,7 +91,7 @@ plain_event_acts full b x e = or_admits (plain_planned full b x e) (plain_admitt
 
 -- whether it finds the journal full, and its acts
 abbrev pub plain_full : Journaled → List Entry → Event → Bool
-plain_full j x e = exceeds j.used (reserve j.book) (plain_event_acts false j.book x e)
+plain_full j x e = exceeds j.book (plain_event_acts false j.book x e)
 
 abbrev pub plain_acts : Journaled → List Entry → Event → List Act
 plain_acts j x e = plain_event_acts (plain_full j x e) j.book x e
@@ -288,7 +287,7 @@ same_event_acts full b t e calm none = λ j. or_admits (same_planned full b t e 
 
 pub same_full : (t : List Entry) (e : Event) → Calm t → due t e ≡ [] → finds_full (journaled t) t e ≡ plain_full (journaled (untaken t)) (untaken t) e
 same_full t e calm none =
-    ap (exceeds (journaled t).used (reserve (book_in t))) (same_event_acts false (book_in t) t e calm none)
+    ap (exceeds (book_in t)) (same_event_acts false (book_in t) t e calm none)
     ∙ ap (λ (j : Journaled). plain_full j (untaken t) e) (same_journaled t)
 
 pub same_acts : (t : List Entry) (e : Event) → Calm t → due t e ≡ [] → acts_of t e ≡ plain_acts (journaled (untaken t)) (untaken t) e

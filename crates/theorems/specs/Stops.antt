@@ -2,7 +2,8 @@
 -- router goes on.
 use Rattle.std.specs.Prelude.{◌≡◌, ◌≤◌, ℕ, List, [], ◌∷◌, ◌++◌, take, None}
 use Rattle.disk_core.specs.Disk.{LeavesOnly}
-use Rattle.journal_store.specs.Store.{OpensTo, Stands, disk_of}
+use Rattle.disk_core.specs.Twin.{Contents}
+use Rattle.journal_store.specs.Store.{OpensTo, Stands, twin_of}
 use Rattle.router_trace.specs.declared.event.Event.{Event}
 use Rattle.router_trace.specs.Trace.{Trace, Beginning}
 use Rattle.router_trace.specs.Configuration.{opened}
@@ -16,37 +17,37 @@ use Rattle.router_core.specs.Leaving.{LeftBy}
 use Rattle.router_core.specs.Runs.{Run}
 use Rattle.theorems.specs.Lives.{Life, Lives, CutOff}
 
--- A kind of disk, by what the trait `Disk` says of it: what a read gives, what a stop may leave, which moment it is,
--- and what a stop since some moment might have left.
-pub record Stopping (D : Type 0) : Type 1 where
-  pub seen : D → List ℕ
-  pub may_leave : D → List ℕ → Type 0
-  pub moment : D → ℕ
-  pub left_since : D → ℕ → List ℕ → Type 0
+-- A kind of two files that stop together, by what the trait `Twin` says of them: what a read gives, what a stop may
+-- leave, which moment it is, and what a stop since some moment might have left.
+pub record Stopping (T : Type 0) : Type 1 where
+  pub seen : T → Contents
+  pub may_leave : T → Contents → Type 0
+  pub moment : T → ℕ
+  pub left_since : T → ℕ → Contents → Type 0
 
-abbrev pub stopping : {D : Type 0} → (D → List ℕ) → (D → List ℕ → Type 0) → (D → ℕ) → (D → ℕ → List ℕ → Type 0)
-    → Stopping D
+abbrev pub stopping : {T : Type 0} → (T → Contents) → (T → Contents → Type 0) → (T → ℕ) → (T → ℕ → Contents → Type 0)
+    → Stopping T
 stopping seen may_leave moment left_since =
     record { seen = seen; may_leave = may_leave; moment = moment; left_since = left_since }
 
--- the router's journal is on its disk, and a stop leaves just that
-abbrev pub JournalStands : {D : Type 0} → Stopping D → Core D → Type 0
+-- the router's journal is on its two files, and a stop leaves just that
+abbrev pub JournalStands : {T : Type 0} → Stopping T → Core T → Type 0
 JournalStands d core = Stands d.seen d.may_leave (store_of core)
 
--- A stop at any moment, before, within or after any call of the disk, leaves a file that opens to the book after
+-- A stop at any moment, before, within or after any call of the files, leaves two files that open to the book after
 -- some first events, or to that book after the acts of the next one.
-abbrev pub AnyMomentLeavesAPrefix : {D : Type 0} → Stopping D → Core D → List Event → Core D → Type 0
+abbrev pub AnyMomentLeavesAPrefix : {T : Type 0} → Stopping T → Core T → List Event → Core T → Type 0
 AnyMomentLeavesAPrefix d old events new =
     (t : Trace) → Fits old t → JournalStands d old
-    → LeavesOnly d.moment d.left_since (disk_of (store_of old)) (disk_of (store_of new)) (LeftBy (id_of old) t events)
+    → LeavesOnly d.moment d.left_since (twin_of (store_of old)) (twin_of (store_of new)) (LeftBy (id_of old) t events)
 
--- every file that a stop may leave now opens to this book
-abbrev pub AllOpenTo : {D : Type 0} → Stopping D → Core D → Trace → Type 0
-AllOpenTo d core u = (file : List ℕ) → d.may_leave (disk_of (store_of core)) file → OpensTo file (book_in u)
+-- any two files that a stop may leave now open to this book
+abbrev pub AllOpenTo : {T : Type 0} → Stopping T → Core T → Trace → Type 0
+AllOpenTo d core u = (contents : Contents) → d.may_leave (twin_of (store_of core)) contents → OpensTo contents (book_in u)
 
--- Where no fault was answered the journal stands at the end, and each file that a stop leaves opens to the book
+-- Where no fault was answered the journal stands at the end, and any two files that a stop leaves open to the book
 -- after all events.
-abbrev pub TheEndLeavesAll : {D : Type 0} → Stopping D → Core D → List Event → Core D → Driven → Type 0
+abbrev pub TheEndLeavesAll : {T : Type 0} → Stopping T → Core T → List Event → Core T → Driven → Type 0
 TheEndLeavesAll d old events new driven =
     driven.fault ≡ None → JournalStands d old
     → JournalStands d new
@@ -62,9 +63,9 @@ IsUnderWay id life lives t = (life.cut ≡ []) × Lives id (life ∷ lives) t
 abbrev pub stopped : Life → List Move → List Event → Life
 stopped life more cut = record { opening = life.opening; moves = life.moves ++ more; cut = cut }
 
--- A file that a stop leaves while these events are handled after t opens to the book of the runs before, and of this one: with the moves of
+-- Two files that a stop leaves while these events are handled after t open to the book of the runs before, and of this one: with the moves of
 -- some first events, each handled and its items taken, and cut off there, or within the event that comes next.
-pub record EndsLife (id : List ℕ) (life : Life) (lives : List Life) (t : Trace) (events : List Event) (file : List ℕ) : Type 0 where
+pub record EndsLife (id : List ℕ) (life : Life) (lives : List Life) (t : Trace) (events : List Event) (contents : Contents) : Type 0 where
   pub first : List Event
   pub rest : List Event
   pub are : events ≡ first ++ rest
@@ -77,20 +78,20 @@ pub record EndsLife (id : List ℕ) (life : Life) (lives : List Life) (t : Trace
   pub trace : Trace
   pub cut_off : CutOff (take most rest) mid trace
   pub ended : Lives id (stopped life more (take most rest) ∷ lives) trace
-  pub opens : OpensTo file (book_in trace)
+  pub opens : OpensTo contents (book_in trace)
 
 -- whatever runs were before, and whatever this one did so far
-abbrev pub EndsALife : {D : Type 0} → Stopping D → Core D → List Event → Core D → Type 0
+abbrev pub EndsALife : {T : Type 0} → Stopping T → Core T → List Event → Core T → Type 0
 EndsALife d old events new =
     (life : Life) (lives : List Life) (t : Trace) → IsUnderWay (id_of old) life lives t → Fits old t → JournalStands d old
-    → LeavesOnly d.moment d.left_since (disk_of (store_of old)) (disk_of (store_of new)) (EndsLife (id_of old) life lives t events)
+    → LeavesOnly d.moment d.left_since (twin_of (store_of old)) (twin_of (store_of new)) (EndsLife (id_of old) life lives t events)
 
 -- a run that has just begun
 abbrev pub born : Beginning → Life
 born g = record { opening = g; moves = []; cut = [] }
 
--- A router that was opened on a file goes on from the runs to whose book the file opens.
-abbrev pub GoesOnFrom : {D : Type 0} → Stopping D → List ℕ → Beginning → List ℕ → Core D → Type 0
-GoesOnFrom d id opening file core =
-    (lives : List Life) (u : Trace) → Lives id lives u → OpensTo file (book_in u)
+-- A router that was opened on two files goes on from the runs to whose book they open.
+abbrev pub GoesOnFrom : {T : Type 0} → Stopping T → List ℕ → Beginning → Contents → Core T → Type 0
+GoesOnFrom d id opening contents core =
+    (lives : List Life) (u : Trace) → Lives id lives u → OpensTo contents (book_in u)
     → IsUnderWay id (born opening) lives (opened opening u) × Fits core (opened opening u) × JournalStands d core

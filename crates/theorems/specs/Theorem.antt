@@ -2,6 +2,7 @@
 -- function of its name in src/theorems.rt proves it. A trace is what happened since the opening (docs/trace.md).
 -- `Always`: in every trace of the router, and over every list of runs; `InOneRun`: in one. `Each`: over the trace so far.
 use Rattle.std.specs.Prelude.{ℕ, List}
+use Rattle.disk_core.specs.Twin.{Contents}
 use Rattle.router_trace.specs.declared.event.Event.{Event}
 use Rattle.router_trace.specs.Trace.{Beginning}
 use Rattle.router_core.specs.declared.driving.Driven.{Driven}
@@ -20,12 +21,12 @@ use Rattle.theorems.specs.Windows.{WindowKept}
 
 -- Stopped at any moment, the journal opens to the book after some first events, or after the next one too; at the
 -- end, if no fault was answered, to the book after all of them. It is the book of the runs before, and of this one.
-abbrev pub AStopLeavesAPrefix : {D : Type 0} → Stopping D → Core D → List Event → Core D → Driven → Type 0
+abbrev pub AStopLeavesAPrefix : {T : Type 0} → Stopping T → Core T → List Event → Core T → Driven → Type 0
 AStopLeavesAPrefix d old es new x = AnyMomentLeavesAPrefix d old es new × TheEndLeavesAll d old es new x × EndsALife d old es new
 
--- A router that is opened on what a stop left goes on from the runs of whose book that is the file.
-abbrev pub ARouterGoesOn : {D : Type 0} → Stopping D → List ℕ → Beginning → List ℕ → Core D → Type 0
-ARouterGoesOn d id opening file core = GoesOnFrom d id opening file core
+-- A router that is opened on what a stop left goes on from the runs of whose book that is.
+abbrev pub ARouterGoesOn : {T : Type 0} → Stopping T → List ℕ → Beginning → Contents → Core T → Type 0
+ARouterGoesOn d id opening contents core = GoesOnFrom d id opening contents core
 
 -- A transfer goes to an attached link, and starts a delivery only where the link has credit left.
 abbrev pub NoDeliveryStartsBeyondCredit : Type 0
@@ -58,7 +59,7 @@ DurableOutcomesAreKeptFirst =
     × InSmallLives (EachOut OutcomeIsKept) × InLives RowsAreDecidedOnce
 
 -- Under the lock, whatever threads do and whatever runs were before: within credit, outcomes kept first, decided once.
-abbrev pub TheLockKeepsThem : {D : Type 0} → Kind D → Type 0
+abbrev pub TheLockKeepsThem : {T : Type 0} → Kind T → Type 0
 TheLockKeepsThem d =
     UnderTheLock d (λ g u. WithinCredit u) WithinCredit × UnderTheLockIfSmall d EachOutcomeIsKept (EachOut OutcomeIsKept)
     × UnderTheLock d EachRowIsDecidedOnce RowsAreDecidedOnce

@@ -1,5 +1,5 @@
 //! The laws of the router, in terms of the protocol: `specs/Theorem.antt` states each in one line. The functions do
-//! nothing: their contracts are the laws. Only `a_stop_leaves_a_prefix` and `a_router_goes_on`, which speak of a disk,
+//! nothing: their contracts are the laws. Only `a_stop_leaves_a_prefix` and `a_router_goes_on`, which speak of files,
 //! make a call: `drive`, and `Core::open`, of which they are laws.
 ghost use Rattle.theorems.specs.Stops.{stopping};
 ghost use Rattle.theorems.specs.Locked.{kind};
@@ -15,39 +15,39 @@ ghost use Rattle.theorems.specs.Theorem.{ConnectionsKeepOrder, WindowsAreKept};
 ghost use Rattle.theorems.specs.Theorem.{ScriptsKeepOrder, ScriptsKeepWindowsAndCredit};
 ghost use Rattle.theorems.specs.Theorem.{TakesMakeNoDifference, ConnectionsAreAnsweredAlone, PiecesMakeNoDifference};
 
-use disk_core::Disk;
-use gate_journal::OpenFault;
+use disk_core::Twin;
 use router_core::{Config, Core, Driven, drive};
 use router_trace::Event;
 use std::alloc::Global;
+use twin_journal::OpenFault;
 
-/// Handles events as `drive` does. Stopped at any moment, before, within or after any call of the disk, whatever the
+/// Handles events as `drive` does. Stopped at any moment, before, within or after any call of its two files, whatever the
 /// call answers, the journal opens to the book of durable links and messages after some first events, or to that
 /// book after the acts of the event that comes next. If no fault is answered it opens, at the end, to the book after
 /// all of them, and the journal stands for the next call.
-pub fn a_stop_leaves_a_prefix<D: Disk>(
+pub fn a_stop_leaves_a_prefix<T: Twin>(
     alloc: Global,
-    core: &mut Core<D>,
+    core: &mut Core<T>,
     events: Vec<Event>,
 ) -> Driven
-    ensures { AStopLeavesAPrefix (stopping D.seen D.may_leave D.moment D.left_since)
+    ensures { AStopLeavesAPrefix (stopping T.seen T.may_leave T.moment T.left_since)
         core.old events.items core.new result }
 {
     drive(alloc, core, events)
 }
 
-/// Opens a router as `Core::open` does. If the disk reads as a file that opens to the book of some runs, as what a stop leaves does, the
+/// Opens a router as `Core::open` does. If the two files read as files that open to the book of some runs, as what a stop leaves does, the
 /// router goes on from these: its trace is theirs, and a new opening on top. So what holds over every list of runs holds of what it does
 /// next, and of what the stop after it leaves (`a_stop_leaves_a_prefix`).
-pub fn a_router_goes_on<D: Disk>(
+pub fn a_router_goes_on<T: Twin>(
     alloc: Global,
-    disk: D,
+    twin: T,
     config: &Config,
-) -> Result<Core<D>, OpenFault>
-    ensures { IfOk result (λ core. ARouterGoesOn (stopping D.seen D.may_leave D.moment D.left_since)
-        config.now.router_id (opening_of config.now core) (D.seen disk) core) }
+) -> Result<Core<T>, OpenFault>
+    ensures { IfOk result (λ core. ARouterGoesOn (stopping T.seen T.may_leave T.moment T.left_since)
+        config.now.router_id (opening_of config.now core) (T.seen twin) core) }
 {
-    match Core::open(alloc, disk, config) {
+    match Core::open(alloc, twin, config) {
         Ok(core) => Ok(core),
         Err(fault) => Err(fault),
     }
@@ -114,8 +114,8 @@ pub fn durable_outcomes_are_kept_first()
 /// A router under the lock, whatever its threads do, has a history since its very opening, which is a trace: on no link does it
 /// start a delivery beyond the granted credit, the outcome of a delivery with a row stands in the book before it is told, and no row is
 /// decided twice. The same holds over every list of runs before, if it was opened on the book that they left.
-pub fn the_lock_keeps_them<D: Disk>()
-    ensures { TheLockKeepsThem (kind D.seen D.may_leave D.failures) }
+pub fn the_lock_keeps_them<T: Twin>()
+    ensures { TheLockKeepsThem (kind T.seen T.may_leave T.failures) }
 {}
 
 /// In every trace of the router a durable link is taken only once the book has its terminus, with the link's key and

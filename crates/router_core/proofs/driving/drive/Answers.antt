@@ -25,7 +25,7 @@ loop-event-init g c =
       works = λ e. e;
       named = refl;
       stands = λ s. s;
-      moments = λ t f s. first_moment g.D.Disk.seen g.D.Disk.may_leave g.D.Disk.moment g.D.Disk.left_since g.met.D.Disk.only_now c.args.core.now t c.args.events.items f s;
+      moments = λ t f s. first_moment g.T.Twin.seen g.T.Twin.may_leave g.T.Twin.moment g.T.Twin.left_since g.met.T.Twin.only_now c.args.core.now t c.args.events.items f s;
       failures = refl;
       count = let h : length c.args.events.items ≡ length (into_iter_items c.into_iter-event-iterator.result) = ap (λ (es : List Event). length es) all in grind (arith, h);
     }
@@ -44,7 +44,7 @@ loop-event-preserved g c = record {
   stands = λ s. c.in-Ok.ensures.stands (c.loop-event.invariant.stands s);
   moments = λ t f s.
       let w = c.loop-event.invariant.past t f in
-      next_moment g.D.Disk.seen g.D.Disk.may_leave g.D.Disk.moment g.D.Disk.left_since _ _ _ (id_of c.args.core.now) t c.args.events.items w.0 c.loop-event.taken.items w.1 c.in-Some.event
+      next_moment g.T.Twin.seen g.T.Twin.may_leave g.T.Twin.moment g.T.Twin.left_since _ _ _ (id_of c.args.core.now) t c.args.events.items w.0 c.loop-event.taken.items w.1 c.in-Some.event
       (into_iter_items c.next.new.self) (w.2 ∙ ap (λ (fs : List Event). w.0 ++ fs) c.in-Some.ensures.steps.0) w.4 (c.loop-event.invariant.moments t f s)
       (c.step.ensures.any_moment w.1 w.5 (c.loop-event.invariant.stands s));
   failures = search rules;
@@ -72,14 +72,14 @@ returns-in-Err-clause-stopped g c = λ t f.
 pub returns-in-Err-clause-any_moment : goal.returns-in-Err-clause-any_moment
 returns-in-Err-clause-any_moment g c = λ t f s.
     let w = c.loop-event.invariant.past t f in
-    next_moment g.D.Disk.seen g.D.Disk.may_leave g.D.Disk.moment g.D.Disk.left_since _ _ _ (id_of c.args.core.now) t c.args.events.items w.0 c.loop-event.taken.items w.1 c.in-Some.event
+    next_moment g.T.Twin.seen g.T.Twin.may_leave g.T.Twin.moment g.T.Twin.left_since _ _ _ (id_of c.args.core.now) t c.args.events.items w.0 c.loop-event.taken.items w.1 c.in-Some.event
     (into_iter_items c.next.new.self) (w.2 ∙ ap (λ (fs : List Event). w.0 ++ fs) c.in-Some.ensures.steps.0) w.4 (c.loop-event.invariant.moments t f s)
     (c.step.ensures.any_moment w.1 w.5 (c.loop-event.invariant.stands s))
 
 pub returns-in-Err-clause-left : goal.returns-in-Err-clause-left
 returns-in-Err-clause-left g c = λ t f s.
     let w = c.loop-event.invariant.past t f in
-    left_after g.D.Disk.seen g.D.Disk.may_leave g.D.Disk.moment g.D.Disk.left_since g.met.D.Disk.counts_now _ _ (id_of c.args.core.now) t c.args.events.items w.0
+    left_after g.T.Twin.seen g.T.Twin.may_leave g.T.Twin.moment g.T.Twin.left_since g.met.T.Twin.counts_now _ _ (id_of c.args.core.now) t c.args.events.items w.0
     c.loop-event.taken.items w.1 c.in-Some.event (into_iter_items c.next.new.self) c.loop-event.handled
     (w.2 ∙ ap (λ (fs : List Event). w.0 ++ fs) c.in-Some.ensures.steps.0) w.3 w.4
     (c.step.ensures.any_moment w.1 w.5 (c.loop-event.invariant.stands s))

@@ -3,7 +3,7 @@ use Rattle.std.specs.Vec.Iter.{into_iter_items}
 use Rattle.router_trace.specs.Trace.{Entry}
 use Rattle.router_trace.specs.declared.event.Event.{Event}
 use Rattle.disk_core.specs.Disk.{LeavesOnly}
-use Rattle.journal_store.specs.Store.{Stands, disk_of}
+use Rattle.journal_store.specs.Store.{Stands, twin_of}
 use Rattle.router_core.specs.Handling.{Fits, id_of, is_failed, store_of}
 use Rattle.router_core.specs.Leaving.{LeftBy}
 use Rattle.router_core.specs.Runs.{Run}
@@ -16,9 +16,9 @@ invariant-loop-event g l = record {
       × (l.handled ≡ length first) × Run (id_of l.fn.core) 0 t first l.taken.items m × Fits l.core m;
   works : is_failed l.core ≡ true → is_failed l.fn.core ≡ true;
   named : id_of l.core ≡ id_of l.fn.core;
-  stands : Stands g.D.Disk.seen g.D.Disk.may_leave (store_of l.fn.core) → Stands g.D.Disk.seen g.D.Disk.may_leave (store_of l.core);
-  moments : (t : List Entry) → Fits l.fn.core t → Stands g.D.Disk.seen g.D.Disk.may_leave (store_of l.fn.core)
-      → LeavesOnly g.D.Disk.moment g.D.Disk.left_since (disk_of (store_of l.fn.core)) (disk_of (store_of l.core)) (LeftBy (id_of l.fn.core) t l.fn.events.items);
-  failures : g.D.Disk.failures (disk_of (store_of l.core)) ≡ g.D.Disk.failures (disk_of (store_of l.fn.core));
+  stands : Stands g.T.Twin.seen g.T.Twin.may_leave (store_of l.fn.core) → Stands g.T.Twin.seen g.T.Twin.may_leave (store_of l.core);
+  moments : (t : List Entry) → Fits l.fn.core t → Stands g.T.Twin.seen g.T.Twin.may_leave (store_of l.fn.core)
+      → LeavesOnly g.T.Twin.moment g.T.Twin.left_since (twin_of (store_of l.fn.core)) (twin_of (store_of l.core)) (LeftBy (id_of l.fn.core) t l.fn.events.items);
+  failures : g.T.Twin.failures (twin_of (store_of l.core)) ≡ g.T.Twin.failures (twin_of (store_of l.fn.core));
   count : l.handled + length (into_iter_items l.event-iterator) ≡ length l.fn.events.items;
 }

@@ -13,33 +13,33 @@ use Rattle.router_play.proofs.runs.play_run.Goals as goal
 
 pub returns-in-Ok-clause-plays : goal.returns-in-Ok-clause-plays
 returns-in-Ok-clause-plays g c = λ none.
-    let d = g.C.Disk in
-    let file = d.seen c.in_ok-begun.begun in
+    let twin = g.C.Twin in
+    let contents = twin.seen c.in_ok-begun.begun in
     let opened = c.in_ok-core.ensures in (
-      file,
+      contents,
       c.in_ok-begun.ensures.left,
       λ j holds.
-          let same = opened_on d.seen d.may_leave d.failures file c.args.config.now c.in_ok-core.core j holds opened.stands opened.seen in
-          let begins = subst (λ (b : Beginning). IsOpened (core_meaning d.seen d.may_leave d.failures) b c.in_ok-core.core) same opened.opened in
+          let same = opened_on twin.seen twin.may_leave twin.failures contents c.args.config.now c.in_ok-core.core j holds opened.stands opened.seen in
+          let begins = subst (λ (b : Beginning). IsOpened (core_meaning twin.seen twin.may_leave twin.failures) b c.in_ok-core.core) same opened.opened in
           let r = c.in-Ok.ensures.plays none opened.named (router_on c.args.config.now j) begins in (
             r.0,
             subst (λ (ys : List Step). Plays ys (opening_on c.args.config.now j) r.0) c.deref.ensures.value (subst (λ (s : Scene). Plays c.deref.result.now s r.0) (opening_is c.args.config.now j) r.1),
             r.2 ∙ ap (λ (ls : List Line). ls ++ r.0.lines) c.in_ok-say_run.ensures,
             size_told c.in-Ok.played.core r.0.trace c.size_of.result c.size_of.ensures.rows c.size_of.ensures.termini c.size_of.ensures.batches r.3.0,
-            λ left may. left_holds d.seen d.may_leave d.failures c.in-Ok.played.core r.0.trace left r.3 (subst (λ (k : _). d.may_leave k left) c.into_disk.ensures may),
+            λ left may. left_holds twin.seen twin.may_leave twin.failures c.in-Ok.played.core r.0.trace left r.3 (subst (λ (k : _). twin.may_leave k left) c.into_twin.ensures may),
           ),
     )
 
 pub returns-in-Ok-clause-lives : goal.returns-in-Ok-clause-lives
 returns-in-Ok-clause-lives g c =
-    let d = g.C.Disk in
-    let file = d.seen c.in_ok-begun.begun in
+    let twin = g.C.Twin in
+    let contents = twin.seen c.in_ok-begun.begun in
     let opened = c.in_ok-core.ensures in (
-      file,
+      contents,
       c.in_ok-begun.ensures.left,
       λ past t lives opens left may.
-          one_more d.seen d.may_leave d.failures c.args.config.now.router_id (opening_of c.args.config.now c.in_ok-core.core) past t lives
-          (opens_to_one file _ _ opened.book opens) c.in_ok-core.core c.in-Ok.played.core left opened.named opened.opened c.in-Ok.ensures.lived (subst (λ (k : _). d.may_leave k left) c.into_disk.ensures may),
+          one_more twin.seen twin.may_leave twin.failures c.args.config.now.router_id (opening_of c.args.config.now c.in_ok-core.core) past t lives
+          (opens_to_one contents _ _ opened.book opens) c.in_ok-core.core c.in-Ok.played.core left opened.named opened.opened c.in-Ok.ensures.lived (subst (λ (k : _). twin.may_leave k left) c.into_twin.ensures may),
     )
 
 pub returns-in-Ok-clause-more : goal.returns-in-Ok-clause-more

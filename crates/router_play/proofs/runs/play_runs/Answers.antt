@@ -3,6 +3,7 @@ use Rattle.std.specs.Prelude.{Option}
 use Rattle.core_machine.specs.declared.fault.CoreFault.{CoreFault}
 use Rattle.core_player.specs.declared.line.Line.{Line}
 use Rattle.core_player.proofs.Telling.{tells_more}
+use Rattle.disk_core.specs.Twin.{Contents}
 use Rattle.journal_store.specs.Store.{OpensTo}
 use Rattle.router_play.specs.Ending.{TellsOf, size_line}
 use Rattle.router_play.specs.Script.{PlaysAll, no_book}
@@ -17,9 +18,9 @@ use Rattle.router_play.proofs.runs.play_runs.Goals as goal
 pub loop-run-init : goal.loop-run-init
 loop-run-init g c = record {
   counted = refl;
-  plays = λ none first holds. (first, λ file is. subst (λ (f : List ℕ). HoldsJournal f first) (sym is) holds, λ others rest. subst (λ (ls : List Line). PlaysAll c.args.config 1 first (steps_of c.args.runs.now) no_book (ls ++ others)) (sym c.new-lines.ensures.items) rest);
+  plays = λ none first holds. (first, λ contents is. subst (λ (c : Contents). HoldsJournal c first) (sym is) holds, λ others rest. subst (λ (ls : List Line). PlaysAll c.args.config 1 first (steps_of c.args.runs.now) no_book (ls ++ others)) (sym c.new-lines.ensures.items) rest);
   told = tt;
-  lives = λ past t lives opens file is. ([], t, refl, lives, subst (λ (f : List ℕ). OpensTo f (book_in t)) (sym is) opens);
+  lives = λ past t lives opens contents is. ([], t, refl, lives, subst (λ (c : Contents). OpensTo c (book_in t)) (sym is) opens);
 }
 
 pub loop-run-preserved : goal.loop-run-preserved

@@ -1,6 +1,7 @@
 use Rattle.std.proofs.Common.{◌≡◌, ◌+◌, ◌++◌, ℕ, List, drop}
 use Rattle.std.specs.Prelude.{None}
 use Rattle.core_player.specs.declared.line.Line.{Line}
+use Rattle.disk_core.specs.Twin.{Contents}
 use Rattle.journal_store.specs.Store.{OpensTo}
 use Rattle.router_play.specs.Lives.{Life, Lives}
 use Rattle.router_play.specs.Ending.{TellsOf, size_line}
@@ -15,11 +16,11 @@ use Rattle.router_play.proofs.runs.play_runs.Given as goal
 abbrev pub invariant-loop-run : goal.invariant-loop-run
 invariant-loop-run g l = record {
   counted : l.number ≡ l.run-index;
-  plays : l.failed ≡ None → (first : Journaled) → HoldsJournal (g.C.Disk.seen l.fn.disk) first → (j : Journaled)
-      × ((file : List ℕ) → IsLeft g.C.Disk.seen g.C.Disk.may_leave l.stop l.last file → HoldsJournal file j)
+  plays : l.failed ≡ None → (first : Journaled) → HoldsJournal (g.C.Twin.seen l.fn.twin) first → (j : Journaled)
+      × ((contents : Contents) → IsLeft g.C.Twin.seen g.C.Twin.may_leave l.stop l.last contents → HoldsJournal contents j)
       × ((others : List Line) → PlaysAll l.fn.config (l.number + 1) j (steps_of (drop l.run-index l.runs)) (size_line l.size) others
       → PlaysAll l.fn.config 1 first (steps_of l.runs) no_book (l.lines.items ++ others));
   told : TellsOf l.failed l.lines.items;
-  lives : (past : List Life) (t : Trace) → Lives l.fn.config.router_id past t → OpensTo (g.C.Disk.seen l.fn.disk) (book_in t)
-      → (file : List ℕ) → IsLeft g.C.Disk.seen g.C.Disk.may_leave l.stop l.last file → EndsLives l.fn.config.router_id past l.number file;
+  lives : (past : List Life) (t : Trace) → Lives l.fn.config.router_id past t → OpensTo (g.C.Twin.seen l.fn.twin) (book_in t)
+      → (contents : Contents) → IsLeft g.C.Twin.seen g.C.Twin.may_leave l.stop l.last contents → EndsLives l.fn.config.router_id past l.number contents;
 }

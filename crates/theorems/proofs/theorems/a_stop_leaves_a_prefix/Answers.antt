@@ -10,8 +10,8 @@ returns g c = (
     λ t f.
         let w = c.drive.ensures.ran none t f
         in let stands = c.drive.ensures.stands none s
-        in (w.0, w.1, opens_to_book g.D.Disk.seen g.D.Disk.may_leave c.drive.new.core w.0 w.2 stands),
+        in (w.0, w.1, opens_to_book g.T.Twin.seen g.T.Twin.may_leave c.drive.new.core w.0 w.2 stands),
   ),
   λ life lives t way f s.
-      widened g.D.Disk.moment g.D.Disk.left_since _ _ _ _ (c.drive.ensures.any_moment t f s) (ends_life _ life lives t c.args.events.items way),
+      widened g.T.Twin.moment g.T.Twin.left_since _ _ _ _ (c.drive.ensures.any_moment t f s) (ends_life _ life lives t c.args.events.items way),
 )

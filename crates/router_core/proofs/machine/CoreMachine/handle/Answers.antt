@@ -14,12 +14,12 @@ returns-clause-batches g c =
 pub returns-clause-keeps : goal.returns-clause-keeps
 returns-clause-keeps g c =
     on_ok_both c.handle.result
-    (λ more stands t f keeps. keeps_next g.D.Disk.seen g.D.Disk.may_leave c.args.self.now c.handle.new.self (id_of c.args.self.now) t c.args.event (fits_next c.handle.new.self (id_of c.args.self.now) t c.args.event (more t f)) stands keeps)
+    (λ more stands t f keeps. keeps_next g.T.Twin.seen g.T.Twin.may_leave c.args.self.now c.handle.new.self (id_of c.args.self.now) t c.args.event (fits_next c.handle.new.self (id_of c.args.self.now) t c.args.event (more t f)) stands keeps)
     c.handle.ensures.fits c.handle.ensures.stands
 
 pub returns-clause-leaves : goal.returns-clause-leaves
 returns-clause-leaves g c =
-    λ t f keeps. leaves_next g.D.Disk.seen g.D.Disk.may_leave g.D.Disk.moment g.D.Disk.left_since (λ disk. g.met.D.Disk.counts_now disk) g.D.Disk.failures c.args.self.now c.handle.new.self t c.args.event
+    λ t f keeps. leaves_next g.T.Twin.seen g.T.Twin.may_leave g.T.Twin.moment g.T.Twin.left_since (λ twin. g.met.T.Twin.counts_now twin) g.T.Twin.failures c.args.self.now c.handle.new.self t c.args.event
     (c.handle.ensures.any_moment t f keeps.0)
 
 pub returns-clause-started : goal.returns-clause-started

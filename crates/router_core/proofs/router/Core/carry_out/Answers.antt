@@ -2,9 +2,9 @@ use Rattle.std.proofs.Common.{◌≡◌, ◌∙◌, sym, ap, subst, ℕ, ◌+◌
 use Rattle.std.specs.Prelude.{◌⊎◌}
 use Rattle.disk_core.specs.Disk.{LeavesOnly}
 use Rattle.book_model.specs.Book.{effects}
-use Rattle.gate_journal.specs.Journal.{batch_count}
+use Rattle.twin_journal.specs.Journal.{batch_count}
 use Rattle.journal_store.specs.declared.store.Store.{Store}
-use Rattle.journal_store.specs.Store.{OpensTo, Stands, disk_of, journal_of, book_of}
+use Rattle.journal_store.specs.Store.{OpensTo, Stands, twin_of, journal_of, book_of}
 use Rattle.router_trace.specs.Trace.{step_of}
 use Rattle.router_state.specs.declared.tables.State.{State}
 use Rattle.router_state.specs.Tables.{TablesFit}
@@ -29,7 +29,7 @@ returns-clause-fits g c = λ t f taken.
     let same : id_of c.write.new.self ≡ id_of core = ap id_of c.write.ensures.rest ∙ ap id_of c.prepare.ensures.rest in
     let journal : Journals c.write.new.self (booked t e) =
     journals_after c.prepare.new.self c.write.new.self t e c.in-Ok.field-0.acts.items (journals_stored core c.prepare.new.self t (ap store_of c.prepare.ensures.rest) f.journal) acts
-    c.in-Ok-write.ensures.book c.in-Ok-write.ensures.count c.in-Ok-write.ensures.used c.in-Ok-write.ensures.kept in
+    c.in-Ok-write.ensures.book c.in-Ok-write.ensures.count c.in-Ok-write.ensures.suits in
     let tables : TablesFit (state_of c.answer.new.self) (handled (id_of core) t (step_of e)) =
     subst (λ (id : List ℕ). TablesFit (state_of c.answer.new.self) (answered id (booked t e) (step_of e))) same (c.in-Ok-answer.ensures.tables (booked t e) ready row journal.book) in
     fits_handled c.answer.new.self (id_of core) t e taken.taken tables c.in-Ok-answer.ensures.started (journals_stored c.write.new.self c.answer.new.self (booked t e) c.answer.ensures.store journal)
@@ -45,10 +45,10 @@ returns-clause-any_moment g c = λ t f taken stands.
     let e = c.args.event in
     let acts = c.in-Ok.field-0.acts.items in
     let same = ap store_of c.prepare.ensures.rest in
-    let run = subst (λ (s : Store _). Stands g.D.Disk.seen g.D.Disk.may_leave s → LeavesOnly g.D.Disk.moment g.D.Disk.left_since (disk_of s) (disk_of (store_of c.write.new.self))
-    (λ file. OpensTo file (book_of s) ⊎ OpensTo file (effects (book_of s) acts))) same c.write.ensures.any_moment stands in
-    subst (λ (s : Store _). LeavesOnly g.D.Disk.moment g.D.Disk.left_since (disk_of (store_of core)) (disk_of s) (BeforeOrAfterEvent t e)) (sym c.answer.ensures.store)
-    (known_moment g.D.Disk.seen g.D.Disk.may_leave g.D.Disk.moment g.D.Disk.left_since core (disk_of (store_of c.write.new.self)) t e acts f (c.in-Ok.ensures.acts t f taken) run)
+    let run = subst (λ (s : Store _). Stands g.T.Twin.seen g.T.Twin.may_leave s → LeavesOnly g.T.Twin.moment g.T.Twin.left_since (twin_of s) (twin_of (store_of c.write.new.self))
+    (λ contents. OpensTo contents (book_of s) ⊎ OpensTo contents (effects (book_of s) acts))) same c.write.ensures.any_moment stands in
+    subst (λ (s : Store _). LeavesOnly g.T.Twin.moment g.T.Twin.left_since (twin_of (store_of core)) (twin_of s) (BeforeOrAfterEvent t e)) (sym c.answer.ensures.store)
+    (known_moment g.T.Twin.seen g.T.Twin.may_leave g.T.Twin.moment g.T.Twin.left_since core (twin_of (store_of c.write.new.self)) t e acts f (c.in-Ok.ensures.acts t f taken) run)
 
 pub returns-in_default-answer-clause-any_moment : goal.returns-in_default-answer-clause-any_moment
 returns-in_default-answer-clause-any_moment g c = λ t f taken stands.
@@ -56,10 +56,10 @@ returns-in_default-answer-clause-any_moment g c = λ t f taken stands.
     let e = c.args.event in
     let acts = c.in-Ok.field-0.acts.items in
     let same = ap store_of c.prepare.ensures.rest in
-    let run = subst (λ (s : Store _). Stands g.D.Disk.seen g.D.Disk.may_leave s → LeavesOnly g.D.Disk.moment g.D.Disk.left_since (disk_of s) (disk_of (store_of c.write.new.self))
-    (λ file. OpensTo file (book_of s) ⊎ OpensTo file (effects (book_of s) acts))) same c.write.ensures.any_moment stands in
-    subst (λ (s : Store _). LeavesOnly g.D.Disk.moment g.D.Disk.left_since (disk_of (store_of core)) (disk_of s) (BeforeOrAfterEvent t e)) (sym c.answer.ensures.store)
-    (known_moment g.D.Disk.seen g.D.Disk.may_leave g.D.Disk.moment g.D.Disk.left_since core (disk_of (store_of c.write.new.self)) t e acts f (c.in-Ok.ensures.acts t f taken) run)
+    let run = subst (λ (s : Store _). Stands g.T.Twin.seen g.T.Twin.may_leave s → LeavesOnly g.T.Twin.moment g.T.Twin.left_since (twin_of s) (twin_of (store_of c.write.new.self))
+    (λ contents. OpensTo contents (book_of s) ⊎ OpensTo contents (effects (book_of s) acts))) same c.write.ensures.any_moment stands in
+    subst (λ (s : Store _). LeavesOnly g.T.Twin.moment g.T.Twin.left_since (twin_of (store_of core)) (twin_of s) (BeforeOrAfterEvent t e)) (sym c.answer.ensures.store)
+    (known_moment g.T.Twin.seen g.T.Twin.may_leave g.T.Twin.moment g.T.Twin.left_since core (twin_of (store_of c.write.new.self)) t e acts f (c.in-Ok.ensures.acts t f taken) run)
 
 pub returns-in-Err-clause-any_moment : goal.returns-in-Err-clause-any_moment
 returns-in-Err-clause-any_moment g c = λ t f taken stands.
@@ -67,6 +67,6 @@ returns-in-Err-clause-any_moment g c = λ t f taken stands.
     let e = c.args.event in
     let acts = c.in-Ok.field-0.acts.items in
     let same = ap store_of c.prepare.ensures.rest in
-    let run = subst (λ (s : Store _). Stands g.D.Disk.seen g.D.Disk.may_leave s → LeavesOnly g.D.Disk.moment g.D.Disk.left_since (disk_of s) (disk_of (store_of c.write.new.self))
-    (λ file. OpensTo file (book_of s) ⊎ OpensTo file (effects (book_of s) acts))) same c.write.ensures.any_moment stands in
-    known_moment g.D.Disk.seen g.D.Disk.may_leave g.D.Disk.moment g.D.Disk.left_since core (disk_of (store_of c.write.new.self)) t e acts f (c.in-Ok.ensures.acts t f taken) run
+    let run = subst (λ (s : Store _). Stands g.T.Twin.seen g.T.Twin.may_leave s → LeavesOnly g.T.Twin.moment g.T.Twin.left_since (twin_of s) (twin_of (store_of c.write.new.self))
+    (λ contents. OpensTo contents (book_of s) ⊎ OpensTo contents (effects (book_of s) acts))) same c.write.ensures.any_moment stands in
+    known_moment g.T.Twin.seen g.T.Twin.may_leave g.T.Twin.moment g.T.Twin.left_since core (twin_of (store_of c.write.new.self)) t e acts f (c.in-Ok.ensures.acts t f taken) run

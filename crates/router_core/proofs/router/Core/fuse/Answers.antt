@@ -8,7 +8,6 @@ returns-clause-fits g c = λ t f. record {
   journal = record {
     book = c.fuse.ensures.book ∙ f.journal.book;
     batches = c.fuse.ensures.same.0 ∙ f.journal.batches;
-    used = c.fuse.ensures.same.1 ∙ f.journal.used;
-    kept = c.fuse.ensures.same.2 ∙ f.journal.kept;
+    suits = c.fuse.ensures.same.2 f.journal.suits;
   };
 }
