@@ -1,34 +1,33 @@
 """Rows of durable links for tests/server/clients: limits of the book and of the journal, each over a journal that comes near it, and deliveries that end early.
 Wanted answers are those of docs/durable.md, docs/book.md and docs/journal.md."""
-import os
 import tempfile
 
 import journals
 from durable_messages import End, Pair, Scene, quiet
-from journal_bytes import ROW_RESERVE, admitted, filled, made_cost, other_termini, write
+from journal_bytes import BATCH, LINK_ROWS, ROW_RESERVE, admitted, checkpoint, filled, made_room, other_termini, read, write
 from journals import ACCEPTED, FAILED
 from peer import ACTIVE, GONE, attached, outcome, until
 from proton import Delivery, Terminus
 from served import Served, expect
 
-MOST_TERMINI, MOST_ROWS, LINK_ROWS = 1_024, 4_096, 64
+MOST_TERMINI, MOST_ROWS = 1_024, 4_096
 
 
 class Begun(Scene):
-    """A journal of these batches, over which a program is served."""
+    """A journal of these batches behind a checkpoint, over which a program is served."""
 
-    def __init__(self, folder, *batches):
+    def __init__(self, folder, *batches, kept):
         self.journal = journals.Journal(f"{folder}/journal")
-        write(self.journal.path, batches)
+        write(self.journal.path, *batches, kept=kept)
         self.journal.grow(ordered=False)
 
 
-def over(*batches):
-    """A row that has a program over a journal of these batches."""
+def over(*batches, kept=checkpoint()):
+    """A row that has a program over a journal of these batches behind a checkpoint."""
     def row(body):
         def run():
             with tempfile.TemporaryDirectory() as folder:
-                scene = Begun(folder, *batches)
+                scene = Begun(folder, *batches, kept=kept)
                 with scene.served() as served:
                     return body(scene, served)
         return run
@@ -89,12 +88,13 @@ def rows(scene, served):
 def full():
     """What begins has to fit, with what it will need: to the byte. What ends has always room."""
     address, body = "d.room", b"m" * 100
-    row = 5 + len(admitted(1, 1, b"1", 1, body)) + ROW_RESERVE
-    ends = made_cost(1, f"c.{address}", "r", address) + made_cost(0, f"p.{address}", "s", address)
-    over(*filled(ends + row))(lambda scene, served: fits(scene, served, address, body))()
-    over(*filled(ends + row - 1))(lambda scene, served: fits_not(scene, served, address, body))()
-    over(*filled(made_cost(1, "c", "r", "a")))(lambda scene, served: links_fit(scene, served, True))()
-    over(*filled(made_cost(1, "c", "r", "a") - 1))(lambda scene, served: links_fit(scene, served, False))()
+    row = BATCH + len(admitted(1, 1, b"1", 1, body)) + ROW_RESERVE
+    ends = made_room(1, f"c.{address}", "r", address) + made_room(0, f"p.{address}", "s", address)
+    link = BATCH + made_room(1, "c", "r", "a")
+    over(kept=filled(ends + row))(lambda scene, served: fits(scene, served, address, body))()
+    over(kept=filled(ends + row - 1))(lambda scene, served: fits_not(scene, served, address, body))()
+    over(kept=filled(link))(lambda scene, served: links_fit(scene, served, True))()
+    over(kept=filled(link - 1))(lambda scene, served: links_fit(scene, served, False))()
 
 
 def fits(scene, served, address, body):
@@ -110,10 +110,11 @@ def fits(scene, served, address, body):
 
 def fits_not(scene, served, address, body):
     it = Pair(scene, served, address)
-    size = os.path.getsize(scene.journal.path)
+    before = read(scene.journal.path)
     more = it.p.send(it.sender, body, tag="1")
     it.told(more)
-    expect((outcome(more), scene.acts(), it.c.got["r"], os.path.getsize(scene.journal.path)), ("released", "", [], size))
+    expect((outcome(more), scene.acts(), it.c.got["r"]), ("released", "", []))
+    expect(read(scene.journal.path) == before, True)
     it.settle(more)
     sent, delivery = it.sent(body[1:], tag="1")
     it.c.cut()

@@ -1,8 +1,8 @@
-"""Reads a journal for tests, and keeps the book of its acts: the bytes of docs/journal.md and the conditions of docs/book.md, by code that shares nothing
+"""Reads a journal for tests, and keeps the book of its acts: the bytes of docs/two_files.md and the conditions of docs/book.md, by code that shares nothing
 with the program's."""
 from collections import defaultdict, namedtuple
 
-from journal_bytes import CONSUMER, MAGIC, PRODUCER
+from journal_bytes import CONSUMER, LINK_ROWS, MAGIC, PRODUCER, read
 from proton import Data
 
 KINDS = {1: "Make", 2: "Admit", 3: "Decide", 4: "Forget", 5: "Drop"}
@@ -28,6 +28,12 @@ class Row:
         self.number, self.producer, self.tag, self.consumer = number, producer, tag, consumer
         self.form, self.payload = form, payload
         self.outcome, self.forgotten = None, False
+
+    def acts(self):
+        """Those that a checkpoint has of it."""
+        acts = [Act("Admit", self.number, (self.producer, self.tag, self.consumer, self.form, self.payload))]
+        acts += [Act("Decide", self.number, (self.outcome,))] * (self.outcome is not None)
+        return acts + [Act("Forget", self.number, ())] * self.forgotten
 
 
 class Bytes:
@@ -100,24 +106,89 @@ def modification(failed, undeliverable, annotations):
     return "modified", bool(failed), bool(undeliverable), dict(annotations or {})
 
 
+class Side:
+    """The head of a side: its epoch, if its gate is open, and what is behind it."""
+
+    def __init__(self, data):
+        if data[:8] != MAGIC or len(data) < 9:
+            raise Fault("a side of the journal has no head")
+        self.data, self.epoch = data, 0
+        if data[8:9] == b"\1":
+            found = Bytes(data)
+            found.at = 9
+            self.epoch, self.base = found.number(8), found.number(8)
+            self.kept = Bytes(found.text(found.number(4)))
+            self.start = found.at
+
+
 class Journal:
-    """A journal's file, as far as it was read: its termini and rows, and what became of them."""
+    """A journal's files, as far as they were read: the termini and rows of its book, and what became of them. `acts` are the lines of those behind the
+    checkpoint of the active side, `place` is that of the last gate that was read on it."""
 
     def __init__(self, path):
-        self.path, self.data, self.place = path, MAGIC, len(MAGIC)
+        self.path, self.active, self.place = path, None, 0
         self.termini, self.dropped, self.numbers = {}, set(), {}
         self.rows, self.standing = {}, set()
+        self.next_terminus, self.next_row = 1, 1
+        self.batches = 0
         # the rows that a producer's terminus has, by tag those not forgotten, and those that a consumer's has undecided
         self.sent, self.named, self.bound = defaultdict(set), {}, defaultdict(set)
         self.acts = []
 
     def grow(self, ordered=True):
-        """Reads the file, which goes on where it ended before, and gives the new batches as lists of acts, each those of an event."""
-        with open(self.path, "rb") as file:
-            data = file.read()
-        if data[:self.place] != self.data[:self.place]:
+        """Reads the files, which go on where they ended before, and gives the new batches as lists of acts, each those of an event."""
+        first, second = (Side(it) for it in read(self.path))
+        if first.epoch == second.epoch:
+            raise Fault(f"both sides have the epoch {first.epoch}")
+        old, new = sorted((first, second), key=lambda it: it.epoch)
+        if self.active is None:
+            self.begin(new)
+        elif new.epoch == self.active.epoch + 1 == old.epoch + 1:
+            # the other side has the next checkpoint, and this one the batches up to it
+            batches = self.follow(old, ordered)
+            self.take_over(new)
+            return batches + self.follow(new, ordered)
+        elif new.epoch != self.active.epoch:
+            raise Fault(f"the epoch was {self.active.epoch}, and is {new.epoch}, beside {old.epoch}")
+        return self.follow(new, ordered)
+
+    def begin(self, side):
+        """The checkpoint of a journal that wasn't read before."""
+        kept = side.kept
+        next_terminus, next_row = kept.number(8), kept.number(8)
+        while kept.at < len(kept.data):
+            self.do(kept.act())
+        if (self.next_terminus, self.next_row) > (next_terminus, next_row):
+            raise Fault(f"the checkpoint has next numbers {next_terminus} and {next_row}, behind {self.next_terminus} and {self.next_row}")
+        self.next_terminus, self.next_row, self.batches = next_terminus, next_row, side.base
+        self.look_at(side)
+
+    def take_over(self, side):
+        """A further checkpoint: it has the book, and nothing else."""
+        kept = side.kept
+        if (side.base, kept.number(8), kept.number(8)) != (self.batches, self.next_terminus, self.next_row):
+            raise Fault(f"the checkpoint is of batch {side.base} where {self.batches} were read")
+        wanted = [Act("Make", number, self.termini[number][1:]) for number in sorted(self.termini.keys() - self.dropped)]
+        for number in sorted(self.standing):
+            wanted += self.rows[number].acts()
+        found = []
+        while kept.at < len(kept.data):
+            found.append(kept.act())
+        if found != wanted:
+            raise Fault(f"the checkpoint has {str(found)[:200]}, and not {str(wanted)[:200]}")
+        self.look_at(side)
+
+    def look_at(self, side):
+        """From now on this side is active."""
+        self.active, self.place, self.acts = side, side.start, []
+        self.kept = len(self.standing), len(self.termini) - len(self.dropped)
+
+    def follow(self, side, ordered):
+        """The further batches of the active side."""
+        data = side.data
+        if side.epoch != self.active.epoch or data[:self.place] != self.active.data[:self.place]:
             raise Fault("the journal doesn't begin as it did")
-        batches, self.data = [], data
+        batches, self.active = [], side
         while data[self.place:self.place + 1] == b"\1":
             size = int.from_bytes(data[self.place + 1:self.place + 5], "big")
             batch = Bytes(data[self.place + 5:self.place + 5 + size])
@@ -131,14 +202,15 @@ class Journal:
             if ordered:
                 in_order(acts)
             batches.append(acts)
+            self.batches += 1
             self.place += 5 + size
         if data[self.place:self.place + 1] != b"\0":
             raise Fault(f"the gate at {self.place} isn't closed")
         return batches
 
     def behind(self):
-        """How many bytes follow the gate that ends the journal."""
-        return len(self.data) - self.place - 1
+        """How many bytes follow the gate that ends the active side."""
+        return len(self.active.data) - self.place - 1
 
     def do(self, act):
         """Does an act to the book, or says why it doesn't apply."""
@@ -147,9 +219,10 @@ class Journal:
     def make(self, number, role, *texts):
         it = Terminus(number, role, *texts)
         key = (role, *texts[:3])
-        if number != len(self.termini) + 1 or key in self.numbers:
-            raise Fault(f"{it} is made, behind {len(self.termini)} others, and its key has {self.numbers.get(key)}")
+        if number != self.next_terminus or key in self.numbers:
+            raise Fault(f"{it} is made, where {self.next_terminus} comes next, and its key has {self.numbers.get(key)}")
         self.termini[number], self.numbers[key] = it, number
+        self.next_terminus += 1
 
     def drop(self, number):
         it = self.terminus(number)
@@ -169,14 +242,15 @@ class Journal:
         self.terminus(producer, PRODUCER)
         if consumer:
             self.terminus(consumer, CONSUMER)
-        if number != len(self.rows) + 1:
-            raise Fault(f"row {number} is admitted behind {len(self.rows)} others")
+        if number != self.next_row:
+            raise Fault(f"row {number} is admitted where {self.next_row} comes next")
         if (producer, tag) in self.named:
             raise Fault(f"row {number} has the tag of row {self.named[producer, tag]}, and its producer")
         had = len(self.standing), len(self.sent[producer]), len(self.bound[consumer])
-        if had[0] >= 4_096 or had[1] >= 64 or had[2] >= 64:
+        if had[0] >= 4_096 or had[1] >= LINK_ROWS or had[2] >= LINK_ROWS:
             raise Fault(f"row {number} comes behind {had[0]} rows, {had[1]} of its producer, {had[2]} of its consumer")
         self.rows[number] = Row(number, producer, tag, consumer, form, payload)
+        self.next_row += 1
         self.standing.add(number)
         self.sent[producer].add(number)
         self.named[producer, tag] = number
@@ -211,6 +285,11 @@ class Journal:
 
     def undecided(self):
         return [self.rows[it] for it in sorted(self.standing) if not self.rows[it].outcome]
+
+    def first_line(self):
+        """The first line that `amqr journal` prints of it."""
+        rows, termini = self.kept
+        return f"epoch {self.active.epoch} base {self.active.base} rows {rows} termini {termini}"
 
     def last_line(self):
         """The last line that `amqr journal` prints of it."""

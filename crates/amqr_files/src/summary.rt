@@ -206,7 +206,8 @@ fn room_left(alloc: Global, book: &Book) -> Result<u64, AllocError>
 /// The lines of a journal's summary, whose files have so many bytes.
 fn lines_of(
     alloc: Global,
-    (first, second): (usize, usize),
+    first: usize,
+    second: usize,
     listing: &Listing,
 ) -> Result<Vec<SummaryLine>, AllocError>
     ensures { IfOk result (λ lines. lines.items ≡ summary_lines first second listing.now.checkpoint listing.now.book) }
@@ -243,7 +244,7 @@ fn summary_of<T: Twin>(alloc: Global, twin: &mut T) -> Result<Vec<SummaryLine>, 
     let listing = list(alloc, twin)?;
     let first = twin.len(Side::First)?;
     let second = twin.len(Side::Second)?;
-    match lines_of(alloc, (first, second), &listing) {
+    match lines_of(alloc, first, second, &listing) {
         Ok(lines) => Ok(lines),
         Err(_) => Err(Refusal::Memory),
     }
