@@ -31,8 +31,8 @@ use Rattle.reply_rows.specs.declared.answer.Answer.{Answer}
 use Rattle.reply_rows.specs.declared.answer.Answer.TheVariants.{Attach, Refuse, Taken, Settle}
 use Rattle.reply_rows.specs.Rows.{said}
 use Rattle.router_reply.specs.Replies.{closing_of, ends, heard, refused, map_told, bound_for, item_put, after_answer, item_bound, item_row, bound_by, own_row, replied_after, replied}
-use Rattle.router_reply.specs.Acts.{found_journal, full_at, answer_of, booked, answer_to_event}
-use Rattle.router_reply.specs.Resuming.{resumed, resumed_key}
+use Rattle.router_reply.specs.Acts.{found_journal, full_at, answer_of, booked}
+use Rattle.router_reply.specs.Resuming.{resumed}
 use Rattle.router_core.specs.Replies.{answered, handled}
 use Rattle.core_machine.specs.Moves.{took_one}
 use Rattle.router_core.specs.Moves.{Goes, IsTrace}
@@ -42,8 +42,7 @@ use Rattle.router_core.proofs.Following.{Steps, passed_on, passed_keeps}
 use Rattle.theorems.specs.Each.{EachBound}
 use Rattle.theorems.specs.Came.{Handled, just_handled, BindsOrTakesUp, CameAndWasBound}
 use Rattle.theorems.proofs.Bindings.{of_messages, each_bound}
-use Rattle.theorems.proofs.Resumed.{TakenWait, resumed_takes, replied_book}
-use Rattle.theorems.proofs.Served.{taken_waits}
+use Rattle.theorems.proofs.Resumed.{resumed_takes, replied_book}
 use Rattle.theorems.proofs.Sound.{Sound, sound_start, did_sound, took_sound, batch_sound, taken_sound, goes_sound, quiet_sound, QuietPut, quiet_both, quiet_to, still_handled}
 use Rattle.theorems.proofs.Quiet.{closing_of_quiet, said_quiet, taken_quiet, refused_quiet, settled_quiet, beats_quiet, windows_quiet, drains_quiet, grants_quiet}
 use Rattle.theorems.proofs.Transfers.{IfTaken, transfer_taken}
@@ -155,14 +154,14 @@ row_sound id t after s (event.Tick ms) sound is just = quiet_sound _ after (beat
 row_sound id t after s (event.Up c p) sound is just = sound
 row_sound id t after s event.Start sound is just = sound
 
-answered_sound : (id : List ℕ) (t : List Entry) (s : Step) → TakenWait t s.event (resumed_key t s.event (answer_to_event t s.event)) → Sound t → Sound (answered id t s)
-answered_sound id t s waits sound =
+answered_sound : (id : List ℕ) (t : List Entry) (s : Step) → Sound t → Sound (answered id t s)
+answered_sound id t s sound =
     let u : List Entry = heard id t s
     in let behind : Sound u = ends_sound id (due t s.event) (Did s ∷ t) (did_sound s t sound)
     in let just : just_handled u ≡ Some (record { step = s; found = t }) = ends_handled id (due t s.event) (Did s ∷ t) (Some (record { step = s; found = t })) refl
     in let rows : Sound (replied id t s) = row_sound id t u s s.event behind refl just
     in let bound : List Entry = resumed t s.event (replied id t s)
-    in let resumes : Sound bound = resumed_takes Sound taken_sound t s.event (replied id t s) (replied_book id t s) waits rows
+    in let resumes : Sound bound = resumed_takes Sound t s.event (replied id t s) (λ u b takes same was. taken_sound u b takes was) (replied_book id t s) rows
     in let all : Sound (passed_on bound) = passed_keeps Sound passed_sound bound resumes
     in quiet_sound (windows (passed_on bound)) (passed_on bound) (windows_quiet (passed_on bound)) all
 
@@ -183,7 +182,7 @@ event_binds id t s b sound is =
 -- moves
 
 pub handled_sound : (id : List ℕ) (t : List Entry) (s : Step) → Sound t → Sound (handled id t s)
-handled_sound id t s sound = answered_sound id (booked t s.event) s (taken_waits t s.event) (booked_keeps Sound t s.event (λ acts w. batch_sound t acts w) sound)
+handled_sound id t s sound = answered_sound id (booked t s.event) s (booked_keeps Sound t s.event (λ acts w. batch_sound t acts w) sound)
 
 pub moves_sound : (id : List ℕ) (ms : List Move) (t u : List Entry) → Sound t → Goes id ms t u → Sound u
 moves_sound id [] t u sound went = subst (λ (w : List Entry). Sound w) (sym went) sound

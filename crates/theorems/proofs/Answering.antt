@@ -291,7 +291,8 @@ row_fact u b r fresh adm ordered = record {
   settled = unsettled b.origin adm.producer;
   known = subst (λ (c : BookView). r.0 < c.next_row) (sym now) (under r.0 before.next_row adm.is_next);
   agrees = subst (λ (v : Option ARow). Agrees u (book_in u) v (bound (name_in u b) b)) (sym there) (record {
-    outcome = ap (λ (up : Option TakenUp). option_map kept_form (brought (λ v. outcome_as v.how) up)) (sym fresh);
+    outcome = λ p from. ap (λ (up : Option TakenUp). option_map kept_form (brought (λ v. outcome_as v.how) up)) (sym fresh);
+    form = λ p from. refl;
     waits = λ p from. refl;
     from = λ p from. producer p (origin_is b.origin p (ap (λ (up : Option TakenUp). either_origin b.origin (brought (λ v. v.told) up)) (sym fresh) ∙ from));
   });

@@ -51,7 +51,9 @@ use Rattle.router_reply.specs.Deciding.{lost, listed, ended_by, stolen_from, ses
 use Rattle.theorems.proofs.Applying.{settled_apply, admission_applies, ordered_after}
 use Rattle.theorems.proofs.Changing.{Leaves, leaves_by}
 use Rattle.theorems.proofs.Decisions.{decided_of, settled_is_done, among_rows}
-use Rattle.theorems.proofs.Facts.{kept_form, IsHeld, Agrees, RowFact, Facts}
+use Rattle.theorems.proofs.Ended.{IsEnded, ended_by_all, event_gives}
+use Rattle.theorems.proofs.Facts.{IsKeptForm, IsHeld, Agrees, RowFact, Facts}
+use Rattle.theorems.proofs.KeptForm.{kept_form, kept_twice}
 use Rattle.theorems.proofs.Looking.{found_number}
 use Rattle.theorems.proofs.Settling.{settled, settled_row, found_at_number, found_key, Stays, stays_it, terminus_stays, admission_stays}
 use Rattle.theorems.proofs.Standing.{Standing, one_place, holds_key}
@@ -63,57 +65,79 @@ clash e = cc
 
 -- a row after what is decided and forgotten
 
-decide_step : (t : Trace) (b : BookView) (ds : List Decision) (r : ℕ) (row : ARow) (d e : Delivery) → Leaves d e → d.presettled ≡ false → row.number.0 ≡ r
-    → outcome_for r ds ≡ option_map kept_outcome (if is_undecided d then e.outcome else None) → IsHeld t b row d → Agrees t b (decided_by ds row) e
-decide_step t b ds r row d e leaves open_one number outcome held = by d.outcome refl
+-- nothing is asked of a delivery that has no producer
+no_source : (t : Trace) (b : BookView) (v : Option ARow) (e : Delivery) → source e ≡ None → Agrees t b v e
+no_source t b None e none = λ p from. absurd (none_not_some (sym none ∙ from))
+no_source t b (Some row) e none = record {
+  outcome = λ p from. absurd (none_not_some (sym none ∙ from));
+  form = λ p from. absurd (none_not_some (sym none ∙ from));
+  waits = λ p from. absurd (none_not_some (sym none ∙ from));
+  from = λ p from. absurd (none_not_some (sym none ∙ from));
+}
+
+-- one that has one
+decide_from : (t : Trace) (b : BookView) (ds : List Decision) (r : ℕ) (row : ARow) (d e : Delivery) → Leaves d e → d.presettled ≡ false → row.number.0 ≡ r
+    → outcome_for r ds ≡ option_map kept_outcome (if is_undecided d then e.outcome else None) → (d.outcome ≡ None → IsEnded e.outcome) → IsHeld t b row d
+    → row.outcome ≡ option_map kept_form d.outcome → IsKeptForm row → Agrees t b (decided_by ds row) e
+decide_from t b ds r row d e leaves open_one number outcome ended held had form = by d.outcome refl
   where
     named : outcome_for row.number.0 ds ≡ option_map kept_outcome (if is_undecided d then e.outcome else None)
     named = ap (λ (n : ℕ). outcome_for n ds) number ∙ outcome
 
     stays : (s : Option DeliveryState) → row.outcome ≡ option_map kept_form s → e.outcome ≡ s → Agrees t b (Some row) e
     stays s is same = record {
-      outcome = is ∙ ap (option_map kept_form) (sym same);
-      waits = λ p from. held.waits p (leaves.comes p from);
-      from = λ p from. held.from p (leaves.comes p from);
+      outcome = λ q comes. is ∙ ap (option_map kept_form) (sym same);
+      form = λ q comes. form;
+      waits = λ q comes. held.waits q (leaves.comes q comes);
+      from = λ q comes. held.from q (leaves.comes q comes);
     }
 
     shut : (s : DeliveryState) → d.outcome ≡ Some s → is_open_row row ≡ false
-    shut s is = ap is_none (held.outcome ∙ ap (option_map kept_form) is)
+    shut s is = ap is_none (had ∙ ap (option_map kept_form) is)
 
     open_row : d.outcome ≡ None → is_open_row row ≡ true
-    open_row is = ap is_none (held.outcome ∙ ap (option_map kept_form) is)
+    open_row is = ap is_none (had ∙ ap (option_map kept_form) is)
 
     -- it is decided now
-    now : (s : DeliveryState) → e.outcome ≡ Some s → Agrees t b (decided (kept_form s) row) e
-    now s is = gone_or_not row.forgotten refl
+    now : (s : DeliveryState) → d.outcome ≡ None → e.outcome ≡ Some s → Agrees t b (decided (kept_form s) row) e
+    now s none is = gone_or_not row.forgotten refl
       where
         gone_or_not : (f : Bool) → row.forgotten ≡ f → Agrees t b (if f then None else Some (record row { outcome = Some (kept_form s) })) e
         gone_or_not true f = λ p from. clash (sym (held.waits p (leaves.comes p from)) ∙ f)
         gone_or_not false f = record {
-          outcome = ap (option_map kept_form) (sym is);
-          waits = λ p from. f;
-          from = λ p from. held.from p (leaves.comes p from);
+          outcome = λ q comes. ap (option_map kept_form) (sym is);
+          form = λ q comes. ap (λ (x : DeliveryState). Some x) (sym (kept_twice s (subst IsEnded is (ended none))));
+          waits = λ q comes. f;
+          from = λ q comes. held.from q (leaves.comes q comes);
         }
 
     undecided : d.outcome ≡ None → (u : Bool) → is_undecided d ≡ u → Agrees t b (decided_to (option_map kept_outcome (if u then e.outcome else None)) row) e
     undecided none true is = made e.outcome refl
       where
         made : (o : Option DeliveryState) → e.outcome ≡ o → Agrees t b (decided_to (option_map kept_outcome o) row) e
-        made None same = stays None (held.outcome ∙ ap (option_map kept_form) none) same
-        made (Some s) same = now s same
+        made None same = stays None (had ∙ ap (option_map kept_form) none) same
+        made (Some s) same = now s none same
     undecided none false is = asleep d.suspended refl
       where
         asleep : (q : Bool) → d.suspended ≡ q → Agrees t b (Some row) e
-        asleep true f = stays None (held.outcome ∙ ap (option_map kept_form) none) (leaves.sleeps none f).0
+        asleep true f = stays None (had ∙ ap (option_map kept_form) none) (leaves.sleeps none f).0
         asleep false f = absurd (clash (sym is ∙ (let open_now : is_undecided d ≡ true = rw (none, open_one, f) refl in open_now)))
 
     by : (o : Option DeliveryState) → d.outcome ≡ o → Agrees t b (decided_by ds row) e
     by (Some s) is =
         subst (λ (q : Bool). Agrees t b (if q then decided_to (outcome_for row.number.0 ds) row else Some row) e) (sym (shut s is))
-        (stays (Some s) (held.outcome ∙ ap (option_map kept_form) is) (leaves.stays s is))
+        (stays (Some s) (had ∙ ap (option_map kept_form) is) (leaves.stays s is))
     by None is =
         subst (λ (q : Bool). Agrees t b (if q then decided_to (outcome_for row.number.0 ds) row else Some row) e) (sym (open_row is))
         (subst (λ (o : Option DeliveryState). Agrees t b (decided_to o row) e) (sym named) (undecided is (is_undecided d) refl))
+
+decide_step : (t : Trace) (b : BookView) (ds : List Decision) (r : ℕ) (row : ARow) (d e : Delivery) → Leaves d e → d.presettled ≡ false → row.number.0 ≡ r
+    → outcome_for r ds ≡ option_map kept_outcome (if is_undecided d then e.outcome else None) → (d.outcome ≡ None → IsEnded e.outcome) → IsHeld t b row d → Agrees t b (decided_by ds row) e
+decide_step t b ds r row d e leaves open_one number outcome ended held = by_source (source e) refl
+  where
+    by_source : (o : Option Origin) → source e ≡ o → Agrees t b (decided_by ds row) e
+    by_source None none = no_source t b (decided_by ds row) e none
+    by_source (Some p) from = decide_from t b ds r row d e leaves open_one number outcome ended held (held.outcome p (leaves.comes p from)) (held.form p (leaves.comes p from))
 
 forget_step : (t : Trace) (b : BookView) (numbers : List RowNumber) (r : ℕ) (row : ARow) (e : Delivery) → row.number.0 ≡ r
     → (is_among r numbers ≡ true → (p : Origin) → source e ≡ Some p → ⊥) → IsHeld t b row e → Agrees t b (forgotten_by numbers row) e
@@ -124,7 +148,12 @@ forget_step t b numbers r row e number done held = by row.forgotten (is_among ro
 
     now : ((p : Origin) → source e ≡ Some p → ⊥) → (o : Bool) → Agrees t b (if o then None else Some (record row { forgotten = true })) e
     now none true = none
-    now none false = record { outcome = held.outcome; waits = λ p from. absurd (none p from); from = λ p from. absurd (none p from) }
+    now none false = record {
+      outcome = λ p from. absurd (none p from);
+      form = λ p from. absurd (none p from);
+      waits = λ p from. absurd (none p from);
+      from = λ p from. absurd (none p from);
+    }
 
     by : (f m : Bool) → row.forgotten ≡ f → is_among row.number.0 numbers ≡ m → Agrees t b (if not f && m then forgotten row else Some row) e
     by true m e f = held
@@ -151,10 +180,10 @@ decided_number ds row x is = by (is_open_row row) (outcome_for row.number.0 ds) 
 
 settle_step : (t : Trace) (b : BookView) (ds : List Decision) (numbers : List RowNumber) (r : ℕ) (v : Option ARow) (d e : Delivery) → Leaves d e → d.presettled ≡ false
     → ((row : ARow) → v ≡ Some row → row.number.0 ≡ r) → outcome_for r ds ≡ option_map kept_outcome (if is_undecided d then e.outcome else None)
-    → (is_among r numbers ≡ true → (p : Origin) → source e ≡ Some p → ⊥) → Agrees t b v d → Agrees t b (settled ds numbers v) e
-settle_step t b ds numbers r None d e leaves open_one number outcome done was = λ p from. was p (leaves.comes p from)
-settle_step t b ds numbers r (Some row) d e leaves open_one number outcome done was =
-    by (decided_by ds row) refl (decide_step t b ds r row d e leaves open_one (number row refl) outcome was)
+    → (d.outcome ≡ None → IsEnded e.outcome) → (is_among r numbers ≡ true → (p : Origin) → source e ≡ Some p → ⊥) → Agrees t b v d → Agrees t b (settled ds numbers v) e
+settle_step t b ds numbers r None d e leaves open_one number outcome ended done was = λ p from. was p (leaves.comes p from)
+settle_step t b ds numbers r (Some row) d e leaves open_one number outcome ended done was =
+    by (decided_by ds row) refl (decide_step t b ds r row d e leaves open_one (number row refl) outcome ended was)
   where
     by : (o : Option ARow) → decided_by ds row ≡ o → Agrees t b o e → Agrees t b (option_and_then (forgotten_by numbers) o) e
     by None is agrees = agrees
@@ -166,6 +195,7 @@ book_step : (t : Trace) (acts : List Act) (full : List ℕ) (b c : BookView) (r 
 book_step t acts full b c r None e found stays was = was
 book_step t acts full b c r (Some row) e found stays was = record {
   outcome = was.outcome;
+  form = was.form;
   waits = was.waits;
   from = λ p from. let at = was.from p from in
       record {
@@ -183,6 +213,7 @@ termini_step : (t : Trace) (b c : BookView) (v : Option ARow) (e : Delivery) →
 termini_step t b c None e same was = was
 termini_step t b c (Some row) e same was = record {
   outcome = was.outcome;
+  form = was.form;
   waits = was.waits;
   from = λ p from. let at = was.from p from in
       record { key = at.key; durable = at.durable; at = at.at; found = ap (terminus_of at.key) same ∙ at.found; number = at.number; role = at.role };
@@ -339,7 +370,7 @@ facts_after full t e planned standing ordered was n d r there name =
     let leaves : Leaves d after = leaves_by xs d in
     let first : Agrees t b (settled ds numbers (row_at r.0 b.rows)) after =
     settle_step t b ds numbers r.0 (row_at r.0 b.rows) d after leaves fact.settled (numbered_in b r) (decided_of t n d r xs there name)
-    (forgotten_is_done t b n d r e answer standing ordered fact.agrees there name) fact.agrees in
+    (λ none. ended_by_all xs d (event_gives t e answer) (subst IsEnded (sym none) tt)) (forgotten_is_done t b n d r e answer standing ordered fact.agrees there name) fact.agrees in
     let next : Agrees t between (settled ds numbers (row_at r.0 b.rows)) after =
     termini_step t b between (settled ds numbers (row_at r.0 b.rows)) after (ap (λ (x : BookView). x.termini) left.is) first in
     let found : row_at r.0 between.rows ≡ settled ds numbers (row_at r.0 b.rows) = settled_row b ds numbers r.0 ordered in

@@ -2,7 +2,6 @@
 -- that are still to come.
 use Rattle.std.proofs.Common.{◌≡◌, ◌∙◌, sym, ap, refl, subst, ℕ, ◌+◌, ◌<◌, true, false, List, [], ◌∷◌}
 use Rattle.std.specs.Prelude.{◌==◌, Option, Some, None, option_map}
-use Rattle.amqp_model.specs.declared.state.DeliveryState.{DeliveryState}
 use Rattle.amqp_model.specs.declared.item.Item.{Item}
 use Rattle.book_model.specs.declared.row.Row.{Row as ARow}
 use Rattle.book_model.specs.declared.row.RowNumber.{RowNumber}
@@ -10,13 +9,11 @@ use Rattle.book_model.specs.declared.terminus.LinkKey.{LinkKey}
 use Rattle.book_model.specs.declared.terminus.LinkRole.TheVariants.{Producer}
 use Rattle.book_model.specs.declared.terminus.Terminus.{Terminus}
 use Rattle.book_model.specs.Book.{BookView, row_at, terminus_of, same_role}
-use Rattle.journal_store.specs.Acting.{journal_outcome}
 use Rattle.router_trace.specs.declared.binding.Binding.{Binding}
 use Rattle.router_trace.specs.declared.binding.DeliveryName.TheVariants.{Row}
 use Rattle.router_trace.specs.declared.binding.Origin.{Origin}
 use Rattle.router_trace.specs.declared.handle.Attachment.{Attachment}
 use Rattle.router_trace.specs.Trace.{Trace, Entry, Did, Out, Took, Bound, Step}
-use Rattle.router_trace.specs.DeliveryFrames.{kept_outcome}
 use Rattle.router_trace.specs.Deliveries.{Delivery, source, bindings, bound, name_in, name_of, number_named, delivery, sending, named, after_put, after_event, channels_found}
 use Rattle.router_trace.specs.Following.{link_of}
 use Rattle.router_trace.specs.Links.{durable_key}
@@ -27,13 +24,14 @@ use Rattle.state_connections.proofs.Lists.{by_test}
 use Rattle.router_reply.specs.Acts.{book_in}
 use Rattle.theorems.proofs.Bindings.{of_what}
 use Rattle.theorems.proofs.Changing.{leaves_by, Alike}
+pub use Rattle.theorems.proofs.KeptForm.{kept_form}
 use Rattle.theorems.proofs.Standing.{Standing, IsFresh, out_durable, did_durable}
 use Rattle.theorems.proofs.Tests.{some_same}
 use Rattle.theorems.proofs.Undecided.{was_did, was_out}
 
--- the outcome that the journal keeps of a delivery's
-abbrev pub kept_form : DeliveryState → DeliveryState
-kept_form s = journal_outcome (kept_outcome s)
+-- the outcome of a row is as the journal keeps it
+abbrev pub IsKeptForm : ARow → Type 0
+IsKeptForm r = r.outcome ≡ option_map kept_form r.outcome
 
 -- a producer's link is durable, and the book has its terminus under this number
 pub record FromTerminus (t : Trace) (b : BookView) (p : Origin) (n : ℕ) : Type 0 where
@@ -44,9 +42,10 @@ pub record FromTerminus (t : Trace) (b : BookView) (p : Origin) (n : ℕ) : Type
   pub number : at.number.0 ≡ n
   pub role : same_role at.key.role Producer ≡ true
 
--- a row has the outcome of its delivery, and isn't forgotten as long as the producer isn't done with it
+-- a row has the outcome of its delivery, as the journal keeps it, and isn't forgotten, as long as the producer isn't done with it
 pub record IsHeld (t : Trace) (b : BookView) (row : ARow) (e : Delivery) : Type 0 where
-  pub outcome : row.outcome ≡ option_map kept_form e.outcome
+  pub outcome : (p : Origin) → source e ≡ Some p → row.outcome ≡ option_map kept_form e.outcome
+  pub form : (p : Origin) → source e ≡ Some p → IsKeptForm row
   pub waits : (p : Origin) → source e ≡ Some p → row.forgotten ≡ false
   pub from : (p : Origin) → source e ≡ Some p → FromTerminus t b p row.producer.0
 
@@ -69,7 +68,8 @@ agrees_moved : (t u : Trace) (b : BookView) (v : Option ARow) (e f : Delivery) �
     → ((p : Origin) (key : LinkKey) → source f ≡ Some p → durable_key (link_of t p.link) ≡ Some key → durable_key (link_of u p.link) ≡ Some key) → Agrees t b v e → Agrees u b v f
 agrees_moved t u b None e f alike stays was = λ p from. was p (alike.comes p from)
 agrees_moved t u b (Some row) e f alike stays was = record {
-  outcome = was.outcome ∙ ap (option_map kept_form) (sym alike.outcome);
+  outcome = λ p from. was.outcome p (alike.comes p from) ∙ ap (option_map kept_form) (sym alike.outcome);
+  form = λ p from. was.form p (alike.comes p from);
   waits = λ p from. was.waits p (alike.comes p from);
   from = λ p from. let at = was.from p (alike.comes p from) in record { key = at.key; durable = stays p at.key from at.durable; at = at.at; found = at.found; number = at.number; role = at.role };
 }

@@ -1,5 +1,5 @@
 -- In every trace of the router a durable link is taken once its terminus is in the book.
-use Rattle.std.proofs.Common.{◌≡◌, ◌∙◌, sym, ap, refl, subst, ℕ, Bool, true, false, not, List, [], ◌∷◌, ◌++◌, append-nil}
+use Rattle.std.proofs.Common.{◌≡◌, ◌∙◌, sym, ap, refl, subst, ℕ, Bool, true, false, not, List, [], ◌∷◌, ◌++◌, append-nil, ◌⊎◌, inl, inr}
 use Rattle.std.specs.Prelude.{◌==◌, if◌then◌else◌, Option, Some, None, is_some, unwrap_or}
 use Rattle.std.proofs.lemmas.Bool.{eqb-true}
 use Rattle.std.proofs.lemmas.Slice.Eq.{bytes_eq-Decides}
@@ -190,7 +190,7 @@ made_kept a v x found same = by (address_by (other a.role) a) refl
 
 -- an answer that takes a link: the book doesn't stand in its way, and its terminus is made, or stands
 
-attach_only : (free : ℕ → Option ℕ) (refusal : Option Condition) (answer : Answer) (own : ℕ) → booked_attach free refusal answer ≡ Attach own
+pub attach_only : (free : ℕ → Option ℕ) (refusal : Option Condition) (answer : Answer) (own : ℕ) → booked_attach free refusal answer ≡ Attach own
     → (refusal ≡ None) × (answer ≡ Attach own)
 attach_only free None (Attach o) own is = (refl, is)
 attach_only free (Some x) (Attach o) own is = absurd (by (free o) is)
@@ -225,18 +225,31 @@ address_with b x a room may = (bytes_eq-Decides x.address (wanted_address a)).0 
     by false may = absurd cc
 
 -- the answer to an attach after the acts of its event
-answer_after : (acts : List Act) (full : List ℕ) (t : List Entry) (c : ℕ) (p : Conn) (sasl : Bool) (channel : ℕ) (a : AnAttach) (payload : List ℕ)
+pub answer_after : (acts : List Act) (full : List ℕ) (t : List Entry) (c : ℕ) (p : Conn) (sasl : Bool) (channel : ℕ) (a : AnAttach) (payload : List ℕ)
     → answer_of (Booked acts full ∷ t) c p (item.Frame sasl channel (perf.Attach a) payload)
     ≡ answer_at (finds_full (journaled t) t (event.Item (record { 0 = c }) (item.Frame sasl channel (perf.Attach a) payload))) (book_in t) t c p (item.Frame sasl channel (perf.Attach a) payload)
 unfolding free_handle first_free_below free_channel
 answer_after acts full t c p sasl channel a payload = refl
 
-record Makes (t : List Entry) (e : Event) (c : ℕ) (a : AnAttach) : Type 0 where
-  at : Terminus
-  there : terminus_of (wanted_key t c a) (book_after_event t e).termini ≡ Some at
-  address : at.address ≡ wanted_address a
+-- a terminus that stood serves the attach; else it is new
+abbrev pub Serves : BookView → Terminus → AnAttach → Type 0
+Serves b x a = (attach_is_unserved b x a ≡ false) ⊎ (x.number.0 ≡ b.next_terminus)
 
-makes : (t : List Entry) (from : ConnectionId) (sasl : Bool) (channel : ℕ) (a : AnAttach) (payload : List ℕ) (p : Conn) (own : ℕ)
+serves_with : (b : BookView) (x : Terminus) (a : AnAttach) (room : Bool) → durable_refusal b (Some x) a room ≡ None → attach_is_unserved b x a ≡ false
+serves_with b x a room may = by (same_bytes x.address (wanted_address a)) (attach_is_unserved b x a) may
+  where
+    by : (q u : Bool) → (if q then unless_unserved u else Some NotAllowed) ≡ None → u ≡ false
+    by true true may = absurd cc
+    by true false may = refl
+    by false u may = absurd cc
+
+pub record Makes (t : List Entry) (e : Event) (c : ℕ) (a : AnAttach) : Type 0 where
+  pub at : Terminus
+  pub there : terminus_of (wanted_key t c a) (book_after_event t e).termini ≡ Some at
+  pub address : at.address ≡ wanted_address a
+  pub serves : Serves (book_in t) at a
+
+pub makes : (t : List Entry) (from : ConnectionId) (sasl : Bool) (channel : ℕ) (a : AnAttach) (payload : List ℕ) (p : Conn) (own : ℕ)
     → standing (found t (event.Item from (item.Frame sasl channel (perf.Attach a) payload)) from.0) ≡ Some p
     → answer_of (booked t (event.Item from (item.Frame sasl channel (perf.Attach a) payload))) from.0 p (item.Frame sasl channel (perf.Attach a) payload) ≡ Attach own
     → wants_durable a ≡ true → Makes t (event.Item from (item.Frame sasl channel (perf.Attach a) payload)) from.0 a
@@ -290,11 +303,13 @@ makes t from sasl channel a payload p own stands answers wants = by (terminus_of
       at = x;
       there = acts ∙ makes_terminus full b ds numbers key (wanted_address a) admitted none (room_with b a (has_room full b x) may);
       address = refl;
+      serves = inr refl;
     }
     by (Some y) found may = record {
       at = y;
       there = acts ∙ stays_terminus b ds numbers key (wanted_address a) y admitted found (admitted_keep full b t e);
       address = address_with b y a (has_room full b x) may;
+      serves = inl (serves_with b y a (has_room full b x) may);
     }
 
 -- the names that a connection's links have

@@ -62,7 +62,7 @@ pub record Kept (t : Trace) (xs : List Change) : Type 0 where
 decided_as : (t : Trace) (v : Option ARow) (d : Delivery) (p : Origin) (s : DeliveryState) (told : Option DeliveryState) → source d ≡ Some p → d.outcome ≡ Some s → told ≡ Some (kept_outcome s)
     → Agrees t (book_in t) v d → IsDecidedAs v told
 decided_as t None d p s told from decided is agrees = agrees p from
-decided_as t (Some row) d p s told from decided is agrees = agrees.outcome ∙ ap (option_map kept_form) decided ∙ sym (ap (option_map journal_outcome) is)
+decided_as t (Some row) d p s told from decided is agrees = agrees.outcome p from ∙ ap (option_map kept_form) decided ∙ sym (ap (option_map journal_outcome) is)
 
 row_decided : (t : Trace) (c own : ℕ) (x : Disposition) → Facts t [] → (report : TellsOutcome t c own x) → (name : DeliveryName) → report.of.name ≡ name → RowIsDecided (book_in t) name x.state
 row_decided t c own x facts report (Counter k) is = tt

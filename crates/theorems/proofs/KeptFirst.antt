@@ -59,12 +59,13 @@ use Rattle.theorems.proofs.AllSound.{handled_sound}
 use Rattle.theorems.proofs.Answering.{IfAttach, attach_answered, attach_finds, taken_receives, may_bind}
 use Rattle.theorems.proofs.Attaching.{AttachAt, taken_kept, refused_kept}
 use Rattle.theorems.proofs.Bindings.{of_messages, there_bound}
+use Rattle.theorems.proofs.Brings.{Brings, no_brings, start_brings, opened_brings, handled_brings, took_brings, cut_brings}
 use Rattle.theorems.proofs.Booked.{acts_apply, ordered_acts, changes_of, booked_facts}
 use Rattle.theorems.proofs.Ending.{takes_none, answer_rest, came_kept, ends_kept}
 use Rattle.theorems.proofs.Keeps.{Kept, PlainPut, plain_both, plain_goes, took_kept, small_before, SmallKept, followed_kept}
 use Rattle.theorems.proofs.Once.{Decides, decides_once}
 use Rattle.theorems.proofs.Resumed.{resumed_takes, replied_book}
-use Rattle.theorems.proofs.Served.{taken_waits}
+use Rattle.theorems.proofs.Served.{none_decided}
 use Rattle.theorems.proofs.Rowing.{MayBind, Receives, plain_row, disposed_row, taken_row, taken_up_kept}
 use Rattle.theorems.proofs.Sound.{Sound, none_sound, opened_sound, sound_start, did_sound, took_sound, batch_sound}
 use Rattle.theorems.proofs.Standing.{began_standing, booked_standing}
@@ -241,18 +242,19 @@ replied_small id t s small =
     let b : Option Binding = bound_by at u s.event in
     ends_small id (due t s.event) (Did s ∷ at) (bound_small b u (small_before (own_row id at u s.event) (with_bound b u) small))
 
-resumed_kept : (id : List ℕ) (t : Trace) (s : Step) → Sound t → (s.event ≡ event.Start → (n : ℕ) → delivery t n ≡ None) → Kept t []
+resumed_kept : (id : List ℕ) (t : Trace) (s : Step) → Sound t → IsSound (book_in t) → (s.event ≡ event.Start → (n : ℕ) → delivery t n ≡ None) → Kept t []
     → Kept (resumed (booked t s.event) s.event (replied id (booked t s.event) s)) []
-resumed_kept id t s sound none was =
-    resumed_takes (λ (u : Trace). Kept u []) (λ u b takes held. taken_up_kept u b takes ? held) (booked t s.event) s.event (replied id (booked t s.event) s) (replied_book id (booked t s.event) s) (taken_waits t s.event) (replied_kept id t s sound none was)
+resumed_kept id t s sound book none was =
+    resumed_takes (λ (u : Trace). Kept u []) (booked t s.event) s.event (replied id (booked t s.event) s)
+    (λ u b takes same held. taken_up_kept u b takes (same (none_decided t s.event book)) held) (replied_book id (booked t s.event) s) (replied_kept id t s sound none was)
 
 resumed_small : (id : List ℕ) (t : Trace) (s : Step) → HasSmallNumbers (resumed (booked t s.event) s.event (replied id (booked t s.event) s)) → HasSmallNumbers t
 resumed_small id t s =
     resumed_keeps (λ (u : Trace). HasSmallNumbers u → HasSmallNumbers t) (λ b u before small. before (bound_small (Some b) u small)) (booked t s.event) s.event (replied id (booked t s.event) s) (replied_small id t s)
 
-handled_kept : (id : List ℕ) (t : Trace) (s : Step) → Sound t → (s.event ≡ event.Start → (n : ℕ) → delivery t n ≡ None) → SmallKept t → SmallKept (handled id t s)
-handled_kept id t s sound none was =
-    followed_kept (resumed (booked t s.event) s.event (replied id (booked t s.event) s)) (λ small. resumed_kept id t s sound none (was (resumed_small id t s small)))
+handled_kept : (id : List ℕ) (t : Trace) (s : Step) → Sound t → IsSound (book_in t) → (s.event ≡ event.Start → (n : ℕ) → delivery t n ≡ None) → SmallKept t → SmallKept (handled id t s)
+handled_kept id t s sound book none was =
+    followed_kept (resumed (booked t s.event) s.event (replied id (booked t s.event) s)) (λ small. resumed_kept id t s sound book none (was (resumed_small id t s small)))
 
 -- moves
 
@@ -279,12 +281,14 @@ unstarted t taken = by (is_started t) taken
 
 record All (t : Trace) : Type 0 where
   sound : Sound t
+  brings : Brings t
   kept : SmallKept t
   before : Unstarted t
 
 start_all : (g : Beginning) → IsSound g.book → All (beginning g)
 start_all g sound = record {
   sound = sound_start g;
+  brings = start_brings g sound;
   kept = λ small. record {
     law = tt;
     facts = λ n d r there name. absurd (none_not_some there);
@@ -301,31 +305,33 @@ moves_all id (handles s ∷ ms) t u all went =
     moves_all id ms (handled id t s) u
     (record {
       sound = handled_sound id t s all.sound;
-      kept = handled_kept id t s all.sound (λ is n. nothing_bound t (all.before (unstarted t (subst (λ (e : Event). declines t e ≡ false) is went.0))) n) all.kept;
+      brings = handled_brings id t s all.brings;
+      kept = handled_kept id t s all.sound all.brings.book (λ is n. nothing_bound t (all.before (unstarted t (subst (λ (e : Event). declines t e ≡ false) is went.0))) n) all.kept;
       before = λ not. absurd (clash (sym (started_handled id t s.event went.0) ∙ not));
     })
     went.1
 moves_all id (takes x ∷ ms) t u all went =
-    moves_all id ms (took_one x t) u (record { sound = took_sound _ _ t all.sound; kept = λ small. took_kept _ _ t (all.kept small); before = all.before }) went
+    moves_all id ms (took_one x t) u (record { sound = took_sound _ _ t all.sound; brings = took_brings _ _ t all.brings; kept = λ small. took_kept _ _ t (all.kept small); before = all.before }) went
 
 -- Over runs: what the outcomes told before a stop leave.
 pub record Past (t : Trace) : Type 0 where
   pub sound : Sound t
   pub law : EachOut OutcomeIsKept t
-  pub ordered : IsOrdered (book_in t)
+  pub brings : Brings t
 
 pub no_past : Past []
-no_past = record { sound = none_sound; law = tt; ordered = empty_ordered }
+no_past = record { sound = none_sound; law = tt; brings = no_brings }
 
 opened_all : (g : Beginning) (below : Trace) → g.book ≡ book_in below → Past below → All (opened g below)
 opened_all g below book was = record {
   sound = opened_sound g below was.sound;
+  brings = opened_brings g below book was.brings;
   kept = λ small. record {
     law = was.law;
     facts = λ n d r there name. absurd (none_not_some there);
     standing = began_standing g below;
     named = λ n id d there undecided has. absurd (none_not_some there);
-    ordered = subst IsOrdered (sym book) was.ordered;
+    ordered = subst IsOrdered (sym book) (sound_is_ordered (book_in below) was.brings.book);
   };
   before = λ not. refl;
 }
@@ -336,13 +342,13 @@ pub moves_past : (id : List ℕ) (ms : List Move) (g : Beginning) (below u : Tra
 moves_past id ms g below u book was went small =
     let all : All u = moves_all id ms (opened g below) u (opened_all g below book was) went in
     let kept = all.kept small in
-    record { sound = all.sound; law = kept.law; ordered = kept.ordered }
+    record { sound = all.sound; law = kept.law; brings = all.brings }
 
 pub cut_past : (t : Trace) (e : Event) → Past t → Past (did e ∷ booked t e)
 cut_past t e was = record {
   sound = did_sound (step_of e) (booked t e) (booked_keeps Sound t e (λ acts w. batch_sound t acts w) was.sound);
   law = was.law;
-  ordered = ordered_acts t e was.ordered;
+  brings = cut_brings t e was.brings;
 }
 
 pub outcomes_kept : (id : List ℕ) (g : Beginning) (u : Trace) (moves : List Move) → GoesInTurn id moves (beginning g) u → IsSound g.book → EachOutcomeIsKept g u
@@ -435,7 +441,7 @@ handled_once first id t s was =
     (resumed_keeps (Once first) (λ x v. bound_once first (Some x) v) at s.event (replied id at s) (goes_once first (own_row id at u s.event) (with_bound b u) (bound_once first b u came)))
 
 pub none_once : Once empty_book []
-none_once = record { ordered = no_past.ordered; once = λ n. record { once = zero_one; waits = λ might. refl; before = λ shut. refl }; stays = λ n shut. shut }
+none_once = record { ordered = empty_ordered; once = λ n. record { once = zero_one; waits = λ might. refl; before = λ shut. refl }; stays = λ n shut. shut }
   where
     zero_one : 0 ≤ 1
     zero_one = omega arith

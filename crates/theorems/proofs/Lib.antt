@@ -14,7 +14,6 @@ pub mod Carrying
 pub mod Names
 pub mod Sound
 pub mod Sending
-mod Served
 pub mod Tells
 pub mod Quiet
 pub mod Transfers
@@ -24,6 +23,7 @@ pub mod AllSound
 -- Durable links and messages in the book.
 pub mod Made
 pub mod Keeping
+pub mod Served
 pub mod Admitted
 pub mod Rows
 pub mod Numbered
@@ -36,9 +36,12 @@ pub mod Standing
 pub mod Changing
 pub mod Hearing
 pub mod Settling
+pub mod KeptForm
+pub mod Ended
 pub mod Facts
 pub mod Decisions
 pub mod Booked
+pub mod Brings
 pub mod Consuming
 pub mod Naming
 pub mod Keeps

@@ -16,6 +16,7 @@ use Rattle.theorems.specs.Kept.{OutcomeIsKept, RowsAreDecidedOnce}
 use Rattle.theorems.specs.Lives.{Life, Lives, CutOff, GoesInTurn, InLives, InSmallLives, AtEachEnd}
 use Rattle.theorems.specs.Windows.{WindowKept}
 use Rattle.theorems.proofs.AllSound.{moves_sound}
+use Rattle.theorems.proofs.Brings.{Brings, no_brings, opened_brings, moves_brings, cut_brings}
 use Rattle.theorems.proofs.CreditKept.{moves_within}
 use Rattle.theorems.proofs.Keeping.{moves_kept}
 use Rattle.theorems.proofs.KeptFirst.{Past, no_past, moves_past, cut_past, Once, none_once, opened_once, moves_once, cut_once}
@@ -51,6 +52,9 @@ pub lives_sound : InLives Sound
 lives_sound =
     lives_keep Sound (λ g below book was. opened_sound g below was) (λ id ms t u was went. moves_sound id ms t u was (goes id ms t u went))
     (λ t e was. did_sound (step_of e) (booked t e) (booked_keeps Sound t e (λ acts w. batch_sound t acts w) was)) none_sound
+
+pub lives_brings : InLives Brings
+lives_brings = lives_keep Brings opened_brings (λ id ms t u was went. moves_brings id ms t u was (goes id ms t u went)) cut_brings no_brings
 
 pub lives_rows : InLives Rows
 lives_rows = lives_keep Rows opened_rows (λ id ms t u was went. moves_rows id ms t u was (goes id ms t u went)) cut_rows no_rows

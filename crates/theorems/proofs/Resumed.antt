@@ -1,7 +1,8 @@
 -- The rows that an event's attach takes up: each stands in the book for the terminus of the link, and is bound as the book has it.
-use Rattle.std.proofs.Common.{◌≡◌, ◌∙◌, sym, ap, refl, subst, ℕ, Bool, true, false, List, [], ◌∷◌, ◌++◌, append_assoc}
+use Rattle.std.proofs.Common.{◌≡◌, ◌∙◌, sym, ap, refl, subst, ℕ, Bool, true, false, not, List, [], ◌∷◌, ◌++◌, append_assoc}
 use Rattle.std.specs.Prelude.{Option, Some, None, filter, option_map, option_and_then}
 use Rattle.std.specs.List.{cons_option}
+use Rattle.amqp_model.specs.declared.perf.Attach.{Attach as AnAttach}
 use Rattle.amqp_model.specs.declared.item.Item.{Item}
 use Rattle.amqp_model.specs.declared.state.DeliveryState.{DeliveryState}
 use Rattle.amqp_model.specs.declared.state.UnsettledDelivery.{UnsettledDelivery}
@@ -16,7 +17,7 @@ use Rattle.router_trace.specs.declared.binding.DeliveryName.TheVariants.{Row}
 use Rattle.router_trace.specs.declared.binding.Resumed.{Resumed}
 use Rattle.router_trace.specs.declared.binding.Resumed.TheVariants.{Settled, Again, Anew}
 use Rattle.router_trace.specs.declared.binding.TakenUp.{TakenUp}
-use Rattle.resume_core.specs.Resuming.{decisions, decision_of, decided_by, either_outcome, is_told_of, outcome_after, resumed_as, sending_as, sending_of, sendings, sent_as}
+use Rattle.resume_core.specs.Resuming.{entries_of, decisions, decision_of, decided_by, either_outcome, is_told_of, outcome_after, resumed_as, sending_as, sending_of, sendings, sent_as}
 use Rattle.resume_core.specs.declared.consumer.Sending.{Sending}
 use Rattle.router_trace.specs.declared.condition.Condition.TheVariants.{ResourceLimitExceeded}
 use Rattle.router_trace.specs.declared.event.Event.{Event}
@@ -28,14 +29,15 @@ use Rattle.state_messages.specs.Asking.{consumer_with}
 use Rattle.state_messages.specs.Messages.{brings, payload_as, taken_up_by, with_bound}
 use Rattle.state_connections.proofs.Lists.{by_test}
 use Rattle.state_deliveries.proofs.Called.{there_named, one_name}
+use Rattle.reply_rows.specs.Booking.{bound_rows}
 use Rattle.router_reply.specs.Acts.{journaled, book_in, answer_to_event}
 use Rattle.router_reply.specs.Replies.{closing_of, ends, heard, bound_by, own_row, replied}
-use Rattle.router_reply.specs.Resuming.{resumed_key, attach_in, rows_for, rows_taken, bound_to, bound_if, with_rows, resumed}
+use Rattle.router_reply.specs.Resuming.{resumed_key, attach_in, rows_at, rows_with, rows_for, rows_taken, bound_to, bound_if, with_rows, resumed}
 use Rattle.theorems.specs.Came.{TakesUp}
 use Rattle.theorems.proofs.Tests.{none_not_some, some_same}
 
--- what is sent of a row of a book, of the terminus of a key: its outcome, if it is decided
-pub record Waits (b : BookView) (key : LinkKey) (x : Sending) : Type 0 where
+-- what is sent of a row of a book, of the terminus of a key: its outcome, if it is decided, provided that the attach decides none
+pub record Waits (Q : Type 0) (b : BookView) (key : LinkKey) (x : Sending) : Type 0 where
   pub row : ARow
   pub number : x.row ≡ row.number
   pub format : x.format ≡ row.format
@@ -43,17 +45,17 @@ pub record Waits (b : BookView) (key : LinkKey) (x : Sending) : Type 0 where
   pub earlier : List ARow
   pub later : List ARow
   pub kept : b.rows ≡ earlier ++ row ∷ later
-  pub outcome : outcome_as x.how ≡ row.outcome
+  pub outcome : Q → outcome_as x.how ≡ row.outcome
   pub terminus : Terminus
   pub of_key : terminus_of key b.termini ≡ Some terminus
   pub waits : is_for terminus.number.0 row ≡ true
 
-abbrev pub AllWait : BookView → LinkKey → List Sending → Type 0
-AllWait b key [] = Unit {0}
-AllWait b key (x ∷ xs) = Waits b key x × AllWait b key xs
+abbrev pub AllWait : Type 0 → BookView → LinkKey → List Sending → Type 0
+AllWait Q b key [] = Unit {0}
+AllWait Q b key (x ∷ xs) = Waits Q b key x × AllWait Q b key xs
 
--- what is sent of the rows of a terminus, of which the attach decides none
-none_first : {X : Type 0} (o : Option X) (xs : List X) → cons_option o xs ≡ [] → (o ≡ None) × (xs ≡ [])
+-- what is sent of the rows of a terminus
+pub none_first : {X : Type 0} (o : Option X) (xs : List X) → cons_option o xs ≡ [] → (o ≡ None) × (xs ≡ [])
 none_first None xs e = (refl, e)
 none_first (Some x) xs e = absurd cc
 
@@ -72,17 +74,17 @@ sent_outcome complete false (Some s) how e = absurd cc
 sent_outcome true false None how e = let same : Anew ≡ how = cc in ap outcome_as (sym same)
 sent_outcome false false None how e = absurd cc
 
-waits_here : (b : BookView) (key : LinkKey) (x : Terminus) → terminus_of key b.termini ≡ Some x → (complete : Bool) (theirs : List UnsettledDelivery)
-    → (before : List ARow) (r : ARow) (rs : List ARow) → b.rows ≡ before ++ r ∷ rs → is_for x.number.0 r ≡ true → decision_of theirs r ≡ None
-    → (s : Sending) → sending_of complete theirs r ≡ Some s → Waits b key s
-waits_here b key x found complete theirs before r rs is bound none s sent = by (sent_as complete theirs r) refl sent
+waits_here : (Q : Type 0) (b : BookView) (key : LinkKey) (x : Terminus) → terminus_of key b.termini ≡ Some x → (complete : Bool) (theirs : List UnsettledDelivery)
+    → (before : List ARow) (r : ARow) (rs : List ARow) → b.rows ≡ before ++ r ∷ rs → is_for x.number.0 r ≡ true → (Q → decision_of theirs r ≡ None)
+    → (s : Sending) → sending_of complete theirs r ≡ Some s → Waits Q b key s
+waits_here Q b key x found complete theirs before r rs is bound none s sent = by (sent_as complete theirs r) refl sent
   where
-    own : outcome_after theirs r ≡ r.outcome
-    own = ap (either_outcome r.outcome) (mapped_none _ (decided_by theirs r) none) ∙ either_none r.outcome
+    own : Q → outcome_after theirs r ≡ r.outcome
+    own q = ap (either_outcome r.outcome) (mapped_none _ (decided_by theirs r) (none q)) ∙ either_none r.outcome
 
-    by : (v : Option Resumed) → sent_as complete theirs r ≡ v → option_map (sending_as r) v ≡ Some s → Waits b key s
+    by : (v : Option Resumed) → sent_as complete theirs r ≡ v → option_map (sending_as r) v ≡ Some s → Waits Q b key s
     by None e sent = absurd (none_not_some sent)
-    by (Some how) e sent = subst (λ (y : Sending). Waits b key y) (some_same sent) (record {
+    by (Some how) e sent = subst (λ (y : Sending). Waits Q b key y) (some_same sent) (record {
       row = r;
       number = refl;
       format = refl;
@@ -90,39 +92,40 @@ waits_here b key x found complete theirs before r rs is bound none s sent = by (
       earlier = before;
       later = rs;
       kept = is;
-      outcome = sent_outcome complete (is_told_of theirs r) (outcome_after theirs r) how e ∙ own;
+      outcome = λ q. sent_outcome complete (is_told_of theirs r) (outcome_after theirs r) how e ∙ own q;
       terminus = x;
       of_key = found;
       waits = bound;
     })
 
-cons_wait : (b : BookView) (key : LinkKey) (o : Option Sending) (xs : List Sending) → ((s : Sending) → o ≡ Some s → Waits b key s) → AllWait b key xs → AllWait b key (cons_option o xs)
-cons_wait b key None xs one all = all
-cons_wait b key (Some s) xs one all = (one s refl, all)
+cons_wait : (Q : Type 0) (b : BookView) (key : LinkKey) (o : Option Sending) (xs : List Sending) → ((s : Sending) → o ≡ Some s → Waits Q b key s) → AllWait Q b key xs
+    → AllWait Q b key (cons_option o xs)
+cons_wait Q b key None xs one all = all
+cons_wait Q b key (Some s) xs one all = (one s refl, all)
 
-sent_wait : (b : BookView) (key : LinkKey) (x : Terminus) → terminus_of key b.termini ≡ Some x → (complete : Bool) (theirs : List UnsettledDelivery)
-    → (before rest : List ARow) → b.rows ≡ before ++ rest → decisions theirs (filter (is_for x.number.0) (filter (is_of x.number.0) rest)) ≡ []
-    → AllWait b key (sendings complete theirs (filter (is_for x.number.0) (filter (is_of x.number.0) rest)))
-sent_wait b key x found complete theirs before [] is none = tt
-sent_wait b key x found complete theirs before (r ∷ rs) is none =
+sent_wait : (Q : Type 0) (b : BookView) (key : LinkKey) (x : Terminus) → terminus_of key b.termini ≡ Some x → (complete : Bool) (theirs : List UnsettledDelivery)
+    → (before rest : List ARow) → b.rows ≡ before ++ rest → (Q → decisions theirs (filter (is_for x.number.0) (filter (is_of x.number.0) rest)) ≡ [])
+    → AllWait Q b key (sendings complete theirs (filter (is_for x.number.0) (filter (is_of x.number.0) rest)))
+sent_wait Q b key x found complete theirs before [] is none = tt
+sent_wait Q b key x found complete theirs before (r ∷ rs) is none =
     let kept : List ARow = filter (is_for x.number.0) (filter (is_of x.number.0) rs) in
-    let others : decisions theirs kept ≡ [] → AllWait b key (sendings complete theirs kept)
-    = sent_wait b key x found complete theirs (before ++ r ∷ []) rs (is ∙ sym (append_assoc before (r ∷ []) rs)) in
+    let others : (Q → decisions theirs kept ≡ []) → AllWait Q b key (sendings complete theirs kept)
+    = sent_wait Q b key x found complete theirs (before ++ r ∷ []) rs (is ∙ sym (append_assoc before (r ∷ []) rs)) in
     by_test (is_of x.number.0 r)
     (λ e. by_test (is_for x.number.0 r)
-    (λ f. let split = none_first (decision_of theirs r) (decisions theirs kept) (rw (e, f) at none) in
-    rw (e, f) (cons_wait b key (sending_of complete theirs r) (sendings complete theirs kept) (waits_here b key x found complete theirs before r rs is f split.0) (others split.1)))
-    (λ f. rw (e, f) (others (rw (e, f) at none))))
-    (λ e. rw e (others (rw e at none)))
+    (λ f. let split : Q → (decision_of theirs r ≡ None) × (decisions theirs kept ≡ []) = λ q. (let given = none q in none_first (decision_of theirs r) (decisions theirs kept) (rw (e, f) at given)) in
+    rw (e, f) (cons_wait Q b key (sending_of complete theirs r) (sendings complete theirs kept) (waits_here Q b key x found complete theirs before r rs is f (λ q. (split q).0)) (others (λ q. (split q).1))))
+    (λ f. rw (e, f) (others (λ q. (let given = none q in rw (e, f) at given)))))
+    (λ e. rw e (others (λ q. (let given = none q in rw e at given))))
 
 -- what each binding of such a row keeps, all of them keep
 
-abbrev pub TakenStep : (Trace → Type 0) → Type 0
-TakenStep P = (u : Trace) (b : Binding) → TakesUp u b → P u → P (Bound b ∷ u)
+abbrev pub TakenStep : Type 0 → (Trace → Type 0) → Type 0
+TakenStep Q P = (u : Trace) (b : Binding) (takes : TakesUp u b) → (Q → outcome_as takes.brought.how ≡ takes.row.outcome) → P u → P (Bound b ∷ u)
 
-takes : (book : BookView) (key : LinkKey) (at : Attachment) (x : Sending) (u : Trace) → Waits book key x → book_in u ≡ book → consumer_with u key ≡ Some at
+takes : (Q : Type 0) (book : BookView) (key : LinkKey) (at : Attachment) (x : Sending) (u : Trace) → Waits Q book key x → book_in u ≡ book → consumer_with u key ≡ Some at
     → TakesUp u (taken_up_by u x.row x.how x.format x.payload at)
-takes book key at x u w is stands = record {
+takes Q book key at x u w is stands = record {
   brought = brings u x.row x.how;
   taken = refl;
   row = w.row;
@@ -130,7 +133,6 @@ takes book key at x u w is stands = record {
   earlier = w.earlier;
   later = w.later;
   kept = ap (λ (b : BookView). b.rows) is ∙ w.kept;
-  outcome = w.outcome;
   format = w.format;
   payload = ap (payload_as x.how) w.payload;
   key = key;
@@ -148,29 +150,45 @@ takes book key at x u w is stands = record {
 stays_with : (u : Trace) (b : Binding) (key : LinkKey) → consumer_with (Bound b ∷ u) key ≡ consumer_with u key
 stays_with u b key = refl
 
-all_taken : (P : Trace → Type 0) → TakenStep P → (book : BookView) (key : LinkKey) (at : Attachment) (rows : List Sending) → AllWait book key rows
+all_taken : (Q : Type 0) (P : Trace → Type 0) → TakenStep Q P → (book : BookView) (key : LinkKey) (at : Attachment) (rows : List Sending) → AllWait Q book key rows
     → (u : Trace) → book_in u ≡ book → consumer_with u key ≡ Some at → P u → P (bound_to at rows u)
-all_taken P step book key at [] all u is stands was = was
-all_taken P step book key at (x ∷ xs) all u is stands was =
+all_taken Q P step book key at [] all u is stands was = was
+all_taken Q P step book key at (x ∷ xs) all u is stands was =
     let b : Binding = taken_up_by u x.row x.how x.format x.payload at in
-    all_taken P step book key at xs all.1 (Bound b ∷ u) is (stays_with u b key ∙ stands) (step u b (takes book key at x u all.0 is stands) was)
+    all_taken Q P step book key at xs all.1 (Bound b ∷ u) is (stays_with u b key ∙ stands) (step u b (takes Q book key at x u all.0 is stands) all.0.outcome was)
 
--- the rows that an event's attach takes up, by the link's key
-abbrev pub TakenWait : Trace → Event → Option LinkKey → Type 0
-TakenWait t e None = Unit {0}
-TakenWait t e (Some k) = AllWait (book_in t) k (rows_for (book_in t) (attach_in e) (Some k))
+-- an attach, by the key of the consumer's link that it takes up, decides none of the rows that are bound to the link's terminus
+abbrev pub DecidesNone : BookView → Option AnAttach → Option LinkKey → Type 0
+DecidesNone b (Some a) (Some k) = decisions (entries_of a.unsettled) (rows_with b k) ≡ []
+DecidesNone b _ _ = Unit {0}
 
-pub resumed_takes : (P : Trace → Type 0) → TakenStep P → (t : Trace) (e : Event) (u : Trace) → book_in u ≡ book_in t
-    → TakenWait t e (resumed_key t e (answer_to_event t e)) → P u → P (resumed t e u)
-resumed_takes P step t e u is all was = by (resumed_key t e (answer_to_event t e)) all
+-- the rows that it takes up
+rows_wait : (b : BookView) (k : LinkKey) (a : Option AnAttach) → AllWait (DecidesNone b a (Some k)) b k (rows_for b a (Some k))
+rows_wait b k None = tt
+rows_wait b k (Some a) = by (terminus_of k b.termini) refl
   where
-    by_link : (k : LinkKey) (v : Option Attachment) → consumer_with u k ≡ v → TakenWait t e (Some k) → P (bound_if v (rows_for (book_in t) (attach_in e) (Some k)) u)
-    by_link k None stands all = was
-    by_link k (Some at) stands all = all_taken P step (book_in t) k at (rows_for (book_in t) (attach_in e) (Some k)) all u is stands was
+    by : (v : Option Terminus) → terminus_of k b.termini ≡ v
+        → AllWait (decisions (entries_of a.unsettled) (rows_at b v) ≡ []) b k (sendings (not a.incomplete_unsettled) (entries_of a.unsettled) (rows_at b v))
+    by None found = tt
+    by (Some x) found =
+        sent_wait (decisions (entries_of a.unsettled) (bound_rows b x) ≡ []) b k x found (not a.incomplete_unsettled) (entries_of a.unsettled) [] b.rows refl (λ none. none)
 
-    by : (k : Option LinkKey) → TakenWait t e k → P (with_rows k (rows_for (book_in t) (attach_in e) k) u)
-    by None all = was
-    by (Some k) all = by_link k (consumer_with u k) refl all
+-- the same of an event's attach
+abbrev pub EventDecidesNone : Trace → Event → Type 0
+EventDecidesNone t e = DecidesNone (book_in t) (attach_in e) (resumed_key t e (answer_to_event t e))
+
+pub resumed_takes : (P : Trace → Type 0) (t : Trace) (e : Event) (u : Trace) → TakenStep (EventDecidesNone t e) P → book_in u ≡ book_in t → P u → P (resumed t e u)
+resumed_takes P t e u step is was = by (resumed_key t e (answer_to_event t e)) step
+  where
+    by_link : (k : LinkKey) (v : Option Attachment) → consumer_with u k ≡ v → TakenStep (DecidesNone (book_in t) (attach_in e) (Some k)) P
+        → P (bound_if v (rows_for (book_in t) (attach_in e) (Some k)) u)
+    by_link k None stands step = was
+    by_link k (Some at) stands step =
+        all_taken (DecidesNone (book_in t) (attach_in e) (Some k)) P step (book_in t) k at (rows_for (book_in t) (attach_in e) (Some k)) (rows_wait (book_in t) k (attach_in e)) u is stands was
+
+    by : (k : Option LinkKey) → TakenStep (DecidesNone (book_in t) (attach_in e) k) P → P (with_rows k (rows_for (book_in t) (attach_in e) k) u)
+    by None step = was
+    by (Some k) step = by_link k (consumer_with u k) refl step
 
 -- the same where only that it is taken up counts
 

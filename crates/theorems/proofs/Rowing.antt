@@ -43,7 +43,7 @@ use Rattle.router_trace.specs.declared.binding.TakenUp.{TakenUp}
 use Rattle.theorems.specs.Came.{TakesUp, BindsMessage, ComesFrom}
 use Rattle.theorems.proofs.Consuming.{consumer_sends}
 use Rattle.theorems.proofs.Ending.{TakesNone, takes_none, said_kept}
-use Rattle.theorems.proofs.Facts.{FromTerminus, IsHeld, Agrees, RowFact, bound_facts, kept_form}
+use Rattle.theorems.proofs.Facts.{FromTerminus, IsKeptForm, IsHeld, Agrees, RowFact, bound_facts, kept_form}
 use Rattle.theorems.proofs.Keeps.{Kept, quiet_kept, plain_kept, Plain, plain_to, plain_goes}
 use Rattle.theorems.proofs.Looking.{found_below, found_in}
 use Rattle.theorems.proofs.Naming.{bound_named}
@@ -208,13 +208,9 @@ taken_source : (u : Trace) (b : Binding) (takes : TakesUp u b) (p : Origin) → 
 taken_source u b takes p from =
     had_source u takes.row.number b.origin (brought (λ v. v.told) b.taken_up) p takes.origin (ap (brought (λ v. v.told)) takes.taken ∙ takes.told) from
 
--- its outcome is as a journal keeps it
-abbrev pub IsKeptForm : ARow → Type 0
-IsKeptForm r = r.outcome ≡ option_map kept_form r.outcome
-
 -- what the book has of the row holds of the new delivery as it did of the old one
-taken_fact : (u : Trace) (b : Binding) (takes : TakesUp u b) → IsKeptForm takes.row → Kept u [] → (r : RowNumber) → b.row ≡ Some r → RowFact u (book_in u) r (bound (name_in u b) b)
-taken_fact u b takes form was r named = subst (λ (n : RowNumber). RowFact u (book_in u) n (bound (name_in u b) b)) (some_same (sym takes.number ∙ named)) fact
+taken_fact : (u : Trace) (b : Binding) (takes : TakesUp u b) → outcome_as takes.brought.how ≡ takes.row.outcome → Kept u [] → (r : RowNumber) → b.row ≡ Some r → RowFact u (book_in u) r (bound (name_in u b) b)
+taken_fact u b takes same was r named = subst (λ (n : RowNumber). RowFact u (book_in u) n (bound (name_in u b) b)) (some_same (sym takes.number ∙ named)) fact
   where
     n : RowNumber
     n = takes.row.number
@@ -229,28 +225,29 @@ taken_fact u b takes form was r named = subst (λ (n : RowNumber). RowFact u (bo
     never false = refl
 
     -- the old delivery's row
-    held : (p : Origin) → source (bound (name_in u b) b) ≡ Some p → (takes.row.forgotten ≡ false) × FromTerminus u (book_in u) p takes.row.producer.0
+    held : (p : Origin) → source (bound (name_in u b) b) ≡ Some p → IsKeptForm takes.row × (takes.row.forgotten ≡ false) × FromTerminus u (book_in u) p takes.row.producer.0
     held p from =
         let had = taken_source u b takes p from in
         let old : RowFact u (book_in u) n had.before = was.facts had.was_called.number had.before n had.was_called.there had.was_called.named in
         let is : IsHeld u (book_in u) takes.row had.before = subst (λ (v : Option ARow). Agrees u (book_in u) v had.before) there old.agrees in
-        (is.waits p had.from, is.from p had.from)
+        (is.form p had.from, is.waits p had.from, is.from p had.from)
 
     fact : RowFact u (book_in u) n (bound (name_in u b) b)
     fact = record {
       settled = ap (λ (up : Option TakenUp). is_none b.origin && is_none up) takes.taken ∙ never (is_none b.origin);
       known = found_below n.0 (book_in u).next_row (book_in u).rows takes.row was.ordered.rows_below there;
       agrees = subst (λ (v : Option ARow). Agrees u (book_in u) v (bound (name_in u b) b)) (sym there) (record {
-        outcome = form ∙ ap (option_map kept_form) (sym (ap (brought (λ v. outcome_as v.how)) takes.taken ∙ takes.outcome));
-        waits = λ p from. (held p from).0;
-        from = λ p from. (held p from).1;
+        outcome = λ p from. (held p from).0 ∙ ap (option_map kept_form) (sym (ap (brought (λ v. outcome_as v.how)) takes.taken ∙ same));
+        form = λ p from. (held p from).0;
+        waits = λ p from. (held p from).1;
+        from = λ p from. (held p from).2;
       });
     }
 
-pub taken_up_kept : (u : Trace) (b : Binding) (takes : TakesUp u b) → IsKeptForm takes.row → Kept u [] → Kept (Bound b ∷ u) []
-taken_up_kept u b takes form was = record {
+pub taken_up_kept : (u : Trace) (b : Binding) (takes : TakesUp u b) → outcome_as takes.brought.how ≡ takes.row.outcome → Kept u [] → Kept (Bound b ∷ u) []
+taken_up_kept u b takes same was = record {
   law = was.law;
-  facts = bound_facts b u (taken_fact u b takes form was) was.facts;
+  facts = bound_facts b u (taken_fact u b takes same was) was.facts;
   standing = bound_standing b u (taken_sends u takes.key b.consumer takes.attached) producer was.standing;
   named = bound_named b u was.named;
   ordered = was.ordered;

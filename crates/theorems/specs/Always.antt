@@ -59,3 +59,8 @@ AlwaysInTurn P = InTracesInTurn P × InRunsFrom P
 -- stand, as in each book of a journal, whether acts made it or it was read back
 abbrev pub OnSound : (Beginning → Trace → Type 0) → Beginning → Trace → Type 0
 OnSound P g u = IsSound g.book → P g u
+
+-- in one run that began so, and over every list of runs: these begin with an empty book, and each next run with the book
+-- that the last one left
+abbrev pub AlwaysOnSound : (Trace → Type 0) → Type 0
+AlwaysOnSound P = AlwaysFrom (OnSound (λ g u. P u)) × InLives P

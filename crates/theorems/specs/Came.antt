@@ -109,8 +109,8 @@ pub record BindsMessage (t : Trace) (b : Binding) : Type 0 where
   pub lasting : b.lasting ≡ lasts t b.consumer
 
 -- A row is bound again when a consumer's durable link takes it up: the book has it for the terminus of that link. It is
--- bound as the book has it: with its outcome, if it is decided, and else with its message. Its producer's delivery is
--- that of the delivery which it had until then, whether that was told, or settled early, or neither.
+-- bound with its message, unless it is brought with an outcome (`BringsItsOutcome`). Its producer's delivery is that of
+-- the delivery which it had until then, whether that was told, or settled early, or neither.
 pub record TakesUp (t : Trace) (b : Binding) : Type 0 where
   pub brought : TakenUp
   pub taken : b.taken_up ≡ Some brought
@@ -119,7 +119,6 @@ pub record TakesUp (t : Trace) (b : Binding) : Type 0 where
   pub earlier : List ARow
   pub later : List ARow
   pub kept : (book_in t).rows ≡ earlier ++ row ∷ later
-  pub outcome : outcome_as brought.how ≡ row.outcome
   pub format : b.format ≡ row.format
   pub payload : b.payload ≡ payload_as brought.how row.payload
   pub key : LinkKey
@@ -131,6 +130,10 @@ pub record TakesUp (t : Trace) (b : Binding) : Type 0 where
   pub told : brought.told ≡ told_in (called t (Row row.number))
   pub early : brought.early ≡ early_in (called t (Row row.number))
   pub lasting : b.lasting ≡ lasts t b.consumer
+
+-- The outcome that a row which is taken up brings is the one that the book has of it; it brings none if it is undecided.
+abbrev pub BringsItsOutcome : Trace → Binding → Type 0
+BringsItsOutcome t b = (takes : TakesUp t b) → outcome_as takes.brought.how ≡ takes.row.outcome
 
 -- What is bound is a message, or a row that is taken up again.
 abbrev pub BindsAs : Bool → Trace → Binding → Type 0

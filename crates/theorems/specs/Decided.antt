@@ -76,7 +76,7 @@ pub record SentSettled (entry : Entry) (t : Trace) (n : ℕ) (d : Delivery) : Ty
   pub last : transfer.more ≡ false
   pub presettled : d.presettled ≡ true
 
--- A row that its consumer's link takes up again may be decided: its binding brings the outcome that the book has of it (`TakesUp`). So there was no
+-- A row that its consumer's link takes up again may be decided: its binding brings the outcome that the book has of it (`BringsItsOutcome`). So there was no
 -- delivery with that number before.
 pub record BroughtBack (entry : Entry) (t : Trace) (n : ℕ) (outcome : DeliveryState) : Type 0 where
   pub binding : Binding

@@ -8,13 +8,13 @@ use Rattle.router_trace.specs.Trace.{Beginning}
 use Rattle.router_core.specs.declared.driving.Driven.{Driven}
 use Rattle.router_core.specs.declared.router.Core.{Core}
 use Rattle.theorems.specs.Alike.{AnsweredAlone, SameWheneverTaken, SameHoweverCut}
-use Rattle.theorems.specs.Always.{Always, AlwaysFrom, AlwaysInTurn, InOneRun, InScripts, OnSound}
+use Rattle.theorems.specs.Always.{Always, AlwaysFrom, AlwaysInTurn, AlwaysOnSound, InOneRun, InScripts, OnSound}
 use Rattle.theorems.specs.Credit.{WithinCredit}
 use Rattle.theorems.specs.Durable.{IsKeptFirst, RowIsAdmitted, EachRowIsBoundOnce, EachNewRowIsBound, OutcomeIsKept, EachOutcomeIsKept, EachRowIsDecidedOnce, RowsAreDecidedOnce}
 use Rattle.theorems.specs.Each.{EachOut, EachBound}
 use Rattle.theorems.specs.Lives.{InLives, InSmallLives}
 use Rattle.theorems.specs.Locked.{Kind, UnderTheLock, UnderTheLockIfSmall}
-use Rattle.theorems.specs.Messages.{BindsOrTakesUp, EachDeliveryCame, StaysWithConsumer, NeverComesBack, OfMessages, CarriesWhatWasBound, FramesJoin, OutcomesAreGiven, OutcomesAreOfConsumers, ToldAtMostOnce, ToldAnew, TellsAsGiven}
+use Rattle.theorems.specs.Messages.{BindsOrTakesUp, BringsItsOutcome, EachDeliveryCame, StaysWithConsumer, NeverComesBack, OfMessages, CarriesWhatWasBound, FramesJoin, OutcomesAreGiven, OutcomesAreOfConsumers, ToldAtMostOnce, ToldAnew, TellsAsGiven}
 use Rattle.theorems.specs.Order.{KeepsOrder, BeginsWithHeaders}
 use Rattle.theorems.specs.Stops.{Stopping, AnyMomentLeavesAPrefix, TheEndLeavesAll, EndsALife, GoesOnFrom}
 use Rattle.theorems.specs.Windows.{WindowKept}
@@ -40,9 +40,11 @@ ADeliveryHasOneConsumer = StaysWithConsumer × NeverComesBack × OfMessages
 abbrev pub FramesCarryWhatWasBound : Type 0
 FramesCarryWhatWasBound = Always (EachOut CarriesWhatWasBound) × Always FramesJoin
 
--- A message is bound when it has come whole, as it came, and only once, except that its row may be taken up again.
+-- A message is bound when it has come whole, as it came, and only once, except that its row may be taken up again, with
+-- the outcome that the book has of it.
 abbrev pub MessagesAreBoundOnce : Type 0
-MessagesAreBoundOnce = Always (EachBound BindsOrTakesUp) × Always EachDeliveryCame
+MessagesAreBoundOnce =
+    Always (EachBound BindsOrTakesUp) × Always EachDeliveryCame × AlwaysOnSound (EachBound BringsItsOutcome)
 
 -- An outcome is what the consumer gave, or what the end of its link gives; or its message came settled, and was sent.
 abbrev pub OutcomesAreAsGiven : Type 0
