@@ -223,11 +223,7 @@ fn show<R: Files<File = File> + AllocGlobal, O: Write, E: Write>(
 ///
 /// `NoJournal` if its name is that of something, and of no empty file; `File` if one of the two is missing or can't be read; `Memory` if one has more
 /// bytes than a journal may have, or memory was refused.
-fn files_at<R: Files<File = File>>(
-    rt: &R,
-    alloc: Global,
-    path: &str,
-) -> Result<FileTwin, Refusal> {
+fn files_at<R: Files<File = File>>(rt: &R, alloc: Global, path: &str) -> Result<FileTwin, Refusal> {
     if is_taken(rt, path) {
         return Err(Refusal::NoJournal);
     }

@@ -104,10 +104,7 @@ impl Display for JournalLine {
                 base,
                 rows,
                 termini,
-            } => write!(
-                f,
-                "epoch {epoch} base {base} rows {rows} termini {termini}"
-            ),
+            } => write!(f, "epoch {epoch} base {base} rows {rows} termini {termini}"),
             JournalLine::Act {
                 place,
                 kind,

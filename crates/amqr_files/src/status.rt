@@ -3,9 +3,9 @@ ghost use Rattle.std.specs.Prelude.{◌≡◌, Some};
 ghost use Rattle.amqr_files.specs.Status.{code_of, status_of, refusal_of, refusal_to_open};
 
 use disk_core::DiskFault;
-use twin_journal::OpenFault;
 use route_table::FaultKind;
 use std::fmt::{self, Display, Formatter, Write};
+use twin_journal::OpenFault;
 
 /// How the program ended.
 #[derive(Clone, Copy, Debug, PartialEq, Eq)]

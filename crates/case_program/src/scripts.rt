@@ -1,7 +1,5 @@
 //! Questions on what the program does: scripts, listings, journals, and its arguments.
-use amqr_commands::{
-    Status, format_twin, list, list_journal, play_text, run, summarize_journal,
-};
+use amqr_commands::{Status, format_twin, list, list_journal, play_text, run, summarize_journal};
 use case_files::{Case, CaseFault, Scene, bytes_of, digits_of, number_of};
 use disk_core::{CrashTwin, FuseTwin, MemTwin, Side};
 use route_table::Config;
