@@ -34,7 +34,7 @@ graver_tells (Some f) (Some Failed) ls told other_told = told
 graver_tells (Some f) (Some NoConnection) ls told other_told = told
 
 -- the size of what a router keeps is that of its trace
-pub size_told : {D : Type 0} (core : Core D) (t : Trace) (size : Size) → size.rows ≡ length (kept_book core).rows → size.termini ≡ length (kept_book core).termini
+pub size_told : {T : Type 0} (core : Core T) (t : Trace) (size : Size) → size.rows ≡ length (kept_book core).rows → size.termini ≡ length (kept_book core).termini
     → size.batches ≡ count_of (store_of core) → Fits core t → size_line size ≡ book_line (journaled t)
 size_told core t size rows termini batches fits =
     ap (λ (n : ℕ). line.Book n size.termini size.batches) (rows ∙ ap (λ (b : BookView). length b.rows) fits.journal.book)
