@@ -25,7 +25,7 @@ returns-clause-ready g c = on_ok_weaker c.admit.result
     let planned : TablesAt c.turn.new.self t e c.deref-2.result.now = subst (λ (cs : List ℕ). TablesAt c.turn.new.self t e cs) (sym c.deref-2.ensures.value) at in
     let free : refuses (booked t e) e ≡ false = taken_booked t e (not_refused t e taken.taken) in
     let answer : c.in_ok-full.field-0.answer ≡ answer_to_event (booked t e) e =
-    c.in_ok-full.ensures.answer t planned phase ∙ ap (λ (b : Bool). event_answer b (kept_book core) t e) (c.in_ok-full.ensures.full t planned phase) ∙ answer_is core t e f in
+    c.in_ok-full.ensures.answer t planned phase ∙ ap (λ (b : Bool). event_answer b (kept_book core) t e) (c.in_ok-full.ensures.full t planned phase f.journal.suits) ∙ answer_is core t e f in
     record {
       tables = is (did e ∷ booked t e)
           (c.in-Ok.ensures.fits (booked t e) (subst (λ (cs : List ℕ). TablesAt c.turn.new.self (booked t e) e cs) (sym c.deref-3.ensures.value) behind) (sym (c.deref-3.ensures.value ∙ at.are_due)) free);
@@ -48,8 +48,8 @@ returns-clause-acts g c = IfOk-weaker c.admit.result _ _
     let behind = c.in_ok-ready.ensures plain (booked_fits (state_of core) [] (due t e) t f.tables) in
     let there : TablesAt c.turn.new.self plain e c.deref-3.result.now = subst (λ (cs : List ℕ). TablesAt c.turn.new.self plain e cs) (sym c.deref-3.ensures.value) behind in
     let told = is t (c.in-Ok.ensures.fits plain there (sym (c.deref-3.ensures.value ∙ at.are_due)) (not_refused t e taken.taken)) (c.deref-4.ensures.value ∙ at.are_due) (c.in-Ok.ensures.heard t _ at phase)
-    (subst (λ (a : Answer). TakenIn t e a) (sym answer) (taken_in _ (kept_book core) t e)) in
-    prepared core t e _ _ _ _ f (c.in_ok-full.ensures.full t planned phase) answer (c.in_ok-full.ensures.acts t planned phase) told)
+    (subst (λ (a : Answer). TakenIn t e a) (sym answer) (taken_in _ (kept_book core) t e)) f.journal.suits in
+    prepared core t e _ _ _ _ f (c.in_ok-full.ensures.full t planned phase f.journal.suits) answer (c.in_ok-full.ensures.acts t planned phase) told)
     c.admit.ensures.acts
 
 pub returns-clause-full : goal.returns-clause-full
@@ -65,6 +65,6 @@ returns-clause-full g c = IfOk-weaker c.admit.result _ _
     let behind = c.in_ok-ready.ensures plain (booked_fits (state_of core) [] (due t e) t f.tables) in
     let there : TablesAt c.turn.new.self plain e c.deref-3.result.now = subst (λ (cs : List ℕ). TablesAt c.turn.new.self plain e cs) (sym c.deref-3.ensures.value) behind in
     let told = is t (c.in-Ok.ensures.fits plain there (sym (c.deref-3.ensures.value ∙ at.are_due)) (not_refused t e taken.taken)) (c.deref-4.ensures.value ∙ at.are_due) (c.in-Ok.ensures.heard t _ at phase)
-    (subst (λ (a : Answer). TakenIn t e a) (sym answer) (taken_in _ (kept_book core) t e)) in
-    found_full core t e _ _ _ _ f (c.in_ok-full.ensures.full t planned phase) answer (c.in_ok-full.ensures.acts t planned phase) told)
+    (subst (λ (a : Answer). TakenIn t e a) (sym answer) (taken_in _ (kept_book core) t e)) f.journal.suits in
+    found_full core t e _ _ _ _ f (c.in_ok-full.ensures.full t planned phase f.journal.suits) answer (c.in_ok-full.ensures.acts t planned phase) told)
     c.admit.ensures.full
