@@ -1,3 +1,4 @@
 pub mod Streaming
 pub mod Listings
 pub mod Hosts
+pub mod Summed

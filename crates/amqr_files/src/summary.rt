@@ -159,10 +159,19 @@ fn rows_line(book: &Book) -> Result<SummaryLine, AllocError>
 }
 
 /// Pushes the lines of a book's termini.
+#[tactic(auto, using(crate::proofs::Summed::made_in_acts))]
 fn push_termini(lines: &mut Vec<SummaryLine>, book: &Book) -> Result<(), AllocError>
     ensures { OnOk result (lines.new.items ≡ lines.old.items ++ termini_lines book.now) }
 {
-    for act in book.acts()? {
+    let acts = book.acts()?;
+    push_acts(lines, acts)
+}
+
+/// Pushes the lines of the termini that acts make.
+fn push_acts(lines: &mut Vec<SummaryLine>, acts: Vec<Act>) -> Result<(), AllocError>
+    ensures { OnOk result (lines.new.items ≡ lines.old.items ++ flat_map act_lines acts.items) }
+{
+    for act in acts {
         push_act(lines, act)?;
     }
     Ok(())
