@@ -1,11 +1,11 @@
 -- In every trace of the router that was opened on a sound book, a row that is taken up brings the outcome that the book has of it.
-use Rattle.std.proofs.Common.{◌≡◌, ◌∙◌, sym, ap, refl, subst, ℕ, List, [], ◌∷◌, ◌++◌}
+use Rattle.std.proofs.Common.{◌≡◌, ◌∙◌, sym, ap, refl, subst, ℕ, List, [], ◌∷◌}
 use Rattle.std.specs.Prelude.{Option, Some, None}
 use Rattle.amqp_model.specs.declared.item.Item.{Item}
 use Rattle.book_laws.proofs.KeptSound.{empty_sound, acts_keep}
 use Rattle.book_model.specs.declared.row.Row.{Row as ARow}
 use Rattle.book_model.specs.declared.row.RowNumber.{RowNumber}
-use Rattle.book_model.specs.Book.{BookView, row_at}
+use Rattle.book_model.specs.Book.{row_at}
 use Rattle.book_model.specs.Sound.{IsSound}
 use Rattle.book_core.specs.Rising.{Rises}
 use Rattle.gate_journal.specs.Ordered.{number_of_row}
@@ -13,7 +13,7 @@ use Rattle.journal_store.proofs.Sound.{sound_is_ordered}
 use Rattle.router_trace.specs.Configuration.{beginning, opened}
 use Rattle.router_trace.specs.Connection.{conn, due}
 use Rattle.router_trace.specs.Deliveries.{outcome_as}
-use Rattle.router_trace.specs.Trace.{Beginning, Trace, Entry, Did, Out, Took, Bound, Put, Step, did, step_of, goes, puts, each_to}
+use Rattle.router_trace.specs.Trace.{Beginning, Trace, Did, Out, Took, Bound, Put, Step, did, step_of, goes, puts, each_to}
 use Rattle.router_trace.specs.declared.binding.Binding.{Binding}
 use Rattle.router_trace.specs.declared.binding.TakenUp.{TakenUp}
 use Rattle.router_trace.specs.declared.condition.Condition.TheVariants.{ResourceLimitExceeded}
