@@ -1,11 +1,11 @@
 -- In every trace of the router that was opened on a sound book, a row that is taken up brings the outcome that the book has of it.
-use Rattle.std.proofs.Common.{◌≡◌, ◌∙◌, sym, ap, refl, subst, ℕ, List, [], ◌∷◌, ◌++◌}
+use Rattle.std.proofs.Common.{◌≡◌, ◌∙◌, sym, ap, refl, subst, ℕ, List, [], ◌∷◌}
 use Rattle.std.specs.Prelude.{Option, Some, None}
 use Rattle.amqp_model.specs.declared.item.Item.{Item}
 use Rattle.book_laws.proofs.KeptSound.{empty_sound, acts_keep}
 use Rattle.book_model.specs.declared.row.Row.{Row as ARow}
 use Rattle.book_model.specs.declared.row.RowNumber.{RowNumber}
-use Rattle.book_model.specs.Book.{BookView, row_at}
+use Rattle.book_model.specs.Book.{row_at}
 use Rattle.book_model.specs.Sound.{IsSound}
 use Rattle.book_core.specs.Rising.{Rises}
 use Rattle.gate_journal.specs.Ordered.{number_of_row}
@@ -13,7 +13,7 @@ use Rattle.journal_store.proofs.Sound.{sound_is_ordered}
 use Rattle.router_trace.specs.Configuration.{beginning, opened}
 use Rattle.router_trace.specs.Connection.{conn, due}
 use Rattle.router_trace.specs.Deliveries.{outcome_as}
-use Rattle.router_trace.specs.Trace.{Beginning, Trace, Entry, Did, Out, Took, Bound, Put, Step, did, step_of, goes, puts, each_to}
+use Rattle.router_trace.specs.Trace.{Beginning, Trace, Did, Out, Took, Bound, Put, Step, did, step_of, goes, puts, each_to}
 use Rattle.router_trace.specs.declared.binding.Binding.{Binding}
 use Rattle.router_trace.specs.declared.binding.TakenUp.{TakenUp}
 use Rattle.router_trace.specs.declared.condition.Condition.TheVariants.{ResourceLimitExceeded}
@@ -40,10 +40,10 @@ pub record Brings (t : Trace) : Type 0 where
   pub brings : EachBound BringsItsOutcome t
 
 -- a row that is taken up is the one of its number
-row_there : (t : Trace) (b : Binding) → IsSound (book_in t) → (takes : TakesUp t b) → row_at takes.row.number.0 (book_in t).rows ≡ Some takes.row
-row_there t b sound takes =
-    ap (row_at takes.row.number.0) takes.kept
-    ∙ found_in takes.earlier takes.later takes.row (let P : List ARow → Type 0 = λ rs. Rises number_of_row rs in subst P takes.kept (sound_is_ordered (book_in t) sound).rows_rise)
+row_there : (t : Trace) (b : Binding) → IsSound (book_in t) → (again : TakesUp t b) → row_at again.row.number.0 (book_in t).rows ≡ Some again.row
+row_there t b sound again =
+    ap (row_at again.row.number.0) again.kept
+    ∙ found_in again.earlier again.later again.row (let P : List ARow → Type 0 = λ rs. Rises number_of_row rs in subst P again.kept (sound_is_ordered (book_in t) sound).rows_rise)
 
 same_outcome : (t : Trace) (b : Binding) → IsSound (book_in t) → (one other : TakesUp t b) → outcome_as one.brought.how ≡ one.row.outcome
     → outcome_as other.brought.how ≡ other.row.outcome
@@ -54,12 +54,12 @@ same_outcome t b sound one other is =
     let brought : one.brought ≡ other.brought = some_same (sym one.taken ∙ other.taken) in
     ap (λ (x : TakenUp). outcome_as x.how) (sym brought) ∙ is ∙ ap (λ (r : ARow). r.outcome) row
 
-pub taken_brings : (t : Trace) (b : Binding) (takes : TakesUp t b) → outcome_as takes.brought.how ≡ takes.row.outcome → Brings t → Brings (Bound b ∷ t)
-taken_brings t b takes is was = record { book = was.book; brings = (λ other. same_outcome t b was.book takes other is, was.brings) }
+pub taken_brings : (t : Trace) (b : Binding) (again : TakesUp t b) → outcome_as again.brought.how ≡ again.row.outcome → Brings t → Brings (Bound b ∷ t)
+taken_brings t b again is was = record { book = was.book; brings = (λ other. same_outcome t b was.book again other is, was.brings) }
 
 bound_brings : (b : Option Binding) (t : Trace) → ((x : Binding) → b ≡ Some x → x.taken_up ≡ None) → Brings t → Brings (with_bound b t)
 bound_brings None t fresh was = was
-bound_brings (Some b) t fresh was = record { book = was.book; brings = (λ takes. absurd (none_not_some (sym (fresh b refl) ∙ takes.taken)), was.brings) }
+bound_brings (Some b) t fresh was = record { book = was.book; brings = (λ again. absurd (none_not_some (sym (fresh b refl) ∙ again.taken)), was.brings) }
 
 booked_brings : (t : Trace) (e : Event) → Brings t → Brings (booked t e)
 booked_brings t e was = record { book = acts_keep (book_in t) (acts_of t e) (acts_apply t e (sound_is_ordered (book_in t) was.book)) was.book; brings = was.brings }
@@ -88,7 +88,7 @@ handled_brings id t s was =
     let came : Brings u = ends_brings id (due t s.event) (Did s ∷ at) (did_brings s at (booked_brings t s.event was)) in
     let rows : Brings (replied id at s) = goes_brings (own_row id at u s.event) (with_bound b u) (bound_brings b u (λ x is. bound_fresh id t s.event x is) came) in
     all_keep Brings goes_brings (resumed at s.event (replied id at s))
-    (resumed_takes Brings at s.event (replied id at s) (λ v x takes same held. taken_brings v x takes (same (none_decided t s.event was.book)) held) (replied_book id at s) rows)
+    (resumed_takes Brings at s.event (replied id at s) (λ v x again same held. taken_brings v x again (same (none_decided t s.event was.book)) held) (replied_book id at s) rows)
 
 pub moves_brings : (id : List ℕ) (ms : List Move) (t u : Trace) → Brings t → Goes id ms t u → Brings u
 moves_brings id [] t u was went = subst Brings (sym went) was

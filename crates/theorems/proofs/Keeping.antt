@@ -44,7 +44,7 @@ use Rattle.state_sessions.specs.Windows.{windows}
 use Rattle.state_messages.specs.Messages.{grants_due, with_bound}
 use Rattle.reply_rows.specs.declared.answer.Answer.{Answer}
 use Rattle.reply_rows.specs.declared.answer.Answer.TheVariants.{Nothing, Header, Open, Close, CloseWith, Begin, End, Flow, Attach, Refuse, Detach, LinkFlow, Taken, Settle}
-use Rattle.reply_rows.specs.Booking.{wanted_key, wanted_address, wants_durable, new_terminus, has_room, rows_of, attach_is_unserved, unless_unserved, durable_refusal, refuse_on, booked_attach, book_refusal, answer_at}
+use Rattle.reply_rows.specs.Booking.{wanted_key, wanted_address, wants_durable, new_terminus, has_room, attach_is_unserved, unless_unserved, durable_refusal, refuse_on, booked_attach, book_refusal, answer_at}
 use Rattle.reply_rows.specs.Finding.{finds}
 use Rattle.reply_rows.specs.Rows.{said, item_reply}
 use Rattle.router_reply.specs.Acts.{Journaled, live_answer, event_answer, answer_acts, admitted_acts, or_admits, finds_full, journaled, book_in, acts_of, book_after_event, booked, answer_of}

@@ -1,12 +1,11 @@
 -- Laws over every list of runs: what opening a router, its moves and a stop keep.
-use Rattle.std.proofs.Common.{◌≡◌, ◌≤◌, ◌<◌, ◌^◌, sym, subst, refl, ℕ, false, List, [], ◌∷◌, ◌++◌, length, inl, inr, ⊎_elim, arith}
+use Rattle.std.proofs.Common.{◌≡◌, sym, subst, ℕ, List, [], ◌∷◌}
 use Rattle.book_model.specs.Book.{empty_book}
 use Rattle.router_trace.specs.declared.event.Event.{Event}
 use Rattle.router_trace.specs.Trace.{Trace, Beginning, did, step_of}
 use Rattle.router_trace.specs.Configuration.{opened}
 use Rattle.router_reply.specs.Acts.{book_in, booked}
 use Rattle.core_machine.specs.Moves.{Move}
-use Rattle.core_machine.specs.Turns.{declines}
 use Rattle.router_core.proofs.Booking.{booked_keeps}
 use Rattle.theorems.specs.Carried.{HasSmallNumbers}
 use Rattle.theorems.specs.Credit.{WithinCredit}

@@ -152,6 +152,7 @@ stays_with u b key = refl
 
 all_taken : (Q : Type 0) (P : Trace → Type 0) → TakenStep Q P → (book : BookView) (key : LinkKey) (at : Attachment) (rows : List Sending) → AllWait Q book key rows
     → (u : Trace) → book_in u ≡ book → consumer_with u key ≡ Some at → P u → P (bound_to at rows u)
+unfolding takes
 all_taken Q P step book key at [] all u is stands was = was
 all_taken Q P step book key at (x ∷ xs) all u is stands was =
     let b : Binding = taken_up_by u x.row x.how x.format x.payload at in

@@ -160,9 +160,9 @@ pub bound_kept : (b : Binding) (u : Trace) → b.taken_up ≡ None → BindsMess
 bound_kept b u fresh binds fact was = record {
   law = was.law;
   facts = bound_facts b u fact was.facts;
-  standing = bound_standing b u (consumer_sends u binds.producer b.consumer binds.chosen) 
-    (λ p from. from_attached b.origin u binds.conn binds.own binds.handle binds.producer binds.message binds.from binds.attached p
-    (from_origin b.origin p (ap (λ (up : Option TakenUp). either_origin b.origin (brought (λ v. v.told) up)) (sym fresh) ∙ from))) was.standing;
+  standing = bound_standing b u (consumer_sends u binds.producer b.consumer binds.chosen)
+      (λ p from. from_attached b.origin u binds.conn binds.own binds.handle binds.producer binds.message binds.from binds.attached p
+      (from_origin b.origin p (ap (λ (up : Option TakenUp). either_origin b.origin (brought (λ v. v.told) up)) (sym fresh) ∙ from))) was.standing;
   named = bound_named b u was.named;
   ordered = was.ordered;
 }

@@ -1,6 +1,6 @@
 -- The attach of an event decides none of the rows that it takes up: its answer refuses a map that decides one, its acts decide none but what is decided then, and
 -- a terminus that they make has no undecided row.
-use Rattle.std.proofs.Common.{◌≡◌, ◌∙◌, sym, ap, refl, subst, ℕ, ◌<◌, Bool, true, false, not, ◌&&◌, ◌||◌, List, [], ◌∷◌, ◌++◌, ◌⊎◌, inl, inr, arith}
+use Rattle.std.proofs.Common.{◌≡◌, ◌∙◌, sym, refl, subst, ℕ, ◌<◌, Bool, true, false, not, ◌&&◌, ◌||◌, List, [], ◌∷◌, ◌++◌, ◌⊎◌, inl, inr, arith}
 use Rattle.std.specs.Prelude.{◌==◌, Option, Some, None, filter, filter_map, is_some, is_none, if◌then◌else◌}
 use Rattle.std.specs.List.{cons_option, AllByRecursion}
 use Rattle.std.proofs.lemmas.Bool.{eqb-true}
@@ -22,7 +22,6 @@ use Rattle.book_model.specs.declared.act.Decision.{Decision}
 use Rattle.book_model.specs.declared.row.Row.{Row as ARow}
 use Rattle.book_model.specs.declared.row.RowNumber.{RowNumber}
 use Rattle.book_model.specs.declared.terminus.LinkRole.TheVariants.{Consumer}
-use Rattle.book_model.specs.declared.terminus.LinkKey.{LinkKey}
 use Rattle.book_model.specs.declared.terminus.Terminus.{Terminus}
 use Rattle.book_model.specs.declared.terminus.TerminusNumber.{TerminusNumber}
 use Rattle.book_model.specs.Book.{BookView, terminus_at, terminus_of, is_from, is_for, is_for_by, is_of, has_role, may_bind, decided, forgotten, with_row, make_refusal, drop_refusal, effect, effects}
@@ -38,21 +37,18 @@ use Rattle.router_trace.specs.declared.event.Event.{Event}
 use Rattle.router_trace.specs.declared.event.Event.TheVariants as event
 use Rattle.router_trace.specs.Trace.{Trace, Entry}
 use Rattle.router_trace.specs.Connection.{standing, found, due}
-use Rattle.router_trace.specs.Links.{link_place}
-use Rattle.router_trace.specs.Settling.{part_of}
 use Rattle.resume_core.specs.Resuming.{entries_of, decisions, decision_of, consumer_map}
 use Rattle.reply_rows.specs.declared.answer.Answer.{Answer}
 use Rattle.reply_rows.specs.declared.answer.Answer.TheVariants.{Attach, Taken}
 use Rattle.reply_rows.specs.Booking.{wanted_key, wants_durable, has_some, bound_rows, is_unserved, attach_is_unserved}
 use Rattle.state_connections.proofs.Lists.{by_test}
-use Rattle.router_reply.specs.Acts.{event_answer, planned_acts, admitted_acts, or_admits, event_acts, finds_full, journaled, book_in, booked, answer_of, answer_by, answer_to_event}
-use Rattle.router_reply.specs.Admitting.{taken_admission, unless_ends, event_admission, admits, without_acts}
+use Rattle.router_reply.specs.Acts.{event_answer, planned_acts, admitted_acts, or_admits, event_acts, finds_full, journaled, book_in, booked, answer_of, answer_by}
+use Rattle.router_reply.specs.Admitting.{taken_admission, unless_ends, admits, without_acts}
 use Rattle.router_reply.specs.Deciding.{decided as decided_in, forgotten as forgotten_in, terminus_of_event}
-use Rattle.router_reply.specs.Resuming.{receives, attach_in, resumed_key, key_taken, rows_at}
+use Rattle.router_reply.specs.Resuming.{receives, key_taken, rows_at}
 use Rattle.theorems.proofs.Keeping.{Makes, makes}
-use Rattle.theorems.proofs.Made.{is_of_row, AllOfRows, settled_of_rows}
+use Rattle.theorems.proofs.Made.{AllOfRows, settled_of_rows}
 use Rattle.theorems.proofs.Resumed.{none_first, DecidesNone, EventDecidesNone}
-use Rattle.theorems.proofs.Tests.{none_not_some}
 
 clash : true ≡ false → ⊥
 clash e = cc

@@ -35,7 +35,7 @@ use Rattle.router_trace.specs.Trace.{Beginning, Entry, Did, Out, Took, Bound, Bo
 use Rattle.router_trace.specs.Sessions.{maps, theirs}
 use Rattle.router_trace.specs.Links.{Link, Happened, durable_key, flowed_from, flowed_to, started, came_to, sends, receives, is_lost, ends_handle, ends_handle_in, handle_asked, answers_in, answers_by, answered_handle, asked, address_by, attachments, attached, after_our_flow, after_our_transfer, after_their_flow, after_their_transfer, is_handle, link_in, link_after, heard_link, link_by, link_at, names, names_by, their_handle, key_at, link, has_number, is_attached, if_attached, same_key, newest_in, last_of_key, holder}
 use Rattle.router_trace.specs.Following.{is_sending, link_of}
-use Rattle.router_trace.specs.Deliveries.{Delivery, either_origin, bindings, name_in, delivery, source, is_undecided, ended_by, bound}
+use Rattle.router_trace.specs.Deliveries.{Delivery, bindings, name_in, delivery, source, is_undecided, ended_by, bound}
 use Rattle.state_messages.specs.Messages.{standing_at}
 use Rattle.state_deliveries.proofs.Called.{uncalled}
 use Rattle.state_connections.proofs.Lists.{by_test}

@@ -22,7 +22,7 @@ use Rattle.reply_rows.specs.declared.answer.Answer.TheVariants.{Nothing, Attach}
 use Rattle.reply_rows.specs.Rows.{down_reply}
 use Rattle.router_reply.specs.Replies.{ends, row_found, item_put, item_row, own_row, bound_for, item_bound, bound_by, replied_after}
 use Rattle.router_after.specs.After.{widened, followed}
-use Rattle.router_reply.specs.Acts.{journaled, book_in, booked, found_journal, full_at, answer_by, answer_to_event}
+use Rattle.router_reply.specs.Acts.{journaled, booked, found_journal, full_at, answer_by, answer_to_event}
 use Rattle.router_reply.specs.Resuming.{key_taken, key_by, key_in, resumed_key, attach_in, rows_for, rows_taken, with_rows, resumed_by, resumed}
 use Rattle.router_core.specs.Replies.{answered, handled}
 use Rattle.core_machine.specs.Moves.{took_one}

@@ -1,5 +1,5 @@
 -- What takes don't change: a trace without its takes has the same grants, and chooses the same consumers.
-use Rattle.std.proofs.Common.{◌≡◌, ◌∙◌, refl, ℕ, ◌+◌, ◌==◌, not, ◌&&◌, List, [], ◌∷◌, ◌++◌}
+use Rattle.std.proofs.Common.{◌≡◌, ◌∙◌, refl, ℕ, ◌+◌, ◌==◌, ◌&&◌, List, [], ◌∷◌, ◌++◌}
 use Rattle.std.specs.Prelude.{Option, Some, None, if◌then◌else◌, is_none}
 use Rattle.amqp_link.specs.Credit as credit
 use Rattle.route_credit.specs.Granting.{choice, grants_of}

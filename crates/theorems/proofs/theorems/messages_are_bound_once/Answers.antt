@@ -11,6 +11,8 @@ pub returns : goal.returns
 returns c = (
   holds_always (EachBound BindsOrTakesUp) (λ id g u trace. (trace_sound id g u trace).binds) (λ id lives u all. (lives_sound id lives u all).binds),
   holds_always EachDeliveryCame (λ id g u trace. all_came u (trace_sound id g u trace).binds) (λ id lives u all. all_came u (lives_sound id lives u all).binds),
-  holds_from (OnSound (λ g u. EachBound BringsItsOutcome u)) (λ id g u trace sound. (trace_brings id g u trace sound).brings),
-  λ id lives u all. (lives_brings id lives u all).brings,
+  (
+    holds_from (OnSound (λ g u. EachBound BringsItsOutcome u)) (λ id g u trace sound. (trace_brings id g u trace sound).brings),
+    λ id lives u all. (lives_brings id lives u all).brings,
+  ),
 )
