@@ -2,16 +2,11 @@
 -- moment is the book of the runs so far.
 use Rattle.std.proofs.Common.{◌≡◌, ◌∙◌, ◌≤◌, refl, sym, subst, ℕ, List, [], ◌∷◌, ◌++◌, inl, inr, arith}
 use Rattle.book_model.specs.Book.{BookView}
-<<<<<<< HEAD
 use Rattle.disk_core.specs.Disk.{LeavesOnly}
 use Rattle.disk_core.specs.DiskLaws.{widened}
 use Rattle.disk_core.specs.Twin.{Contents}
 use Rattle.journal_store.specs.Store.{OpensTo, Stands, twin_of}
 use Rattle.journal_store.proofs.Moments.{left_opens}
-=======
-use Rattle.journal_codec.specs.Batches.{Holds}
-use Rattle.journal_store.specs.Store.{OpensTo, Stands, disk_of}
->>>>>>> a81b468746566e20cebd5777cb778131bc41a210
 use Rattle.router_trace.specs.declared.event.Event.{Event}
 use Rattle.router_trace.specs.Configuration.{opened}
 use Rattle.router_trace.specs.Trace.{Trace, did}
