@@ -1,5 +1,5 @@
 -- What is known of a core, in the words of the trait that it is used through.
-use Rattle.std.specs.Prelude.{◌≡◌, ℕ, List}
+use Rattle.std.specs.Prelude.{◌≡◌, ℕ}
 use Rattle.disk_core.specs.Twin.{Contents}
 use Rattle.book_model.specs.Book.{BookView}
 use Rattle.twin_journal.specs.Journal.{batch_count}
