@@ -380,6 +380,7 @@ pub fn refuse_journal<O: Write>(output: &mut O, path: &str, fault: Unopened) -> 
 /// # Errors
 ///
 /// `Exists` where one of them isn't empty; `Disk` where they failed; `Memory` where memory was refused.
+#[tactic(auto, using(crate::proofs::Sides::both_empty, crate::proofs::Sides::none_has, crate::proofs::Sides::has_some))]
 fn make_journal<T: Twin>(twin: &mut T) -> Result<(), Refusal>
     ensures made { OnOk result (IsMade (T.seen twin.old) (T.seen twin.new) (T.may_leave twin.new)) }
     ensures refusal { IfErr result (IsNotMade (T.seen twin.old) (T.failures twin.old < T.failures twin.new)) }

@@ -197,6 +197,7 @@ fn push_act(lines: &mut Vec<SummaryLine>, act: Act) -> Result<(), AllocError>
 }
 
 /// How many bytes the limit leaves beside a checkpoint of a book and what is kept free for it. It encodes the book.
+#[tactic(auto, using(crate::proofs::Rooms::room_is))]
 fn room_left(alloc: Global, book: &Book) -> Result<u64, AllocError>
     ensures { IfOk result (λ n. n ≡ room_left book.now) }
 {
