@@ -1,5 +1,5 @@
 -- What the lengths of two files tell: whether one of them has bytes.
-use Rattle.std.proofs.Common.{◌≡◌, ◌<◌, ℕ, refl, arith, List, [], length}
+use Rattle.std.proofs.Common.{◌≡◌, ◌<◌, ℕ, refl, arith, [], length}
 use Rattle.std.proofs.lemmas.List.{nil_from_length}
 use Rattle.disk_core.specs.Twin.{Contents}
 use Rattle.disk_core.specs.declared.side.Side.{Side}

@@ -8,7 +8,6 @@ use Rattle.book_model.specs.declared.act.Act.TheVariants as act
 use Rattle.book_model.specs.declared.row.Row.{Row}
 use Rattle.book_model.specs.declared.terminus.LinkRole.{LinkRole}
 use Rattle.book_model.specs.declared.terminus.LinkRole.TheVariants.{Producer, Consumer}
-use Rattle.book_model.specs.declared.terminus.Terminus.{Terminus as ATerminus}
 use Rattle.disk_core.specs.Twin.{Contents}
 use Rattle.disk_core.specs.declared.side.Side.TheVariants.{First, Second}
 use Rattle.gate_journal.specs.Reserve.{journal_limit, reserve}

@@ -1,0 +1,7 @@
+use Rattle.amqr_files.proofs.twin.JournalTwinTwin.read_at.Goals as goal
+
+pub returns-in-Memory-clause-seen : goal.returns-in-Memory-clause-seen
+returns-in-Memory-clause-seen c = rw (c.in-Memory.is) c.read_at.ensures.seen
+
+pub returns-in-File-clause-seen : goal.returns-in-File-clause-seen
+returns-in-File-clause-seen c = rw (c.in-File.is) c.read_at-in-File.ensures.seen
