@@ -7,7 +7,6 @@ use Rattle.gate_journal.specs.Reserve.{reserve}
 use Rattle.twin_journal.specs.declared.journal.Journal.{Journal}
 use Rattle.twin_journal.specs.Journal.{KeepsBook, SuitsBook, batch_count, base_of as journal_base, is_due_in}
 use Rattle.journal_store.specs.declared.store.Store.{Store}
-
 -- when two files open to a book, what can be written, and what is too much
 pub use Rattle.twin_journal.specs.Holding.{OpensTo}
 pub use Rattle.journal_store.specs.Writable.{Writable}

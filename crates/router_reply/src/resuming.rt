@@ -244,11 +244,7 @@ fn bind_all(state: &mut State, at: Attachment, rows: Vec<Sending>) -> Result<(),
 }
 
 /// The same, if there is such a link.
-fn bind_if(
-    state: &mut State,
-    at: Option<Attachment>,
-    rows: Vec<Sending>,
-) -> Result<(), AllocError>
+fn bind_if(state: &mut State, at: Option<Attachment>, rows: Vec<Sending>) -> Result<(), AllocError>
     ensures { OnOk result ((t : List Entry) → TablesFit state.old t → TablesFit state.new (bound_if at rows.items t)) }
 {
     match at {

@@ -8,7 +8,7 @@ use Rattle.journal_store.proofs.store.Store.start.Goals as goal
 pub returns-clause-never_full : goal.returns-clause-never_full
 returns-clause-never_full g c = λ is suits.
     let full : exceeds (book_of c.args.self.now) _ ≡ true
-        = subst (λ (acts : List Act). exceeds (book_of c.args.self.now) acts ≡ true) c.in-Ok.ensures.acts (c.commit.ensures.full is suits) in
+    = subst (λ (acts : List Act). exceeds (book_of c.args.self.now) acts ≡ true) c.in-Ok.ensures.acts (c.commit.ensures.full is suits) in
     let no = sym full ∙ c.start_acts.ensures.fits in absurd cc
 
 pub returns-clause-any_moment : goal.returns-clause-any_moment
