@@ -8,6 +8,8 @@ PRODUCER, CONSUMER = 0, 1
 MOST_BYTES = 67_108_864
 # what the journal keeps free for an undecided row, for one that its producer hasn't settled, and for a terminus
 DECISION_RESERVE, ROW_RESERVE, TERMINUS_RESERVE = 416, 416 + 14, 14
+# a checkpoint is made once the batches have so many bytes, and as many as the last checkpoint
+DUE = 1_048_576
 # a batch's gate and its length, which a checkpoint doesn't keep; a head, and the gate of the first batch
 BATCH, HEAD = 1 + 4, 29 + 1
 LINK_ROWS = 64
@@ -94,6 +96,18 @@ def filled(room):
     acts += message(rows - 1, left // 2) + message(rows, left - left // 2)
     assert needs(acts, termini, rows) + room == MOST_BYTES and 0 <= left // 2 and left - left // 2 <= most
     return checkpoint(termini + 1, rows + 1, acts)
+
+
+def nearly_due(left):
+    """A batch of messages that are accepted and settled, all but one of 60,000 bytes: so many bytes more, and a checkpoint is due."""
+    def message(row, size):
+        return admitted(row, 1, b"%d" % row, 0, b"." * size) + accepted(row) + forgotten(row)
+
+    acts, row = other_termini(1), 0
+    while (rest := DUE - left - BATCH - len(acts) - len(message(row + 1, 0))) >= 0:
+        row += 1
+        acts += message(row, min(60_000, rest))
+    return acts
 
 
 def made_room(role, container, name, address):

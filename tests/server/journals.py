@@ -1,8 +1,9 @@
 """Reads a journal for tests, and keeps the book of its acts: the bytes of docs/two_files.md and the conditions of docs/book.md, by code that shares nothing
 with the program's."""
+import os
 from collections import defaultdict, namedtuple
 
-from journal_bytes import CONSUMER, LINK_ROWS, MAGIC, PRODUCER, read
+from journal_bytes import CONSUMER, DUE, HEAD, LINK_ROWS, MAGIC, PRODUCER, read, sides
 from proton import Data
 
 KINDS = {1: "Make", 2: "Admit", 3: "Decide", 4: "Forget", 5: "Drop"}
@@ -11,6 +12,8 @@ ACCEPTED, RELEASED = ("accepted",), ("released",)
 FAILED = ("modified", True, False, {})
 # the order of the acts of an event
 ORDER = {"Decide": 0, "Forget": 1, "Drop": 2, "Make": 3, "Admit": 3}
+# a journal that is being written is read again once a file has so many bytes more or less
+MOVED = DUE // 4
 
 
 class Fault(Exception):
@@ -107,12 +110,12 @@ def modification(failed, undeliverable, annotations):
 
 
 class Side:
-    """The head of a side: its epoch, if its gate is open, and what is behind it."""
+    """The head of a side: its epoch, if its gate is open, and what is behind it. `number` is that with which the file's name ends."""
 
-    def __init__(self, data):
+    def __init__(self, number, data):
         if data[:8] != MAGIC or len(data) < 9:
             raise Fault("a side of the journal has no head")
-        self.data, self.epoch = data, 0
+        self.number, self.data, self.epoch = number, data, 0
         if data[8:9] == b"\1":
             found = Bytes(data)
             found.at = 9
@@ -127,17 +130,22 @@ class Journal:
 
     def __init__(self, path):
         self.path, self.active, self.place = path, None, 0
+        # the bytes of both files when they were last read, the most that one had, the bytes of the longest batch, and how many checkpoints were read
+        self.sizes, self.most_bytes, self.longest, self.checkpoints = (0, 0), 0, 0, 0
         self.termini, self.dropped, self.numbers = {}, set(), {}
         self.rows, self.standing = {}, set()
         self.next_terminus, self.next_row = 1, 1
-        self.batches = 0
+        self.batches, self.begins = 0, False
         # the rows that a producer's terminus has, by tag those not forgotten, and those that a consumer's has undecided
         self.sent, self.named, self.bound = defaultdict(set), {}, defaultdict(set)
         self.acts = []
 
     def grow(self, ordered=True):
-        """Reads the files, which go on where they ended before, and gives the new batches as lists of acts, each those of an event."""
-        first, second = (Side(it) for it in read(self.path))
+        """Reads the files, which go on where they ended before, and gives the new batches as lists of acts, each those of an event. There is at most one
+        checkpoint among them: where a program writes, it is asked by `moved` when to read, and stands still meanwhile."""
+        first, second = (Side(number, data) for number, data in enumerate(read(self.path)))
+        self.sizes = len(first.data), len(second.data)
+        self.most_bytes = max(self.most_bytes, *self.sizes)
         if first.epoch == second.epoch:
             raise Fault(f"both sides have the epoch {first.epoch}")
         old, new = sorted((first, second), key=lambda it: it.epoch)
@@ -149,16 +157,27 @@ class Journal:
             self.take_over(new)
             return batches + self.follow(new, ordered)
         elif new.epoch != self.active.epoch:
-            raise Fault(f"the epoch was {self.active.epoch}, and is {new.epoch}, beside {old.epoch}")
+            raise Fault(f"the epoch was {self.active.epoch}, and is {new.epoch}, beside {old.epoch}: the batches between two checkpoints weren't read")
         return self.follow(new, ordered)
 
+    def moved(self):
+        """Whether so much was written since the files were read that a checkpoint may have been made, but not yet a second one."""
+        return any(abs(os.path.getsize(name) - size) >= MOVED for name, size in zip(sides(self.path), self.sizes))
+
     def begin(self, side):
-        """The checkpoint of a journal that wasn't read before."""
+        """The checkpoint of a journal that wasn't read before: numbers rise in it, and termini are asked for at its end."""
         kept = side.kept
         next_terminus, next_row = kept.number(8), kept.number(8)
+        self.begins = True
         while kept.at < len(kept.data):
             self.do(kept.act())
-        if (self.next_terminus, self.next_row) > (next_terminus, next_row):
+        self.begins = False
+        for row in (self.rows[it] for it in self.standing):
+            if not row.forgotten:
+                self.terminus(row.producer, PRODUCER)
+            if row.consumer and not row.outcome:
+                self.terminus(row.consumer, CONSUMER)
+        if self.next_terminus > next_terminus or self.next_row > next_row:
             raise Fault(f"the checkpoint has next numbers {next_terminus} and {next_row}, behind {self.next_terminus} and {self.next_row}")
         self.next_terminus, self.next_row, self.batches = next_terminus, next_row, side.base
         self.look_at(side)
@@ -181,6 +200,7 @@ class Journal:
     def look_at(self, side):
         """From now on this side is active."""
         self.active, self.place, self.acts = side, side.start, []
+        self.checkpoints += side.epoch > 1
         self.kept = len(self.standing), len(self.termini) - len(self.dropped)
 
     def follow(self, side, ordered):
@@ -204,9 +224,15 @@ class Journal:
             batches.append(acts)
             self.batches += 1
             self.place += 5 + size
+            self.longest = max(self.longest, 5 + size)
         if data[self.place:self.place + 1] != b"\0":
             raise Fault(f"the gate at {self.place} isn't closed")
         return batches
+
+    def limit(self):
+        """The most bytes that the active side may have: a checkpoint, what may stand behind it before the next one is due, and one batch."""
+        kept = len(self.active.kept.data)
+        return HEAD + kept + max(DUE, kept) + self.longest
 
     def behind(self):
         """How many bytes follow the gate that ends the active side."""
@@ -219,10 +245,13 @@ class Journal:
     def make(self, number, role, *texts):
         it = Terminus(number, role, *texts)
         key = (role, *texts[:3])
-        if number != self.next_terminus or key in self.numbers:
+        if not self.comes_next(number, self.next_terminus) or key in self.numbers:
             raise Fault(f"{it} is made, where {self.next_terminus} comes next, and its key has {self.numbers.get(key)}")
         self.termini[number], self.numbers[key] = it, number
-        self.next_terminus += 1
+        self.next_terminus = number + 1
+
+    def comes_next(self, number, wanted):
+        return number == wanted or self.begins and number > wanted
 
     def drop(self, number):
         it = self.terminus(number)
@@ -239,10 +268,11 @@ class Journal:
         return self.termini[number]
 
     def admit(self, number, producer, tag, consumer, form, payload):
-        self.terminus(producer, PRODUCER)
-        if consumer:
+        if not self.begins:
+            self.terminus(producer, PRODUCER)
+        if consumer and not self.begins:
             self.terminus(consumer, CONSUMER)
-        if number != self.next_row:
+        if not self.comes_next(number, self.next_row):
             raise Fault(f"row {number} is admitted where {self.next_row} comes next")
         if (producer, tag) in self.named:
             raise Fault(f"row {number} has the tag of row {self.named[producer, tag]}, and its producer")
@@ -250,7 +280,7 @@ class Journal:
         if had[0] >= 4_096 or had[1] >= LINK_ROWS or had[2] >= LINK_ROWS:
             raise Fault(f"row {number} comes behind {had[0]} rows, {had[1]} of its producer, {had[2]} of its consumer")
         self.rows[number] = Row(number, producer, tag, consumer, form, payload)
-        self.next_row += 1
+        self.next_row = number + 1
         self.standing.add(number)
         self.sent[producer].add(number)
         self.named[producer, tag] = number

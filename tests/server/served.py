@@ -1,5 +1,7 @@
 """Starts `amqr serve` for tests: a configuration, a port, and what the program printed."""
+import contextlib
 import os
+import signal
 import socket
 import subprocess
 import tempfile
@@ -35,10 +37,13 @@ class Served:
         with open(self.config, "w", encoding="utf-8") as file:
             file.write("\n".join(it for it in lines if it) + "\n")
         self.told = open(f"{self.folder.name}/told", "w+", encoding="utf-8")
+        started = time.monotonic()
         self.process = subprocess.Popen(
             [*before, program, "serve", "--config", self.config, *words],
             stdout=subprocess.PIPE, stderr=self.told, text=True)
         self.listening = [self.process.stdout.readline().strip() for _ in listeners]
+        # the seconds until it listened
+        self.took = time.monotonic() - started
 
     @property
     def port(self):
@@ -72,6 +77,17 @@ class Served:
 
     def lives(self):
         return self.process.poll() is None
+
+    @contextlib.contextmanager
+    def stopped(self):
+        """All its threads stand still meanwhile, unless it has ended: what it writes can be read as it is at one moment."""
+        self.process.send_signal(signal.SIGSTOP)
+        if self.process.returncode is None:
+            os.waitid(os.P_PID, self.process.pid, os.WSTOPPED | os.WEXITED | os.WNOWAIT)
+        try:
+            yield
+        finally:
+            self.process.send_signal(signal.SIGCONT)
 
     def wait(self, seconds=10):
         try:
