@@ -15,6 +15,8 @@ from served import PROGRAM, Served, expect
 # rows of a producer's link; deliveries of one that are bound to nothing and not settled
 MOST_ROWS, MOST_UNBOUND = 64, 1_024
 MANY = 300
+# messages of 60,000 bytes that pass two checkpoints
+LARGE = 40
 
 
 class End(Peer):
@@ -444,6 +446,22 @@ def long_messages(scene, served):
     it.close()
 
 
+def checkpoints(scene, served):
+    """Large messages, each accepted and settled, pass two checkpoints: the book is the same behind each, and the numbers of rows go on."""
+    it = Pair(scene, served, "d.checkpoints", credit=LARGE)
+    before, row = scene.journal.checkpoints, scene.journal.next_row
+    for number in range(LARGE):
+        sent, delivery = it.sent(number.to_bytes(2, "big") * 30_000)
+        it.c.decide(delivery, Delivery.ACCEPTED)
+        it.told(sent)
+        it.settle(sent)
+        expect((scene.acts(), scene.row().number), ("Decide Forget", row + number))
+    made = scene.journal.checkpoints - before
+    expect(made >= 2, True)
+    it.close()
+    return f"{made} checkpoints"
+
+
 def sixty_four(it, scene, settled):
     """A producer's link has as many rows as it may: decided and not settled, or settled and not decided."""
     sent = []
@@ -632,7 +650,8 @@ ROWS = (
     ("a consumer that isn't durable is lost", ordinary_consumer_lost), ("a message that nobody has credit for", no_credit),
     ("a consumer's link is left", suspended), ("a consumer's link is closed", closed), ("a producer's link is closed", producer_closed),
     ("a producer's link is left", producer_lost), ("a tag that is used twice", same_tag), ("a link's key is used again", taken_again),
-    ("60,000 bytes", long_messages), ("64 rows", most_rows), ("64 rows that are settled first", most_rows_settled),
+    ("60,000 bytes", long_messages), (f"{LARGE} of 60,000 bytes, and two checkpoints", checkpoints),
+    ("64 rows", most_rows), ("64 rows that are settled first", most_rows_settled),
     ("1,024 released ones, and one more", most_unbound),
     (f"{MANY} messages in order", many), ("Proton's handlers", handler),
 )
