@@ -227,7 +227,7 @@ class Client(Peer):
             mine = [it for it in self.live if it.role == role and not it.ended]
             if len(mine) < KEPT and sum(not it.attached for it in mine) < WAITING:
                 self.attach(role)
-        self.write()
+        self.write_on()
         if not self.lost and not self.transport.pending():
             self.flushed = len(self.said)
 

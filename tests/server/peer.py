@@ -107,6 +107,13 @@ class Peer:
             except OSError:
                 break
 
+    def write_on(self):
+        """The same where the program may be gone: then the next step finds that."""
+        try:
+            self.write()
+        except OSError:
+            pass
+
     def lose(self):
         self.lost = True
         self.transport.close_tail()
