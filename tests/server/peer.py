@@ -20,6 +20,8 @@ class Peer:
         self.connection, self.transport, self.collector = Connection(), Transport(), Collector()
         self.connection.container = container
         self.got, self.parts, self.aborted, self.lost = {}, {}, 0, False
+        # what changes what is written, if anything does (maps.py), and what of that is still to be written
+        self.maps, self.unwritten = None, b""
         if user:
             self.connection.user, self.connection.password = user, password
             self.transport.sasl().allowed_mechs("PLAIN")
@@ -72,13 +74,10 @@ class Peer:
 
     def step(self):
         """Writes what can be written, reads what has come, and takes the events."""
-        while not self.lost and (pending := self.transport.pending()) > 0:
-            try:
-                self.transport.pop(self.socket.send(self.transport.peek(pending)))
-            except BlockingIOError:
-                break
-            except OSError:
-                self.lose()
+        try:
+            self.write()
+        except OSError:
+            self.lose()
         while not self.lost and (capacity := self.transport.capacity()) > 0:
             try:
                 data = self.socket.recv(capacity)
@@ -93,19 +92,28 @@ class Peer:
         while event := self.collector.peek():
             self.on(event)
             self.collector.pop()
-        self.write()
+        try:
+            self.write()
+        except OSError:
+            pass
 
     def on(self, event):
         if event.type is Event.DELIVERY:
             self.take(event.delivery)
 
     def write(self):
-        """Writes what the events produced."""
-        while not self.lost and (pending := self.transport.pending()) > 0:
-            try:
-                self.transport.pop(self.socket.send(self.transport.peek(pending)))
-            except OSError:
-                break
+        """Writes what can be written of what the engine has."""
+        try:
+            while not self.lost and (pending := self.transport.pending()) > 0:
+                if not self.maps:
+                    self.transport.pop(self.socket.send(self.transport.peek(pending)))
+                    continue
+                self.unwritten += self.maps.feed(self.transport.peek(pending))
+                self.transport.pop(pending)
+            while not self.lost and self.unwritten:
+                self.unwritten = self.unwritten[self.socket.send(self.unwritten):]
+        except BlockingIOError:
+            pass
 
     def write_on(self):
         """The same where the program may be gone: then the next step finds that."""
