@@ -13,7 +13,7 @@ use crate::link_rows::LINK_TEXT;
 use amqp_model::{Attach, DeliveryTag, Role, Text, Transfer};
 use book_core::Book;
 use book_model::{LinkKey, LinkRole, Terminus};
-use resume_core::{ConsumerPlan, consumer_plan, producer_plan};
+use resume_core::{consumer_plan, producer_plan};
 use router_state::State;
 use router_trace::{Condition, is_durable};
 use state_links::address_by;
@@ -113,9 +113,10 @@ fn unserved_refusal(
             let plan = producer_plan(alloc, rows, unsettled, complete)?;
             Ok(unless_unserved(has_some(&plan.map)))
         }
+        Role::Receiver if complete => Ok(None),
         Role::Receiver => {
             let plan = consumer_plan(alloc, terminus.number, rows, unsettled, complete)?;
-            Ok(unless_unserved(is_unserved(&plan, complete)))
+            Ok(unless_unserved(has_some(&plan.map)))
         }
     }
 }
@@ -125,13 +126,6 @@ fn has_some<T>(list: &[T]) -> bool
     ensures { result ≡ has_some list.now }
 {
     !list.is_empty()
-}
-
-/// Whether a consumer's attach with this plan decides a row, or says nothing of one that is unsettled.
-fn is_unserved(plan: &ConsumerPlan, complete: bool) -> bool
-    ensures { result ≡ (has_some plan.now.decisions.items || (not complete && has_some plan.now.map.items)) }
-{
-    has_some(&plan.decisions) || (!complete && has_some(&plan.map))
 }
 
 /// Why a link whose attach asks for what isn't served yet, if it does, is refused.

@@ -35,7 +35,7 @@ none_taken : (b : BookView) (t after : List Entry) (c : ℕ) (i : Item) (a : Ans
 none_taken b t after c i (Taken own handle) none = absurd (none own handle refl)
 none_taken b t after c i _ none = refl
 
-none_kept : (cs : List ℕ) → unless_ends cs None ≡ None
+pub none_kept : (cs : List ℕ) → unless_ends cs None ≡ None
 none_kept [] = refl
 none_kept (c ∷ cs) = refl
 

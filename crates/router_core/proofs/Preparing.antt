@@ -1,8 +1,11 @@
 -- What is planned and admitted for an event is what its acts are.
-use Rattle.std.proofs.Common.{◌≡◌, ◌∙◌, ap, refl, sym, subst, ℕ, List, [], ◌∷◌, length, Bool, true, arith}
+use Rattle.std.proofs.Common.{◌≡◌, ◌∙◌, ap, refl, sym, subst, ℕ, List, [], ◌∷◌, length, Bool, true, false, arith}
 use Rattle.std.specs.Prelude.{Option, Some, None, ◌==◌}
 use Rattle.std.proofs.lemmas.Bool.Decides.{nat_tests}
 use Rattle.amqp_model.specs.declared.item.Item.{Item}
+use Rattle.amqp_model.specs.declared.item.Item.TheVariants as item
+use Rattle.amqp_model.specs.declared.perf.Attach.{Attach as AnAttach}
+use Rattle.amqp_model.specs.declared.perf.Perf.TheVariants as perf
 use Rattle.amqp_conn.specs.declared.conn.Conn.{Conn}
 use Rattle.book_model.specs.declared.act.Act.{Act}
 use Rattle.book_model.specs.declared.act.Admission.{Admission}
@@ -11,11 +14,13 @@ use Rattle.book_model.specs.declared.row.RowNumber.{RowNumber}
 use Rattle.book_model.specs.Book.{BookView}
 use Rattle.journal_store.specs.declared.acting.TerminusAct.{TerminusAct}
 use Rattle.journal_store.specs.Acting.{event_acts as settled_acts}
+use Rattle.journal_store.specs.Store.{exceeds}
 use Rattle.router_trace.specs.declared.event.ConnectionId.{ConnectionId}
 use Rattle.router_trace.specs.declared.event.Event.{Event}
 use Rattle.router_trace.specs.declared.event.Event.TheVariants as event
 use Rattle.router_trace.specs.Trace.{Entry}
 use Rattle.router_trace.specs.Connection.{due, standing, found}
+use Rattle.router_trace.specs.Deliveries.{giving, giving_of}
 use Rattle.router_trace.specs.Sessions.{theirs, maps}
 use Rattle.state_links.specs.Fits.{channel_of}
 use Rattle.reply_rows.specs.declared.answer.Answer.{Answer}
@@ -28,8 +33,9 @@ use Rattle.router_reply.specs.Admitting.{answer_admission, taken_admission, part
 use Rattle.router_reply.specs.Deciding.{decided, forgotten, terminus_of_event}
 use Rattle.router_reply.specs.Heard.{ItemHeard, IsHeard}
 use Rattle.router_core.specs.declared.router.Core.{Core}
-use Rattle.router_core.specs.Handling.{Fits, TakenHere, TakenIn, with_admission, full_with, kept_book}
+use Rattle.router_core.specs.Handling.{Fits, TakenHere, TakenIn, within, with_admission, full_with, kept_book}
 use Rattle.router_core.proofs.Books.{early_of, acts_are, full_is}
+use Rattle.router_core.proofs.Committing.{none_kept}
 
 -- of an event that is no start, the acts are those of its answer
 planned_is : (full : Bool) (b : BookView) (t : List Entry) (e : Event) → (e ≡ event.Start → ⊥) → answer_acts b t e (event_answer full b t e) ≡ planned_acts full b t e
@@ -40,13 +46,13 @@ planned_is full b t (event.Down c) other = refl
 planned_is full b t (event.Tick ms) other = refl
 
 pub planned_told : (full : Bool) (b given : BookView) (t : List Entry) (e : Event) (acts : List Act) (ds : List Decision) (ns : List RowNumber) (x : Option TerminusAct)
-    → given ≡ b → (e ≡ event.Start → ⊥) → acts ≡ settled_acts b ds ns x → ds ≡ decided t e (event_answer full given t e) → ns ≡ forgotten given t e (event_answer full given t e)
+    → given ≡ b → (e ≡ event.Start → ⊥) → acts ≡ settled_acts b ds ns x → ds ≡ decided given t e (event_answer full given t e) → ns ≡ forgotten given t e (event_answer full given t e)
     → x ≡ terminus_of_event given t e (event_answer full given t e) → acts ≡ planned_acts full b t e
 planned_told full b given t e acts ds ns x same other are ds_are ns_are x_is =
     are ∙ ap (λ (v : List Decision). settled_acts b v ns x) ds_are
-    ∙ ap (λ (v : List RowNumber). settled_acts b (decided t e (event_answer full given t e)) v x) ns_are
-    ∙ ap (λ (v : Option TerminusAct). settled_acts b (decided t e (event_answer full given t e)) (forgotten given t e (event_answer full given t e)) v) x_is
-    ∙ ap (λ (g : BookView). settled_acts b (decided t e (event_answer full g t e)) (forgotten g t e (event_answer full g t e)) (terminus_of_event g t e (event_answer full g t e))) same
+    ∙ ap (λ (v : List RowNumber). settled_acts b (decided given t e (event_answer full given t e)) v x) ns_are
+    ∙ ap (λ (v : Option TerminusAct). settled_acts b (decided given t e (event_answer full given t e)) (forgotten given t e (event_answer full given t e)) v) x_is
+    ∙ ap (λ (g : BookView). settled_acts b (decided g t e (event_answer full g t e)) (forgotten g t e (event_answer full g t e)) (terminus_of_event g t e (event_answer full g t e))) same
     ∙ planned_is full b t e other
 
 pub none_ended : (ends : List ℕ) → (length ends == 0) ≡ true → ends ≡ []
@@ -120,3 +126,49 @@ found_full core t e full a planned found f early answered are told =
     ∙ ap (λ (b : Bool). full_with b (kept_book core) (planned_acts b (kept_book core) t e)
     (admits (kept_book core) (event_admission (kept_book core) t e (event_answer b (kept_book core) t e)))) early
     ∙ full_is core t e f
+
+-- What is planned for an attach is all that it does, since it admits nothing.
+nothing_within : (over : Bool) → within over [] ≡ []
+nothing_within true = refl
+nothing_within false = refl
+
+nothing_with : (full : Bool) (b : BookView) (acts : List Act) → with_admission full b acts [] ≡ acts
+nothing_with true b acts = refl
+nothing_with false b [] = nothing_within (exceeds b [])
+nothing_with false b (act ∷ acts) = refl
+
+attach_admits : (b : BookView) (t after : List Entry) (c : ℕ) (sasl : Bool) (channel : ℕ) (x : AnAttach) (payload : List ℕ) (a : Answer)
+    → taken_admission b t after c (item.Frame sasl channel (perf.Attach x) payload) a ≡ None
+attach_admits b t after c true channel x payload (Taken own handle) = refl
+attach_admits b t after c false channel x payload (Taken own handle) = refl
+attach_admits b t after c true channel x payload _ = refl
+attach_admits b t after c false channel x payload _ = refl
+
+attach_all : (full : Bool) (b : BookView) (t : List Entry) (c : ConnectionId) (sasl : Bool) (channel : ℕ) (x : AnAttach) (payload : List ℕ) (a : Answer) (acts : List Act)
+    → with_admission full b acts (admits b (event_admission b t (event.Item c (item.Frame sasl channel (perf.Attach x) payload)) a)) ≡ acts
+attach_all full b t c sasl channel x payload a acts =
+    ap (λ (o : Option Admission). with_admission full b acts (admits b (unless_ends (due t e) o))) (attach_admits b t (without_acts t e) c.0 sasl channel x payload a)
+    ∙ ap (λ (o : Option Admission). with_admission full b acts (admits b o)) (none_kept (due t e))
+    ∙ nothing_with full b acts
+  where
+    e : Event
+    e = event.Item c (item.Frame sasl channel (perf.Attach x) payload)
+
+-- so with an admission the acts give deliveries the outcomes that the planned ones give
+item_gives : (full : Bool) (b : BookView) (t : List Entry) (c : ConnectionId) (i : Item) (a : Answer) (acts : List Act)
+    → giving i acts ≡ giving i (with_admission full b acts (admits b (event_admission b t (event.Item c i) a)))
+item_gives full b t c (item.Frame sasl channel (perf.Attach x) payload) a acts =
+    ap (giving (item.Frame sasl channel (perf.Attach x) payload)) (sym (attach_all full b t c sasl channel x payload a acts))
+item_gives full b t c (item.Frame sasl channel _ payload) a acts = refl
+item_gives full b t c _ a acts = refl
+
+event_gives : (full : Bool) (b : BookView) (t : List Entry) (e : Event) (a : Answer) (acts : List Act) → giving_of e acts ≡ giving_of e (with_admission full b acts (admits b (event_admission b t e a)))
+event_gives full b t (event.Item c i) a acts = item_gives full b t c i a acts
+event_gives full b t _ a acts = refl
+
+pub gives : {T : Type 0} (core : Core T) (t : List Entry) (e : Event) (full : Bool) (a : Answer) (planned : List Act) → Fits core t → full ≡ early_of core t e
+    → a ≡ event_answer full (kept_book core) t e → planned ≡ planned_acts full (kept_book core) t e → giving_of e planned ≡ giving_of e (acts_of t e)
+gives core t e full a planned f early answered are =
+    event_gives full (kept_book core) t e a planned
+    ∙ ap (giving_of e)
+    (prepared core t e full a planned (with_admission full (kept_book core) planned (admits (kept_book core) (event_admission (kept_book core) t e a))) f early answered are refl)

@@ -1,21 +1,31 @@
 -- The rows that an event's attach takes up are bound one after another: what a binding keeps, all of them keep.
-use Rattle.std.proofs.Common.{◌≡◌, ◌∙◌, ap, refl, subst, List, [], ◌∷◌}
+use Rattle.std.proofs.Common.{◌≡◌, ◌∙◌, ap, refl, sym, subst, ℕ, List, [], ◌∷◌}
 use Rattle.std.specs.Prelude.{Option, Some, None}
+use Rattle.amqp_model.specs.declared.item.Item.{Item}
+use Rattle.amqp_model.specs.declared.item.Item.TheVariants as item
+use Rattle.amqp_model.specs.declared.perf.Attach.{Attach as AnAttach}
+use Rattle.amqp_model.specs.declared.perf.Perf.{Perf}
+use Rattle.amqp_model.specs.declared.perf.Perf.TheVariants as perf
+use Rattle.amqp_model.specs.declared.state.UnsettledDelivery.{UnsettledDelivery}
 use Rattle.book_model.specs.Book.{BookView}
+use Rattle.book_model.specs.declared.act.Act.{Act}
 use Rattle.book_model.specs.declared.terminus.LinkKey.{LinkKey}
 use Rattle.router_trace.specs.declared.binding.Binding.{Binding}
 use Rattle.router_trace.specs.declared.event.Event.{Event}
+use Rattle.router_trace.specs.declared.event.Event.TheVariants as event
 use Rattle.router_trace.specs.declared.handle.Attachment.{Attachment}
-use Rattle.router_trace.specs.Trace.{Entry, Bound}
+use Rattle.router_trace.specs.Trace.{Entry, Bound, Booked}
+use Rattle.router_trace.specs.Connection.{due}
 use Rattle.state_messages.specs.Asking.{consumer_with}
 use Rattle.state_messages.specs.Messages.{taken_up_by}
 use Rattle.router_state.specs.declared.tables.State.{State}
 use Rattle.router_state.specs.Tables.{TablesFit}
 use Rattle.resume_core.specs.declared.consumer.Sending.{Sending}
 use Rattle.reply_rows.specs.declared.answer.Answer.{Answer}
+use Rattle.reply_rows.specs.declared.answer.Answer.TheVariants.{Nothing, Attach}
 use Rattle.router_reply.specs.declared.resuming.Resumption.{Resumption}
-use Rattle.router_reply.specs.Acts.{book_in, answer_to_event}
-use Rattle.router_reply.specs.Resuming.{resumed_key, attach_in, rows_for, rows_taken, key_resumed, rows_resumed, bound_to, bound_if, with_rows, resumed_by, resumed}
+use Rattle.router_reply.specs.Acts.{acts_of, booked, book_found, book_in, answer_to_event}
+use Rattle.router_reply.specs.Resuming.{Resumes, key_taken, key_by, key_in, resumed_key, attach_in, map_for, rows_for, rows_taken, key_resumed, map_resumed, rows_resumed, told_map, bound_to, bound_if, with_rows, resumed_by, resumed}
 
 pub rows_keep : (P : List Entry → Type 0) → ((b : Binding) (t : List Entry) → P t → P (Bound b ∷ t)) → (at : Attachment) (rs : List Sending) (u : List Entry) → P u → P (bound_to at rs u)
 rows_keep P step at [] u was = was
@@ -41,9 +51,49 @@ resumed_same view same t e u = resumed_keeps (λ (v : List Entry). view v ≡ vi
 -- If a key and rows are those of an event, by the answer and the book that the router has, then tables that agree with
 -- these rows bound agree with what the event takes up.
 pub resumes_as : (s : State) (t : List Entry) (e : Event) (a : Answer) (b : BookView) (x : Option Resumption) (u : List Entry)
-    → a ≡ answer_to_event t e → b ≡ book_in t → key_resumed x ≡ resumed_key t e a → rows_resumed x ≡ rows_for b (attach_in e) (resumed_key t e a)
+    → a ≡ answer_to_event t e → b ≡ book_found t → key_resumed x ≡ resumed_key t e a → rows_resumed x ≡ rows_for b (attach_in e) (resumed_key t e a)
     → TablesFit s (with_rows (key_resumed x) (rows_resumed x) u) → TablesFit s (resumed t e u)
 resumes_as s t e a b x u answer book key rows fits =
     subst (λ (w : Answer). TablesFit s (resumed_by t e w u)) answer
     (subst (λ (k : Option LinkKey). TablesFit s (with_rows k (rows_taken t e a) u)) key
     (subst (λ (rs : List Sending). TablesFit s (with_rows (key_resumed x) rs u)) (rows ∙ ap (λ (w : BookView). rows_for w (attach_in e) (resumed_key t e a)) book) fits))
+
+-- The same of what was taken out of it, and told: first the router's map, then the tables.
+pub told_ours : (t : List Entry) (e : Event) (a : Answer) (x y : Option Resumption) (ours : List UnsettledDelivery) → Resumes (book_found t) t e a x → y ≡ x → ours ≡ map_resumed y → ours ≡ told_map t e a
+told_ours t e a x y ours is same map = map ∙ ap map_resumed same ∙ is.map
+
+pub resumes_told : (s : State) (t : List Entry) (e : Event) (a : Answer) (x y z : Option Resumption) (u : List Entry)
+    → a ≡ answer_to_event t e → Resumes (book_found t) t e a x → y ≡ x → key_resumed z ≡ key_resumed y → rows_resumed z ≡ rows_resumed y
+    → TablesFit s (with_rows (key_resumed z) (rows_resumed z) u) → TablesFit s (resumed t e u)
+resumes_told s t e a x y z u answer is same key rows fits =
+    resumes_as s t e a (book_found t) z u answer refl (key ∙ ap key_resumed same ∙ is.key) (rows ∙ ap rows_resumed same ∙ is.rows) fits
+
+-- What an event takes up again is the same after its acts: by the book that it finds.
+taken_booked : (acts : List Act) (full : List ℕ) (t : List Entry) (c : ℕ) (x : AnAttach) (a : Answer) → key_taken (Booked acts full ∷ t) c x a ≡ key_taken t c x a
+taken_booked acts full t c x (Attach own) = refl
+taken_booked acts full t c x _ = refl
+
+by_booked : (acts : List Act) (full : List ℕ) (t : List Entry) (c : ℕ) (body : Perf) (a : Answer) → key_by (Booked acts full ∷ t) c body a ≡ key_by t c body a
+by_booked acts full t c (perf.Attach x) a = taken_booked acts full t c x a
+by_booked acts full t c _ a = refl
+
+in_booked : (acts : List Act) (full : List ℕ) (t : List Entry) (c : ℕ) (i : Item) (a : Answer) → key_in (Booked acts full ∷ t) c i a ≡ key_in t c i a
+in_booked acts full t c (item.Frame sasl channel body payload) a = by_booked acts full t c body a
+in_booked acts full t c _ a = refl
+
+key_booked : (acts : List Act) (full : List ℕ) (t : List Entry) (e : Event) (a : Answer) → resumed_key (Booked acts full ∷ t) e a ≡ resumed_key t e a
+key_booked acts full t (event.Item c i) a = in_booked acts full t c.0 i a
+key_booked acts full t _ a = refl
+
+pub resumes_booked : (b : BookView) (t : List Entry) (e : Event) (a : Answer) (x : Option Resumption) → b ≡ book_in t → Resumes b t e a x → Resumes (book_found (booked t e)) (booked t e) e a x
+resumes_booked b t e a x book r =
+    let same : resumed_key t e a ≡ resumed_key (booked t e) e a = sym (key_booked (acts_of t e) (due t e) t e a) in
+    record {
+      key = r.key ∙ same;
+      map = r.map ∙ ap (λ (w : BookView). map_for w (attach_in e) (resumed_key t e a)) book ∙ ap (map_for (book_in t) (attach_in e)) same;
+      rows = r.rows ∙ ap (λ (w : BookView). rows_for w (attach_in e) (resumed_key t e a)) book ∙ ap (rows_for (book_in t) (attach_in e)) same;
+    }
+
+-- a start takes nothing up
+pub start_resumes : (b : BookView) (t : List Entry) (e : Event) → e ≡ event.Start → Resumes b t e Nothing None
+start_resumes b t e is = subst (λ (f : Event). Resumes b t f Nothing None) (sym is) (record { key = refl; map = refl; rows = refl })

@@ -18,8 +18,9 @@ use Rattle.router_trace.specs.Trace.{Trace, did}
 use Rattle.router_trace.specs.Connection.{due, phase_before}
 use Rattle.router_state.specs.declared.tables.State.{State}
 use Rattle.router_state.specs.Tables.{TablesFit}
-use Rattle.router_reply.specs.Acts.{journaled, book_in, book_after_event, answer_to_event}
+use Rattle.router_reply.specs.Acts.{journaled, book_found, book_in, book_after_event, answer_to_event}
 use Rattle.router_reply.specs.Heard.{IsHeard}
+use Rattle.router_reply.specs.Resuming.{Resumes}
 use Rattle.router_core.specs.declared.router.Ready.{Ready}
 use Rattle.core_machine.specs.Turns.{is_started, declines}
 
@@ -46,6 +47,7 @@ pub record IsReady (s : State) (t : Trace) (e : Event) (r : Ready) : Type 0 wher
   pub ends : r.ends.items ≡ due t e
   pub answer : r.answer ≡ answer_to_event t e
   pub heard : IsHeard t e r.answer r.heard
+  pub resumed : Resumes (book_found t) t e r.answer r.resumption
 
 -- a transfer that is taken is one on the session for which its channel stands
 abbrev pub TakenHere : (ℕ → Bool) → Answer → Type 0

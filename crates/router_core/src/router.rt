@@ -10,10 +10,11 @@ ghost use Rattle.router_trace.specs.Connection.{conn as known, is_ready, is_live
 ghost use Rattle.state_connections.specs.Fits.{IsLeast};
 ghost use Rattle.book_model.specs.Book.{effects};
 ghost use Rattle.twin_journal.specs.Room.{room};
-ghost use Rattle.router_reply.specs.Acts.{planned_acts, event_answer, acts_of, book_in, book_after_event, booked, finds_full, journaled};
+ghost use Rattle.router_reply.specs.Acts.{planned_acts, event_answer, acts_of, book_after_event, booked, finds_full, journaled};
 ghost use Rattle.router_reply.specs.Admitting.{admits, event_admission, without_acts};
 ghost use Rattle.router_reply.specs.Heard.{IsHeard};
 ghost use Rattle.router_reply.specs.Replies.{row_found};
+ghost use Rattle.router_reply.specs.Resuming.{Resumes};
 ghost use Rattle.core_machine.specs.Turns.{declines};
 ghost use Rattle.router_core.specs.Replies.{Replies, answered, handled};
 ghost use Rattle.router_state.specs.Tables.{TablesFit, TablesAt};
@@ -35,23 +36,26 @@ use reply_rows::Answer;
 use route_table::{Config, Table};
 use router_after::after;
 use router_reply::{
-    Heard, Plan, admission_for, hear, make_plan, reply, resumption_of, row_in, take_up, told_map,
+    Heard, Plan, Resumption, admission_for, hear, make_plan, reply, row_in, take_up, told_map,
 };
 use router_state::State;
 use router_trace::{ConnectionId, Event, RouterId};
 use state_connections::{Refused, phase_found};
 use std::alloc::{AllocError, Global};
+use std::mem;
 use twin_journal::{JournalFault, OpenFault};
 
 /// The batch that was written, if one was: its number and its acts.
 type Written = Option<(u64, Vec<Act>)>;
 
-/// What is planned for an event: whether it finds the journal full, the answer to its item, and its acts but for an admission.
+/// What is planned for an event: whether it finds the journal full, the answer to its item, its acts but for an admission, and what it takes
+/// up again.
 #[derive(Drop)]
 struct Planned {
     full: bool,
     answer: Answer,
     acts: Vec<Act>,
+    resumption: Option<Resumption>,
 }
 
 /// What an event does to the book: its acts, and whether it finds the journal full.
@@ -68,6 +72,8 @@ struct Ready {
     ends: Vec<u64>,
     /// The answer to its item.
     answer: Answer,
+    /// What it takes up again.
+    resumption: Option<Resumption>,
     /// What was kept of it when it was handled.
     heard: Heard,
 }
@@ -78,6 +84,7 @@ impl Ready {
         Ready {
             ends: Vec::new(alloc),
             answer: Answer::Nothing,
+            resumption: None,
             heard: Heard::nothing(alloc),
         }
     }
@@ -356,14 +363,21 @@ impl<T: Twin> Core<T> {
     {
         ready.ends = self.state.turn(event)?;
         let phase = phase_found(event, &ready.ends, before);
-        let Planned { full, answer, acts } = self.plan(&ready.ends, phase, event)?;
+        let Planned {
+            full,
+            answer,
+            acts,
+            resumption,
+        } = self.plan(&ready.ends, phase, event)?;
         ready.answer = answer;
+        ready.resumption = resumption;
         let Ok(()) = hear(
             &mut self.state,
             event,
             &ready.ends,
             phase,
             &ready.answer,
+            &acts,
             &mut ready.heard,
         ) else {
             drop(acts);
@@ -379,6 +393,7 @@ impl<T: Twin> Core<T> {
             → IsSuited (store_of self.now) → p.full ≡ exceeds (kept_book self.now) (planned_acts false (kept_book self.now) t event.now)) }
         ensures answer { IfOk result (λ p. (t : List Entry) → TablesAt (state_of self.now) t event.now ends.now → phase ≡ phase_found t event.now → p.answer ≡ event_answer p.full (kept_book self.now) t event.now) }
         ensures acts { IfOk result (λ p. (t : List Entry) → TablesAt (state_of self.now) t event.now ends.now → phase ≡ phase_found t event.now → p.acts.items ≡ planned_acts p.full (kept_book self.now) t event.now) }
+        ensures resumed { IfOk result (λ p. (t : List Entry) → TablesAt (state_of self.now) t event.now ends.now → phase ≡ phase_found t event.now → Resumes (kept_book self.now) t event.now p.answer p.resumption) }
         ensures writable { IfOk result (λ p. Writable (kept_book self.now) p.acts.items) }
     {
         let planned = self.plan_as(false, ends, phase, event)?;
@@ -390,6 +405,7 @@ impl<T: Twin> Core<T> {
     }
 
     /// Plans an event that finds the journal full, or one that finds room.
+    #[tactic(auto, using(crate::proofs::Resuming::start_resumes))]
     fn plan_as(
         &self,
         full: bool,
@@ -400,6 +416,7 @@ impl<T: Twin> Core<T> {
         ensures full { IfOk result (λ p. p.full ≡ full) }
         ensures answer { IfOk result (λ p. (t : List Entry) → TablesAt (state_of self.now) t event.now ends.now → phase ≡ phase_found t event.now → p.answer ≡ event_answer full (kept_book self.now) t event.now) }
         ensures acts { IfOk result (λ p. (t : List Entry) → TablesAt (state_of self.now) t event.now ends.now → phase ≡ phase_found t event.now → p.acts.items ≡ planned_acts full (kept_book self.now) t event.now) }
+        ensures resumed { IfOk result (λ p. (t : List Entry) → TablesAt (state_of self.now) t event.now ends.now → phase ≡ phase_found t event.now → Resumes (kept_book self.now) t event.now p.answer p.resumption) }
         ensures writable { IfOk result (λ p. Writable (kept_book self.now) p.acts.items) }
     {
         if let Event::Start = event {
@@ -407,6 +424,7 @@ impl<T: Twin> Core<T> {
                 full,
                 answer: Answer::Nothing,
                 acts: self.store.start_acts(self.alloc)?,
+                resumption: None,
             });
         }
         let Plan {
@@ -414,11 +432,17 @@ impl<T: Twin> Core<T> {
             decided,
             forgotten,
             terminus,
+            resumption,
         } = make_plan(&self.state, self.store.book(), full, ends, phase, event)?;
         let acts = self
             .store
             .event_acts(self.alloc, decided, forgotten, terminus)?;
-        Ok(Planned { full, answer, acts })
+        Ok(Planned {
+            full,
+            answer,
+            acts,
+            resumption,
+        })
     }
 
     /// The acts of an event that was handled: those that were planned; if there are none, and the event finds room and ends no connection, those that
@@ -435,9 +459,9 @@ impl<T: Twin> Core<T> {
         requires writable { Writable (kept_book self.old) acts.items }
         ensures rest { self.new ≡ record self.old { state = state_of self.new } }
         ensures tables { OnOk result ((t : List Entry) → TablesFit (state_of self.old) t → TablesFit (state_of self.new) t) }
-        ensures acts { IfOk result (λ r. (t : List Entry) → TablesFit (state_of self.old) (without_acts t event.now) → ends.now ≡ due t event.now → IsHeard t event.now answer.now heard.now
+        ensures acts { IfOk result (λ r. (t : List Entry) → (acts.items ≡ [] → TablesFit (state_of self.old) (without_acts t event.now)) → ends.now ≡ due t event.now → IsHeard t event.now answer.now heard.now
             → TakenIn t event.now answer.now → IsSuited (store_of self.old) → r.acts.items ≡ with_admission full (kept_book self.old) acts.items (admits (kept_book self.old) (event_admission (kept_book self.old) t event.now answer.now))) }
-        ensures full { IfOk result (λ r. (t : List Entry) → TablesFit (state_of self.old) (without_acts t event.now) → ends.now ≡ due t event.now → IsHeard t event.now answer.now heard.now
+        ensures full { IfOk result (λ r. (t : List Entry) → (acts.items ≡ [] → TablesFit (state_of self.old) (without_acts t event.now)) → ends.now ≡ due t event.now → IsHeard t event.now answer.now heard.now
             → TakenIn t event.now answer.now → IsSuited (store_of self.old) → r.full ≡ full_with full (kept_book self.old) acts.items (admits (kept_book self.old) (event_admission (kept_book self.old) t event.now answer.now))) }
         ensures writable { IfOk result (λ r. Writable (kept_book self.old) r.acts.items) }
     {
@@ -531,7 +555,7 @@ impl<T: Twin> Core<T> {
         ready: &mut Ready,
         row: Option<RowNumber>,
     ) -> Result<(), AllocError>
-        ensures tables { OnOk result ((t : List Entry) → IsReady (state_of self.old) t event ready.old → row ≡ row_found t → kept_book self.old ≡ book_in t
+        ensures tables { OnOk result ((t : List Entry) → IsReady (state_of self.old) t event ready.old → row ≡ row_found t
             → TablesFit (state_of self.new) (answered (id_of self.old) t (step_of event))) }
         ensures started { OnOk result (self.new.started ≡ true) }
         ensures counted { OnOk result (counts_of self.new ≡ with_event event (counts_of self.old)) }
@@ -544,14 +568,7 @@ impl<T: Twin> Core<T> {
             drop(event);
             return Err(AllocError);
         };
-        reply_to(
-            &mut self.state,
-            self.store.book(),
-            &self.id,
-            event,
-            ready,
-            row,
-        )?;
+        reply_to(&mut self.state, &self.id, event, ready, row)?;
         self.counts = counts;
         self.started = true;
         Ok(())
@@ -686,22 +703,18 @@ impl<T: CrashTwin> Core<T> {
     }
 }
 
-/// The reply to an event that was handled, by the book after its acts; then the rows that its attach takes up are
-/// bound, and last comes what follows.
+/// The reply to an event that was handled; then the rows that its attach takes up are bound, and last comes what
+/// follows.
 fn reply_to(
     state: &mut State,
-    book: &Book,
     id: &RouterId,
     event: Event,
     ready: &mut Ready,
     row: Option<RowNumber>,
 ) -> Result<(), AllocError>
-    ensures { OnOk result ((t : List Entry) → IsReady state.old t event ready.old → row ≡ row_found t → book.now ≡ book_in t → TablesFit state.new (answered id.now t (step_of event))) }
+    ensures { OnOk result ((t : List Entry) → IsReady state.old t event ready.old → row ≡ row_found t → TablesFit state.new (answered id.now t (step_of event))) }
 {
-    let Ok(mut resumption) = resumption_of(state, book, &event, &ready.answer) else {
-        drop(event);
-        return Err(AllocError);
-    };
+    let mut resumption = mem::replace(&mut ready.resumption, None);
     let ours = told_map(state.alloc(), &mut resumption);
     let Ok(()) = reply(
         state,

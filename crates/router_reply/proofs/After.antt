@@ -18,7 +18,7 @@ use Rattle.state_messages.specs.Messages.{with_bound}
 use Rattle.reply_rows.specs.declared.answer.Answer.{Answer}
 use Rattle.reply_rows.specs.declared.answer.Answer.TheVariants.{Attach, Refuse, Taken, Settle}
 use Rattle.reply_rows.specs.Rows.{said}
-use Rattle.router_reply.specs.Acts.{answer_of, book_in}
+use Rattle.router_reply.specs.Acts.{answer_of, book_found}
 use Rattle.router_reply.specs.Resuming.{key_in, attach_within, map_for}
 use Rattle.reply_transfers.specs.Transfers.{part_put, part_bound, disposition_in, given_after}
 use Rattle.router_reply.specs.Replies.{item_row, item_bound, item_put, links_put, put_for_transfer, put_for_disposition, bound_for, settled_put, put_for_attach, put_if_attach, attach_put, row_found, after_answer}
@@ -61,7 +61,7 @@ unsettled t c x _ none = refl
 
 -- the router's map in the answer to an attach
 abbrev pub map_in : List Entry → ℕ → Item → Answer → List UnsettledDelivery
-map_in t c i a = map_for (book_in t) (attach_within i) (key_in t c i a)
+map_in t c i a = map_for (book_found t) (attach_within i) (key_in t c i a)
 
 attach_by : (t u : List Entry) (c : ℕ) (i : Item) (a : Answer) → NotTaken a → NotSettled a → links_put t u c i a ≡ attach_put u c (map_in t c i a) i a
 attach_by t u c (item.Frame sasl channel (perf.Attach x) payload) a taken settled = refl

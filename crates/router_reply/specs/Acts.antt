@@ -28,7 +28,7 @@ event_answer full b t _ = Nothing
 
 -- What an event decides, forgets, makes or drops, by the answer to its item; a start decides the rows that have lost their consumers.
 abbrev pub answer_acts : BookView → Trace → Event → Answer → List Act
-answer_acts b t e answer = settled_acts b (decided t e answer) (forgotten b t e answer) (terminus_of_event b t e answer)
+answer_acts b t e answer = settled_acts b (decided b t e answer) (forgotten b t e answer) (terminus_of_event b t e answer)
 
 abbrev pub planned_acts : Bool → BookView → Trace → Event → List Act
 planned_acts full b t event.Start = start_acts b
@@ -94,6 +94,10 @@ found_acts t = []
 
 abbrev pub found_journal : Trace → Journaled
 found_journal t = journaled (before_acts t)
+
+-- the book that an event finds, before its acts
+abbrev pub book_found : Trace → BookView
+book_found t = (found_journal t).book
 
 -- whether an event finds the journal full
 abbrev pub full_at : Trace → Event → Bool

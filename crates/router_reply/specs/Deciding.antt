@@ -36,6 +36,7 @@ use Rattle.state_deliveries.specs.Hearing.{heard_change}
 use Rattle.reply_rows.specs.Booking.{wanted_key, wanted_address, wants_durable, new_terminus}
 use Rattle.reply_rows.specs.declared.answer.Answer.{Answer}
 use Rattle.reply_rows.specs.declared.answer.Answer.TheVariants.{Close, CloseWith, End, Attach, Detach}
+use Rattle.router_reply.specs.Asking.{map_decides}
 
 -- The changes of the deliveries that an event brings: those by its item, by the ends for full outboxes, and by the links that the answer ends.
 abbrev pub lost : ℕ → Change
@@ -75,12 +76,12 @@ event_changes t (event.Item c i) answer =
 event_changes t (event.Down c) answer = lost c.0 ∷ map lost (due t (event.Down c))
 event_changes t e answer = map lost (due t e)
 
--- the rows that it decides, each with its outcome as the router keeps it
+-- The rows that it decides, each with its outcome as the router keeps it: by those changes, and by the map of an attach.
 abbrev pub as_kept : Decision → Decision
 as_kept d = record d { outcome = kept_outcome d.outcome }
 
-abbrev pub decided : Trace → Event → Answer → List Decision
-decided t e answer = map as_kept (decided_rows t (event_changes t e answer))
+abbrev pub decided : BookView → Trace → Event → Answer → List Decision
+decided b t e answer = map as_kept (decided_rows t (event_changes t e answer)) ++ map_decides b t e answer
 
 -- The rows that it forgets: those that their producer settles by a disposition; those of a producer that closes its link for good; and those of one that
 -- takes its link up again, which has settled them all, since nothing is unsettled on the link then.

@@ -1,5 +1,6 @@
 pub mod Acts
 pub mod Admitting
+pub mod Asking
 pub mod Deciding
 pub mod Heard
 pub mod Replies

@@ -31,9 +31,10 @@ use Rattle.reply_rows.specs.declared.answer.Answer.{Answer}
 use Rattle.reply_rows.specs.declared.answer.Answer.TheVariants.{Attach, Refuse, Taken, Settle}
 use Rattle.reply_rows.specs.Rows.{said, down_reply}
 use Rattle.reply_transfers.specs.Transfers.{settled_answers, part_put, part_bound}
-use Rattle.router_reply.specs.Acts.{answer_of, book_in, found_acts}
+use Rattle.router_reply.specs.Acts.{answer_of, book_found, found_acts}
 use Rattle.router_reply.specs.Admitting.{row_in}
-use Rattle.router_reply.specs.Resuming.{key_taken, map_for}
+use Rattle.router_reply.specs.Asking.{key_taken}
+use Rattle.router_reply.specs.Resuming.{map_for}
 
 -- a connection is closed with an error: its open comes before the close if it isn't written yet
 abbrev pub closing_of : List ℕ → Option Connection → Condition → List Item
@@ -119,7 +120,7 @@ attach_put t c ours _ answer = []
 
 -- the router's map in the answer to an attach
 abbrev pub map_told : Trace → ℕ → AnAttach → Answer → List UnsettledDelivery
-map_told t c a answer = map_for (book_in t) (Some a) (key_taken t c a answer)
+map_told t c a answer = map_for (book_found t) (Some a) (key_taken t c a answer)
 
 abbrev pub put_for : Trace → Trace → ℕ → Perf → Item → Answer → List Put
 put_for t after c (perf.Attach a) i answer = put_for_attach after c (map_told t c a answer) a answer

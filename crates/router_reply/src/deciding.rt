@@ -7,8 +7,9 @@ ghost use Rattle.router_trace.specs.Deliveries.{none_if_ended};
 ghost use Rattle.router_state.specs.Tables.{TablesFind};
 ghost use Rattle.router_trace.specs.Sessions.{session_on};
 ghost use Rattle.state_links.specs.Fits.{channel_of};
+ghost use Rattle.state_deliveries.specs.Deciding.{decided_rows};
 ghost use Rattle.state_deliveries.specs.Hearing.{heard_change};
-ghost use Rattle.router_reply.specs.Deciding.{lost, listed, stolen_from, stolen_in, stolen_for, ended_by, event_changes, as_kept, decided, settled_on, sent_by, sent_from, closed_terminus, resumed_terminus, forgotten_by, forgotten_in, forgotten};
+ghost use Rattle.router_reply.specs.Deciding.{lost, listed, stolen_from, stolen_in, stolen_for, ended_by, event_changes, as_kept, settled_on, sent_by, sent_from, closed_terminus, resumed_terminus, forgotten_by, forgotten_in, forgotten};
 
 use amqp_model::{Attach, Disposition, Item, Perf, Role};
 use book_core::Book;
@@ -198,7 +199,8 @@ fn as_kept(alloc: Global, decision: &Decision) -> Result<Decision, AllocError>
     })
 }
 
-/// The rows that an event decides, each with its outcome as the router keeps it.
+/// The rows that an event decides, each with its outcome as the router keeps it; `by_map` are those that the map of its attach
+/// decides.
 ///
 /// # Errors
 ///
@@ -208,8 +210,36 @@ pub fn decided(
     ends: &[u64],
     event: &Event,
     answer: &Answer,
+    by_map: Vec<Decision>,
 ) -> Result<Vec<Decision>, AllocError>
-    ensures { IfOk result (λ rows. (t : List Entry) → TablesFind state.now t → ends.now ≡ due t event.now → rows.items ≡ decided t event.now answer.now) }
+    ensures { IfOk result (λ rows. (t : List Entry) → TablesFind state.now t → ends.now ≡ due t event.now
+        → rows.items ≡ map as_kept (decided_rows t (event_changes t event.now answer.now)) ++ by_map.items) }
+{
+    let Ok(mut rows) = changed_rows(state, ends, event, answer) else {
+        drop(by_map);
+        return Err(AllocError);
+    };
+    add_all(&mut rows, by_map)?;
+    Ok(rows)
+}
+
+/// Adds decisions to a list.
+fn add_all(list: &mut Vec<Decision>, more: Vec<Decision>) -> Result<(), AllocError>
+    ensures { OnOk result (list.new.items ≡ list.old.items ++ more.items) }
+{
+    let mut more = more;
+    list.append(&mut more)
+}
+
+/// The rows that the changes of deliveries decide which an event brings, each with its outcome as the router keeps it.
+fn changed_rows(
+    state: &State,
+    ends: &[u64],
+    event: &Event,
+    answer: &Answer,
+) -> Result<Vec<Decision>, AllocError>
+    ensures { IfOk result (λ rows. (t : List Entry) → TablesFind state.now t → ends.now ≡ due t event.now
+        → rows.items ≡ map as_kept (decided_rows t (event_changes t event.now answer.now))) }
 {
     let changes = event_changes(state, ends, event, answer)?;
     let rows = state.decided_rows(&changes)?;

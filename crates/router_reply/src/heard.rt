@@ -2,7 +2,7 @@
 ghost use Rattle.std.specs.Prelude.{◌≡◌, ◌∷◌, ℕ, List, IfOk, OnOk, true, false};
 ghost use Rattle.router_trace.specs.Trace.{Entry, did, puts_of};
 ghost use Rattle.router_trace.specs.Connection.{phase_found};
-ghost use Rattle.router_trace.specs.Deliveries.{ended_first};
+ghost use Rattle.router_trace.specs.Deliveries.{acts_found, ended_first, giving, giving_of};
 ghost use Rattle.router_trace.specs.Refusing.{refuses};
 ghost use Rattle.router_trace.specs.declared.event.Event.TheVariants as event;
 ghost use Rattle.router_state.specs.Tables.{TablesFit, TablesAt, TablesFind, beats};
@@ -11,6 +11,7 @@ ghost use Rattle.router_reply.specs.Heard.{ids_found, ItemHeard, IsHeard};
 use amqp_conn::Conn;
 use amqp_link::Part;
 use amqp_model::Item;
+use book_model::Act;
 use reply_rows::Answer;
 use reply_transfers::{disposition_in, last_of};
 use router_state::State;
@@ -63,14 +64,16 @@ fn hear_item(
     ends: &[u64],
     phase: Option<Conn>,
     answer: &Answer,
+    acts: &[Act],
     heard: &mut Heard,
 ) -> Result<(), AllocError>
     ensures heard { OnOk result ((t : List Entry) (ends : List ℕ) → TablesAt state.old t (event.Item conn item.now) ends → phase ≡ phase_found t (event.Item conn item.now) → ItemHeard t conn item.now answer.now heard.new) }
-    ensures fits { OnOk result ((t : List Entry) → TablesAt state.old t (event.Item conn item.now) ends.now → ended_first t ≡ ends.now → TablesFit state.new (did (event.Item conn item.now) ∷ t)) }
+    ensures fits { OnOk result ((t : List Entry) → TablesAt state.old t (event.Item conn item.now) ends.now → ended_first t ≡ ends.now
+        → giving item.now acts.now ≡ giving item.now (acts_found t) → TablesFit state.new (did (event.Item conn item.now) ∷ t)) }
 {
     heard.phase = phase;
     heard.ids = ids_in(state, conn.0, item, answer)?;
-    heard.part = state.hear(conn, item, ends)?;
+    heard.part = state.hear(conn, item, ends, acts)?;
     Ok(())
 }
 
@@ -85,7 +88,7 @@ fn hear_tick(state: &mut State, moment: u64, heard: &mut Heard) -> Result<(), Al
 }
 
 /// Handles an event that is not refused, and puts nothing, after the turn that ended these connections because their outboxes were full
-/// (`State::turn`); `phase` is the phase of the item's connection as the event finds it. Fills in what the answer to it needs; the fields of `heard` that such an
+/// (`State::turn`); `phase` is the phase of the item's connection as the event finds it, and `acts` are those that were planned. Fills in what the answer to it needs; the fields of `heard` that such an
 /// event doesn't fill stay as they were.
 ///
 /// # Errors
@@ -97,14 +100,16 @@ pub fn hear(
     ends: &[u64],
     phase: Option<Conn>,
     answer: &Answer,
+    acts: &[Act],
     heard: &mut Heard,
 ) -> Result<(), AllocError>
     ensures heard { OnOk result ((t : List Entry) (ends : List ℕ) → TablesAt state.old t event.now ends → phase ≡ phase_found t event.now → IsHeard t event.now answer.now heard.new) }
-    ensures fits { OnOk result ((t : List Entry) → TablesAt state.old t event.now ends.now → ended_first t ≡ ends.now → refuses t event.now ≡ false → TablesFit state.new (did event.now ∷ t)) }
+    ensures fits { OnOk result ((t : List Entry) → TablesAt state.old t event.now ends.now → ended_first t ≡ ends.now → refuses t event.now ≡ false
+        → giving_of event.now acts.now ≡ giving_of event.now (acts_found t) → TablesFit state.new (did event.now ∷ t)) }
 {
     match event {
         Event::Up(conn, peer) => state.up(*conn, peer),
-        Event::Item(conn, item) => hear_item(state, *conn, item, ends, phase, answer, heard),
+        Event::Item(conn, item) => hear_item(state, *conn, item, ends, phase, answer, acts, heard),
         Event::Down(conn) => state.down(*conn),
         Event::Tick(moment) => hear_tick(state, *moment, heard),
         Event::Start => {

@@ -14,4 +14,4 @@ pub use admitting::{admission_for, row_in};
 pub use events::reply;
 pub use heard::{Heard, hear};
 pub use planning::{Plan, make_plan};
-pub use resuming::{Resumption, resumption_of, take_up, told_map};
+pub use resuming::{Resumption, take_up, told_map};

@@ -7,9 +7,11 @@ ghost use Rattle.router_trace.specs.Links.{free_handle};
 ghost use Rattle.router_state.specs.Tables.{TablesFind, TablesAt};
 ghost use Rattle.reply_rows.specs.Booking.{wanted_key, wanted_address, new_terminus, has_room, durable_refusal, attach_unless, booked_perf, book_refusal, answer_at};
 ghost use Rattle.router_reply.specs.Acts.{event_answer};
+ghost use Rattle.router_reply.specs.Resuming.{Resumes};
 ghost use Rattle.router_reply.specs.Deciding.{decided, forgotten, made_for, made_by, terminus_by, terminus_of_event};
 
 use crate::deciding::{closed_terminus, decided, forgotten};
+use crate::resuming::{Resumption, planned_decisions, resumption_of};
 use amqp_conn::Conn;
 use amqp_model::{Attach, Item, Perf, Text};
 use book_core::Book;
@@ -34,6 +36,8 @@ pub struct Plan {
     pub forgotten: Vec<RowNumber>,
     /// The terminus that it makes or drops.
     pub terminus: Option<TerminusAct>,
+    /// What it takes up again; what the map of its attach decides is among the rows that it decides.
+    pub resumption: Option<Resumption>,
 }
 
 /// A copy of a text; the empty one if there is none.
@@ -242,11 +246,14 @@ fn planned(
     answer: Answer,
 ) -> Result<Plan, AllocError>
     ensures answer { IfOk result (λ plan. plan.answer ≡ answer) }
-    ensures decided { IfOk result (λ plan. (t : List Entry) → TablesAt state.now t event.now ends.now → plan.decided.items ≡ decided t event.now answer) }
+    ensures decided { IfOk result (λ plan. (t : List Entry) → TablesAt state.now t event.now ends.now → plan.decided.items ≡ decided book.now t event.now answer) }
     ensures forgotten { IfOk result (λ plan. (t : List Entry) → TablesAt state.now t event.now ends.now → plan.forgotten.items ≡ forgotten book.now t event.now answer) }
     ensures terminus { IfOk result (λ plan. (t : List Entry) → TablesAt state.now t event.now ends.now → plan.terminus ≡ terminus_of_event book.now t event.now answer) }
+    ensures resumed { IfOk result (λ plan. (t : List Entry) → TablesAt state.now t event.now ends.now → Resumes book.now t event.now answer plan.resumption) }
 {
-    let decided = decided(state, ends, event, &answer)?;
+    let mut resumption = resumption_of(state, book, event, &answer)?;
+    let by_map = planned_decisions(state.alloc(), &mut resumption);
+    let decided = decided(state, ends, event, &answer, by_map)?;
     let forgotten = forgotten(state, book, ends, event, &answer)?;
     let terminus = terminus_of_event(state, book, event, &answer)?;
     Ok(Plan {
@@ -254,11 +261,12 @@ fn planned(
         decided,
         forgotten,
         terminus,
+        resumption,
     })
 }
 
 /// Plans an event that isn't refused, after the turn that ended these connections because their outboxes were full (`State::turn`): what its item is
-/// answered with, by the tables as the event finds them and by the book, and what the event decides, forgets, makes or drops. `full` says that
+/// answered with, by the tables as the event finds them and by the book, what the event decides, forgets, makes or drops, and what it takes up again. `full` says that
 /// the journal has no room for the acts that the event would have else; `phase` is the phase of the item's connection as the event finds it
 /// (`state_connections::phase_found`).
 ///
@@ -274,9 +282,10 @@ pub fn make_plan(
     event: &Event,
 ) -> Result<Plan, AllocError>
     ensures answer { IfOk result (λ plan. (t : List Entry) → TablesAt state.now t event.now ends.now → phase ≡ phase_found t event.now → plan.answer ≡ event_answer full book.now t event.now) }
-    ensures decided { IfOk result (λ plan. (t : List Entry) → TablesAt state.now t event.now ends.now → phase ≡ phase_found t event.now → plan.decided.items ≡ decided t event.now (event_answer full book.now t event.now)) }
+    ensures decided { IfOk result (λ plan. (t : List Entry) → TablesAt state.now t event.now ends.now → phase ≡ phase_found t event.now → plan.decided.items ≡ decided book.now t event.now (event_answer full book.now t event.now)) }
     ensures forgotten { IfOk result (λ plan. (t : List Entry) → TablesAt state.now t event.now ends.now → phase ≡ phase_found t event.now → plan.forgotten.items ≡ forgotten book.now t event.now (event_answer full book.now t event.now)) }
     ensures terminus { IfOk result (λ plan. (t : List Entry) → TablesAt state.now t event.now ends.now → phase ≡ phase_found t event.now → plan.terminus ≡ terminus_of_event book.now t event.now (event_answer full book.now t event.now)) }
+    ensures resumed { IfOk result (λ plan. (t : List Entry) → TablesAt state.now t event.now ends.now → phase ≡ phase_found t event.now → Resumes book.now t event.now (event_answer full book.now t event.now) plan.resumption) }
 {
     let answer = event_answer(state, book, full, phase, event)?;
     planned(state, book, ends, event, answer)

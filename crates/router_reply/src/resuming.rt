@@ -2,14 +2,14 @@
 //! attach says (AMQP 1.0 part 2, section 2.6.13).
 ghost use Rattle.std.specs.Prelude.{◌≡◌, ◌∷◌, List, IfOk, OnOk};
 ghost use Rattle.std.specs.Option.{option_copied};
-ghost use Rattle.router_trace.specs.Trace.{Bound, Entry, did};
+ghost use Rattle.router_trace.specs.Trace.{Bound, Entry};
 ghost use Rattle.router_state.specs.Tables.{TablesFind, TablesFit};
 ghost use Rattle.state_messages.specs.Messages.{taken_up_by};
-ghost use Rattle.router_reply.specs.Resuming.{receives, consumer_key, key_taken, key_by, key_in, resumed_key, attach_within, attach_in, rows_with, sent_by, map_by, rows_for, map_for, bound_to, bound_if, with_rows, key_resumed, map_resumed, rows_resumed};
+ghost use Rattle.router_reply.specs.Resuming.{receives, consumer_key, key_taken, key_by, key_in, resumed_key, attach_within, attach_in, rows_with, decided_by, decided_for, map_decides, sent_by, map_by, rows_for, map_for, bound_to, bound_if, with_rows, key_resumed, decisions_resumed, map_resumed, rows_resumed};
 
 use amqp_model::{Attach, Item, Perf, Role, UnsettledDelivery};
 use book_core::Book;
-use book_model::LinkKey;
+use book_model::{Decision, LinkKey};
 use reply_rows::{Answer, wanted_key, wants_durable};
 use resume_core::{ConsumerPlan, Sending, consumer_plan};
 use router_state::State;
@@ -22,6 +22,8 @@ use std::mem;
 pub struct Resumption {
     /// The link's key.
     pub key: LinkKey,
+    /// What the map of the attach decides of the rows of its terminus, by number, until it is planned.
+    pub decisions: Vec<Decision>,
     /// The router's map in the answer to the attach, until it is told (AMQP 1.0 part 2, section 2.7.3).
     pub map: Vec<UnsettledDelivery>,
     /// What is sent of the rows of its terminus, by number.
@@ -134,6 +136,7 @@ fn plan_for(
     attach: Option<&Attach>,
     key: &LinkKey,
 ) -> Result<ConsumerPlan, AllocError>
+    ensures decided { IfOk result (λ plan. plan.decisions.items ≡ decided_by (option_copied attach.entry) (rows_with book.now key.now)) }
     ensures mapped { IfOk result (λ plan. plan.map.items ≡ map_by (option_copied attach.entry) (rows_with book.now key.now)) }
     ensures sent { IfOk result (λ plan. plan.sendings.items ≡ sent_by (option_copied attach.entry) (rows_with book.now key.now)) }
 {
@@ -160,6 +163,7 @@ fn resumption_with(
     key: Option<LinkKey>,
 ) -> Result<Option<Resumption>, AllocError>
     ensures key { IfOk result (λ resumption. key_resumed resumption ≡ key) }
+    ensures decisions { IfOk result (λ resumption. decisions_resumed resumption ≡ decided_for book.now (option_copied attach.entry) key) }
     ensures map { IfOk result (λ resumption. map_resumed resumption ≡ map_for book.now (option_copied attach.entry) key) }
     ensures rows { IfOk result (λ resumption. rows_resumed resumption ≡ rows_for book.now (option_copied attach.entry) key) }
 {
@@ -173,9 +177,9 @@ fn resumption_with(
                 map,
                 sendings,
             } = plan;
-            drop(decisions);
             Ok(Some(Resumption {
                 key,
+                decisions,
                 map,
                 rows: sendings,
             }))
@@ -187,24 +191,38 @@ fn resumption_with(
     }
 }
 
-/// What an event that was handled (`hear`) takes up again: if its item is the attach of a consumer's durable link, which
-/// this answer takes, the rows of the link's terminus that its map leaves to send, by the book after the event's acts.
+/// What an event takes up again, before any of it is done: if its item is the attach of a consumer's durable link, which this
+/// answer takes, what the map of the attach decides of the rows of the link's terminus, and what it leaves to send of them.
 ///
 /// # Errors
 ///
 /// `AllocError` if memory was refused.
-pub fn resumption_of(
+pub(crate) fn resumption_of(
     state: &State,
     book: &Book,
     event: &Event,
     answer: &Answer,
 ) -> Result<Option<Resumption>, AllocError>
-    ensures key { IfOk result (λ resumption. (t : List Entry) → TablesFit state.now (did event.now ∷ t) → key_resumed resumption ≡ resumed_key t event.now answer.now) }
-    ensures map { IfOk result (λ resumption. (t : List Entry) → TablesFit state.now (did event.now ∷ t) → map_resumed resumption ≡ map_for book.now (attach_in event.now) (resumed_key t event.now answer.now)) }
-    ensures rows { IfOk result (λ resumption. (t : List Entry) → TablesFit state.now (did event.now ∷ t) → rows_resumed resumption ≡ rows_for book.now (attach_in event.now) (resumed_key t event.now answer.now)) }
+    ensures key { IfOk result (λ resumption. (t : List Entry) → TablesFind state.now t → key_resumed resumption ≡ resumed_key t event.now answer.now) }
+    ensures decisions { IfOk result (λ resumption. (t : List Entry) → TablesFind state.now t → decisions_resumed resumption ≡ map_decides book.now t event.now answer.now) }
+    ensures map { IfOk result (λ resumption. (t : List Entry) → TablesFind state.now t → map_resumed resumption ≡ map_for book.now (attach_in event.now) (resumed_key t event.now answer.now)) }
+    ensures rows { IfOk result (λ resumption. (t : List Entry) → TablesFind state.now t → rows_resumed resumption ≡ rows_for book.now (attach_in event.now) (resumed_key t event.now answer.now)) }
 {
     let key = resumed_key(state, event, answer)?;
     resumption_with(state.alloc(), book, attach_in(event), key)
+}
+
+/// What the map of an attach decides, of what it takes up again, which is planned by it; nothing if that is nothing.
+pub(crate) fn planned_decisions(alloc: Global, resumption: &mut Option<Resumption>) -> Vec<Decision>
+    ensures decisions { result.items ≡ decisions_resumed resumption.old }
+    ensures key { key_resumed resumption.new ≡ key_resumed resumption.old }
+    ensures map { map_resumed resumption.new ≡ map_resumed resumption.old }
+    ensures rows { rows_resumed resumption.new ≡ rows_resumed resumption.old }
+{
+    match resumption {
+        None => Vec::new(alloc),
+        Some(resumption) => mem::replace(&mut resumption.decisions, Vec::new(alloc)),
+    }
 }
 
 /// The router's map in the answer to the attach of what it takes up again, which is told by it; it has no entries if that
@@ -265,9 +283,18 @@ fn bind_if(state: &mut State, at: Option<Attachment>, rows: Vec<Sending>) -> Res
 pub fn take_up(state: &mut State, resumption: Option<Resumption>) -> Result<(), AllocError>
     ensures { OnOk result ((t : List Entry) → TablesFit state.old t → TablesFit state.new (with_rows (key_resumed resumption) (rows_resumed resumption) t)) }
 {
-    let Some(Resumption { key, map, rows }) = resumption else {
+    let Some(
+        Resumption {
+            key,
+            decisions,
+            map,
+            rows,
+        },
+    ) = resumption
+    else {
         return Ok(());
     };
+    drop(decisions);
     drop(map);
     let at = state.consumer_with(&key);
     drop(key);

@@ -8,7 +8,7 @@ ghost use Rattle.router_trace.specs.Sessions.{theirs, maps, session};
 ghost use Rattle.router_trace.specs.Frames.{told_of};
 ghost use Rattle.router_trace.specs.Links.{link, place_of, is_attached, durable_key, holds_durable};
 ghost use Rattle.router_trace.specs.Settling.{part_of, middle_on, is_claimed, is_claimed_on, open_ids, unbound};
-ghost use Rattle.router_trace.specs.Deliveries.{delivery, ended_first, is_to_tell, sending, named, next_id};
+ghost use Rattle.router_trace.specs.Deliveries.{acts_found, delivery, ended_first, giving, is_to_tell, sending, named, next_id};
 ghost use Rattle.router_trace.specs.Following.{link_of, first_delivery, is_unsent_on, is_wide, is_busy, is_used, takes_more};
 ghost use Rattle.state_deliveries.specs.Calling.{Knows};
 ghost use Rattle.state_deliveries.specs.Finding.{IsFirst, is_above};
@@ -38,7 +38,7 @@ use amqp_conn::Conn;
 use amqp_link::{Delivery, Part};
 use amqp_model::{Attach, Item, Perf};
 use amqp_session::{FlowState, Window};
-use book_model::{LinkKey, RowNumber};
+use book_model::{Act, LinkKey, RowNumber};
 use bytes::Bytes;
 use route_table::Table;
 use router_trace::{
@@ -244,23 +244,25 @@ impl State {
         Ok(())
     }
 
-    /// An item was received on a connection, by an event that ended these connections first (`State::turn`). Returns what a transfer makes of its
-    /// delivery.
+    /// An item was received on a connection, by an event that ended these connections first (`State::turn`) and has these acts. Returns what a transfer
+    /// makes of its delivery.
     #[tactic(auto, using(crate::proofs::Bound::found_on_session))]
     pub fn hear(
         &mut self,
         conn: ConnectionId,
         item: &Item,
         ends: &[u64],
+        acts: &[Act],
     ) -> Result<Option<Part>, AllocError>
         ensures part { IfOk result (λ part. (t : List Entry) (ends : List ℕ) (own : ℕ) → TablesAt self.old t (event.Item conn item.now) ends → maps (theirs t conn.0 (channel_of item.now)) own ≡ true → part ≡ part_of item.now (link_place t conn.0 own)) }
-        ensures fits { OnOk result ((t : List Entry) → TablesAt self.old t (event.Item conn item.now) ends.now → ended_first t ≡ ends.now → TablesFit self.new (did (event.Item conn item.now) ∷ t)) }
+        ensures fits { OnOk result ((t : List Entry) → TablesAt self.old t (event.Item conn item.now) ends.now → ended_first t ≡ ends.now
+            → giving item.now acts.now ≡ giving item.now (acts_found t) → TablesFit self.new (did (event.Item conn item.now) ∷ t)) }
     {
         let own = self.sessions.own_channel(conn.0, channel_of(item));
         let found = none_if_ended(ends, conn.0, own);
         self.clocks.hear(conn, item)?;
         self.peers.hear(conn, item)?;
-        let part = self.messages.hear(conn, own, found, item)?;
+        let part = self.messages.hear(conn, own, found, item, acts)?;
         self.sessions.hear(conn, item)?;
         Ok(part)
     }

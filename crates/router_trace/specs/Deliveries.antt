@@ -12,6 +12,8 @@ use Rattle.amqp_model.specs.declared.state.DeliveryState.TheVariants as state
 use Rattle.amqp_model.specs.declared.item.Item.{Item}
 use Rattle.amqp_model.specs.declared.item.Item.TheVariants as item
 use Rattle.amqp_session.specs.Ranges.{in_range}
+use Rattle.book_model.specs.declared.act.Act.{Act}
+use Rattle.book_model.specs.declared.act.Act.TheVariants.{Decide}
 use Rattle.book_model.specs.declared.row.RowNumber.{RowNumber}
 use Rattle.router_trace.specs.declared.binding.Binding.{Binding}
 use Rattle.router_trace.specs.declared.binding.DeliveryName.{DeliveryName}
@@ -363,21 +365,43 @@ abbrev pub disposed : Role → Disposition → ℕ → Option PeerChannel → (�
 disposed Receiver x c v names n d = if is_on d.link c v then decided x names n d else d
 disposed Sender x c v names n d = if is_settled_at x c v (source d) then untold d else d
 
-abbrev pub heard_in : Perf → ℕ → Option PeerChannel → (ℕ → ℕ → Option ℕ) → ℕ → Delivery → Delivery
-heard_in (perf.Disposition x) c v names n d = disposed x.role x c v (names d.link.channel) n d
-heard_in _ c v names n d = d
+-- An attach may decide deliveries: its unsettled map has states for them (2.6.13). An undecided delivery with a row gets the outcome that the acts of the
+-- attach give its row, also if it is suspended.
+abbrev pub outcome_by : RowNumber → Act → Option DeliveryState
+outcome_by r (Decide x) = if x.row.0 == r.0 then Some x.outcome else None
+outcome_by r _ = None
 
-abbrev pub heard : Item → ℕ → (ℕ → Option PeerChannel) → (ℕ → ℕ → Option ℕ) → ℕ → Delivery → Delivery
-heard (item.Frame sasl channel body payload) c known names n d = if sasl then d else heard_in body c (known channel) names n d
-heard _ c known names n d = d
+abbrev pub outcome_or : Option DeliveryState → Option DeliveryState → Option DeliveryState
+outcome_or (Some outcome) other = Some outcome
+outcome_or None other = other
+
+abbrev pub outcome_among : List Act → RowNumber → Option DeliveryState
+outcome_among [] r = None
+outcome_among (act ∷ acts) r = outcome_or (outcome_by r act) (outcome_among acts r)
+
+abbrev pub outcome_named : List Act → DeliveryName → Option DeliveryState
+outcome_named acts (Row r) = outcome_among acts r
+outcome_named acts (Counter k) = None
+
+abbrev pub given : List Act → Delivery → Delivery
+given acts d = record d { outcome = outcome_or d.outcome (outcome_named acts d.name) }
+
+abbrev pub heard_in : Perf → ℕ → Option PeerChannel → (ℕ → ℕ → Option ℕ) → List Act → ℕ → Delivery → Delivery
+heard_in (perf.Disposition x) c v names acts n d = disposed x.role x c v (names d.link.channel) n d
+heard_in (perf.Attach x) c v names acts n d = given acts d
+heard_in _ c v names acts n d = d
+
+abbrev pub heard : Item → ℕ → (ℕ → Option PeerChannel) → (ℕ → ℕ → Option ℕ) → List Act → ℕ → Delivery → Delivery
+heard (item.Frame sasl channel body payload) c known names acts n d = if sasl then d else heard_in body c (known channel) names acts n d
+heard _ c known names acts n d = d
 
 abbrev pub lost_with : ℕ → Attachment → Bool
 lost_with c a = a.conn.0 == c
 
-abbrev pub after_event : Event → (ℕ → ℕ → Option PeerChannel) → (ℕ → ℕ → ℕ → Option ℕ) → ℕ → Delivery → Delivery
-after_event (event.Item c i) known names n d = heard i c.0 (known c.0) (names c.0) n d
-after_event (event.Down c) known names n d = after_ends false (lost_with c.0) d
-after_event _ known names n d = d
+abbrev pub after_event : Event → (ℕ → ℕ → Option PeerChannel) → (ℕ → ℕ → ℕ → Option ℕ) → List Act → ℕ → Delivery → Delivery
+after_event (event.Item c i) known names acts n d = heard i c.0 (known c.0) (names c.0) acts n d
+after_event (event.Down c) known names acts n d = after_ends false (lost_with c.0) d
+after_event _ known names acts n d = d
 
 -- The connections that the event to come ends first, because their outboxes are full. It finds that their channels stand for nothing, so its
 -- item says nothing of deliveries if it came on one of them.
@@ -389,6 +413,29 @@ ended_first (Took d n ∷ t) = ended_first t
 ended_first (Bound b ∷ t) = []
 ended_first (Booked acts full ∷ t) = full
 ended_first (Began g ∷ t) = []
+
+-- the acts of the event to come
+abbrev pub acts_found : Trace → List Act
+acts_found [] = []
+acts_found (Did s ∷ t) = []
+acts_found (Out d i ∷ t) = []
+acts_found (Took d n ∷ t) = acts_found t
+acts_found (Bound b ∷ t) = []
+acts_found (Booked acts full ∷ t) = acts
+acts_found (Began g ∷ t) = []
+
+-- of these the ones that give outcomes: those of an attach
+abbrev pub giving_in : Perf → List Act → List Act
+giving_in (perf.Attach x) acts = acts
+giving_in _ acts = []
+
+abbrev pub giving : Item → List Act → List Act
+giving (item.Frame sasl channel body payload) acts = if sasl then [] else giving_in body acts
+giving _ acts = []
+
+abbrev pub giving_of : Event → List Act → List Act
+giving_of (event.Item c i) acts = giving i acts
+giving_of _ acts = []
 
 abbrev pub none_if_ended : {A : Type 0} → List ℕ → ℕ → Option A → Option A
 none_if_ended ends c v = if has c ends then None else v
@@ -403,7 +450,7 @@ unless_called name (Some d) = if same_name d.name name then None else Some d
 
 abbrev pub delivery : Trace → ℕ → Option Delivery
 delivery [] n = None
-delivery (Did s ∷ t) n = option_and_then (λ d. unless_over (after_event s.event (channels_found t) (named t) n d)) (delivery t n)
+delivery (Did s ∷ t) n = option_and_then (λ d. unless_over (after_event s.event (channels_found t) (named t) (acts_found t) n d)) (delivery t n)
 delivery (Out c i ∷ t) n = option_and_then (λ d. unless_over (after_put (number_named t) i c n (sending t c) d)) (delivery t n)
 delivery (Took c k ∷ t) n = delivery t n
 delivery (Bound b ∷ t) n = if bindings t + 1 == n then Some (bound (name_in t b) b) else unless_called (name_in t b) (delivery t n)

@@ -1,5 +1,5 @@
 -- The names of deliveries: what is there under a name is the last binding with it.
-use Rattle.std.proofs.Common.{◌≡◌, ◌∙◌, ◌≤◌, ◌+◌, ℕ, Bool, true, false, refl, sym, ap, arith, [], ◌∷◌, length, Option, Some, None}
+use Rattle.std.proofs.Common.{◌≡◌, ◌∙◌, ◌≤◌, ◌+◌, ℕ, Bool, true, false, refl, sym, ap, arith, List, [], ◌∷◌, length, Option, Some, None}
 use Rattle.std.specs.Prelude.{◌==◌, ◌&&◌, if◌then◌else◌, not}
 use Rattle.std.specs.Option.{option_and_then}
 use Rattle.std.proofs.lemmas.Bool.{eqb-true, eq-eqb}
@@ -11,6 +11,7 @@ use Rattle.amqp_model.specs.declared.perf.Role.{Role}
 use Rattle.amqp_model.specs.declared.perf.Role.TheVariants.{Sender, Receiver}
 use Rattle.amqp_model.specs.declared.item.Item.{Item}
 use Rattle.amqp_model.specs.declared.item.Item.TheVariants as item
+use Rattle.book_model.specs.declared.act.Act.{Act}
 use Rattle.router_trace.specs.declared.binding.Binding.{Binding}
 use Rattle.router_trace.specs.declared.binding.DeliveryName.{DeliveryName}
 use Rattle.router_trace.specs.declared.binding.DeliveryName.TheVariants.{Row, Counter}
@@ -19,7 +20,7 @@ use Rattle.router_trace.specs.declared.event.Event.TheVariants as event
 use Rattle.router_trace.specs.declared.channel.PeerChannel.{PeerChannel}
 use Rattle.router_trace.specs.declared.handle.Attachment.{Attachment}
 use Rattle.router_trace.specs.Trace.{Trace, Did, Out, Took, Bound, Booked, Began}
-use Rattle.router_trace.specs.Deliveries.{Delivery, called, source, delivery, bindings, bound, same_name, name_in, number_named, unless_over, unless_called, is_over, untold, unsettled, ended, decided_at_end, suspended_at_end, closes, after_ends, is_gone_with, after_frame, put_in, after_put, told, decided, is_undecided, is_meant, is_named, is_number, carried, tag_in, disposed, is_on, is_settled_at, heard_in, heard, after_event, ended_by, lost_with, origin_id, sending, named, decision, terminal, sender, forsaken, channels_found}
+use Rattle.router_trace.specs.Deliveries.{Delivery, called, source, delivery, bindings, bound, same_name, name_in, number_named, unless_over, unless_called, is_over, untold, unsettled, ended, decided_at_end, suspended_at_end, closes, after_ends, is_gone_with, after_frame, put_in, after_put, told, decided, is_undecided, is_meant, is_named, is_number, carried, tag_in, disposed, is_on, is_settled_at, heard_in, heard, after_event, ended_by, lost_with, origin_id, sending, named, decision, terminal, sender, forsaken, channels_found, acts_found}
 use Rattle.state_deliveries.specs.declared.by_name.ByName.{ByName}
 use Rattle.state_deliveries.specs.declared.change.Change.{Change}
 use Rattle.state_deliveries.specs.declared.change.Change.TheVariants as change
@@ -90,19 +91,20 @@ name_disposed : (r : Role) (x : Disposition) (c : ℕ) (v : Option PeerChannel) 
 name_disposed Receiver x c v names n d = either (is_on d.link c v) (decided x names n d) d d.name (name_decided x names n d) refl
 name_disposed Sender x c v names n d = either (is_settled_at x c v (source d)) (untold d) d d.name refl refl
 
-name_heard_in : (body : Perf) (c : ℕ) (v : Option PeerChannel) (names : ℕ → ℕ → Option ℕ) (n : ℕ) (d : Delivery) → (heard_in body c v names n d).name ≡ d.name
-name_heard_in (perf.Disposition x) c v names n d = name_disposed x.role x c v (names d.link.channel) n d
-name_heard_in _ c v names n d = refl
+name_heard_in : (body : Perf) (c : ℕ) (v : Option PeerChannel) (names : ℕ → ℕ → Option ℕ) (acts : List Act) (n : ℕ) (d : Delivery) → (heard_in body c v names acts n d).name ≡ d.name
+name_heard_in (perf.Disposition x) c v names acts n d = name_disposed x.role x c v (names d.link.channel) n d
+name_heard_in (perf.Attach x) c v names acts n d = refl
+name_heard_in _ c v names acts n d = refl
 
-name_heard : (i : Item) (c : ℕ) (known : ℕ → Option PeerChannel) (names : ℕ → ℕ → Option ℕ) (n : ℕ) (d : Delivery) → (heard i c known names n d).name ≡ d.name
-name_heard (item.Frame sasl channel body payload) c known names n d =
-    either sasl d (heard_in body c (known channel) names n d) d.name refl (name_heard_in body c (known channel) names n d)
-name_heard _ c known names n d = refl
+name_heard : (i : Item) (c : ℕ) (known : ℕ → Option PeerChannel) (names : ℕ → ℕ → Option ℕ) (acts : List Act) (n : ℕ) (d : Delivery) → (heard i c known names acts n d).name ≡ d.name
+name_heard (item.Frame sasl channel body payload) c known names acts n d =
+    either sasl d (heard_in body c (known channel) names acts n d) d.name refl (name_heard_in body c (known channel) names acts n d)
+name_heard _ c known names acts n d = refl
 
-pub name_event : (x : Event) (known : ℕ → ℕ → Option PeerChannel) (names : ℕ → ℕ → ℕ → Option ℕ) (n : ℕ) (d : Delivery) → (after_event x known names n d).name ≡ d.name
-name_event (event.Item c i) known names n d = name_heard i c.0 (known c.0) (names c.0) n d
-name_event (event.Down c) known names n d = name_ends false (lost_with c.0) d
-name_event _ known names n d = refl
+pub name_event : (x : Event) (known : ℕ → ℕ → Option PeerChannel) (names : ℕ → ℕ → ℕ → Option ℕ) (acts : List Act) (n : ℕ) (d : Delivery) → (after_event x known names acts n d).name ≡ d.name
+name_event (event.Item c i) known names acts n d = name_heard i c.0 (known c.0) (names c.0) acts n d
+name_event (event.Down c) known names acts n d = name_ends false (lost_with c.0) d
+name_event _ known names acts n d = refl
 
 pub name_changed : (x : Change) (d : Delivery) → (changed x d).name ≡ d.name
 name_changed (change.Ends g closed) d = name_ends closed (is_gone g) d
@@ -146,8 +148,8 @@ uncalled name (Some x) d e = by_test (same_name x.name name) refl
 pub there_named : (t : Trace) (n : ℕ) (d : Delivery) → delivery t n ≡ Some d → number_named t d.name ≡ Some n
 there_named [] n d e = absurd cc
 there_named (Did s ∷ t) n d e =
-    let w = was_there (after_event s.event (channels_found t) (named t) n) (delivery t n) d e in
-    ap (number_named t) (ap (λ (x : Delivery). x.name) w.is ∙ name_event s.event (channels_found t) (named t) n w.before) ∙ there_named t n w.before w.there
+    let w = was_there (after_event s.event (channels_found t) (named t) (acts_found t) n) (delivery t n) d e in
+    ap (number_named t) (ap (λ (x : Delivery). x.name) w.is ∙ name_event s.event (channels_found t) (named t) (acts_found t) n w.before) ∙ there_named t n w.before w.there
 there_named (Out c i ∷ t) n d e =
     let w = was_there (after_put (number_named t) i c n (sending t c)) (delivery t n) d e in
     ap (number_named t) (ap (λ (x : Delivery). x.name) w.is ∙ name_put (number_named t) i c n (sending t c) w.before) ∙ there_named t n w.before w.there

@@ -1,5 +1,5 @@
 -- A delivery that isn't undecided never becomes undecided again.
-use Rattle.std.proofs.Common.{◌≡◌, ◌≤◌, ◌+◌, ℕ, Bool, true, false, refl, arith, ◌∷◌, length, Option, Some, None}
+use Rattle.std.proofs.Common.{◌≡◌, ◌≤◌, ◌+◌, ℕ, Bool, true, false, refl, arith, ◌∷◌, length, List, Option, Some, None}
 use Rattle.std.specs.Prelude.{◌&&◌, ◌||◌, ◌==◌, not, if◌then◌else◌, is_none}
 use Rattle.std.specs.Option.{option_and_then}
 use Rattle.std.proofs.lemmas.Bool.{eqb-true}
@@ -12,13 +12,14 @@ use Rattle.amqp_model.specs.declared.perf.Transfer.{Transfer}
 use Rattle.amqp_model.specs.declared.state.DeliveryState.{DeliveryState}
 use Rattle.amqp_model.specs.declared.item.Item.{Item}
 use Rattle.amqp_model.specs.declared.item.Item.TheVariants as item
+use Rattle.book_model.specs.declared.act.Act.{Act}
 use Rattle.router_trace.specs.declared.binding.DeliveryName.{DeliveryName}
 use Rattle.router_trace.specs.declared.event.Event.{Event}
 use Rattle.router_trace.specs.declared.event.Event.TheVariants as event
 use Rattle.router_trace.specs.declared.channel.PeerChannel.{PeerChannel}
 use Rattle.router_trace.specs.declared.handle.Attachment.{Attachment}
 use Rattle.router_trace.specs.Trace.{Entry, Trace, Did, Out, Took, Booked, Bound, Began}
-use Rattle.router_trace.specs.Deliveries.{Delivery, source, delivery, bindings, bound, name_in, same_name, number_named, unless_called, unless_over, is_over, is_undecided, after_ends, is_gone_with, ended, decided_at_end, suspended_at_end, untold, unsettled, failed, closes, after_put, after_frame, after_event, put_in, is_number, carried, tag_in, told, is_meant, origin_id, heard, heard_in, disposed, decided, is_settled_at, is_on, ended_by, lost_with, named, sending, sender, forsaken, channels_found}
+use Rattle.router_trace.specs.Deliveries.{Delivery, source, delivery, bindings, bound, name_in, same_name, number_named, unless_called, unless_over, is_over, is_undecided, after_ends, is_gone_with, ended, decided_at_end, suspended_at_end, untold, unsettled, failed, closes, after_put, after_frame, after_event, put_in, is_number, carried, tag_in, told, is_meant, origin_id, heard, heard_in, given, outcome_named, outcome_or, disposed, decided, is_settled_at, is_on, ended_by, lost_with, named, sending, sender, forsaken, channels_found, acts_found}
 use Rattle.amqp_model.specs.declared.state.DeliveryState.TheVariants as state
 use Rattle.state_deliveries.specs.Naming.{is_open}
 
@@ -46,6 +47,10 @@ and_not_or true true s e = refl
 and_not_or true false true e = refl
 and_not_or true false false e = absurd cc
 and_not_or false p s e = refl
+
+and_same : (a b : Bool) → (true && b) ≡ false → (a && b) ≡ false
+and_same true b e = e
+and_same false b e = refl
 
 ended_closed : (closed : Bool) (d : Delivery) → is_undecided (ended closed d) ≡ false
 ended_closed closed d = by_suspended d.suspended refl
@@ -97,21 +102,31 @@ disposed_closed : (r : Role) (x : Disposition) (c : ℕ) (v : Option PeerChannel
 disposed_closed Receiver x c v names n d e = either (is_on d.link c v) (decided x names n d) d (decided_closed x names n d e) e
 disposed_closed Sender x c v names n d e = either (is_settled_at x c v (source d)) (untold d) d e e
 
-heard_in_closed : (body : Perf) (c : ℕ) (v : Option PeerChannel) (names : ℕ → ℕ → Option ℕ) (n : ℕ) → Closes (heard_in body c v names n)
-heard_in_closed (perf.Disposition x) c v names n d e = disposed_closed x.role x c v (names d.link.channel) n d e
-heard_in_closed _ c v names n d e = e
+given_closed : (acts : List Act) → Closes (given acts)
+given_closed acts d e = by_outcome d.outcome e
+  where
+    by_outcome : (o : Option DeliveryState) → (is_none o && not (d.presettled || d.suspended)) ≡ false
+        → (is_none (outcome_or o (outcome_named acts d.name)) && not (d.presettled || d.suspended)) ≡ false
+    by_outcome (Some s) e = refl
+    by_outcome None e = and_same (is_none (outcome_named acts d.name)) (not (d.presettled || d.suspended)) e
 
-heard_closed : (i : Item) (c : ℕ) (known : ℕ → Option PeerChannel) (names : ℕ → ℕ → Option ℕ) (n : ℕ) → Closes (heard i c known names n)
-heard_closed (item.Frame sasl channel body payload) c known names n d e = either sasl d (heard_in body c (known channel) names n d) e (heard_in_closed body c (known channel) names n d e)
-heard_closed _ c known names n d e = e
+heard_in_closed : (body : Perf) (c : ℕ) (v : Option PeerChannel) (names : ℕ → ℕ → Option ℕ) (acts : List Act) (n : ℕ) → Closes (heard_in body c v names acts n)
+heard_in_closed (perf.Disposition x) c v names acts n d e = disposed_closed x.role x c v (names d.link.channel) n d e
+heard_in_closed (perf.Attach x) c v names acts n d e = given_closed acts d e
+heard_in_closed _ c v names acts n d e = e
 
-event_closed : (x : Event) (known : ℕ → ℕ → Option PeerChannel) (names : ℕ → ℕ → ℕ → Option ℕ) (n : ℕ) → Closes (after_event x known names n)
-event_closed (event.Item c i) known names n d e = heard_closed i c.0 (known c.0) (names c.0) n d e
-event_closed (event.Down c) known names n d e = ends_closed false (lost_with c.0) d e
-event_closed _ known names n d e = e
+heard_closed : (i : Item) (c : ℕ) (known : ℕ → Option PeerChannel) (names : ℕ → ℕ → Option ℕ) (acts : List Act) (n : ℕ) → Closes (heard i c known names acts n)
+heard_closed (item.Frame sasl channel body payload) c known names acts n d e =
+    either sasl d (heard_in body c (known channel) names acts n d) e (heard_in_closed body c (known channel) names acts n d e)
+heard_closed _ c known names acts n d e = e
+
+event_closed : (x : Event) (known : ℕ → ℕ → Option PeerChannel) (names : ℕ → ℕ → ℕ → Option ℕ) (acts : List Act) (n : ℕ) → Closes (after_event x known names acts n)
+event_closed (event.Item c i) known names acts n d e = heard_closed i c.0 (known c.0) (names c.0) acts n d e
+event_closed (event.Down c) known names acts n d e = ends_closed false (lost_with c.0) d e
+event_closed _ known names acts n d e = e
 
 pub stays_closed : (e : Entry) (t : Trace) (n : ℕ) → n ≤ bindings t → is_open (delivery t n) ≡ false → is_open (delivery (e ∷ t) n) ≡ false
-stays_closed (Did s) t n there closed = closed_after (after_event s.event (channels_found t) (named t) n) (event_closed s.event (channels_found t) (named t) n) (delivery t n) closed
+stays_closed (Did s) t n there closed = closed_after (after_event s.event (channels_found t) (named t) (acts_found t) n) (event_closed s.event (channels_found t) (named t) (acts_found t) n) (delivery t n) closed
 stays_closed (Out c i) t n there closed = closed_after (after_put (number_named t) i c n (sending t c)) (put_closed (number_named t) i c n (sending t c)) (delivery t n) closed
 stays_closed (Took c k) t n there closed = closed
 stays_closed (Began g) t n there closed = refl

@@ -1,5 +1,5 @@
 -- How a peer's item changes a delivery, by how a table changes it.
-use Rattle.std.proofs.Common.{◌≡◌, ◌∙◌, ℕ, Bool, true, false, refl, sym, ap, ◌∷◌, Option, Some, None}
+use Rattle.std.proofs.Common.{◌≡◌, ◌∙◌, ℕ, Bool, true, false, refl, sym, ap, List, ◌∷◌, Option, Some, None}
 use Rattle.std.specs.Prelude.{◌&&◌, ◌||◌, ◌==◌, if◌then◌else◌, is_none, not}
 use Rattle.std.specs.Option.{option_and_then}
 use Rattle.std.proofs.lemmas.Bool.{eqb-true}
@@ -11,13 +11,14 @@ use Rattle.amqp_model.specs.declared.perf.Role.TheVariants.{Sender, Receiver}
 use Rattle.amqp_model.specs.declared.state.DeliveryState.{DeliveryState}
 use Rattle.amqp_model.specs.declared.item.Item.{Item}
 use Rattle.amqp_model.specs.declared.item.Item.TheVariants as item
+use Rattle.book_model.specs.declared.act.Act.{Act}
 use Rattle.router_trace.specs.declared.binding.Origin.{Origin}
 use Rattle.router_trace.specs.declared.event.ConnectionId.{ConnectionId}
 use Rattle.router_trace.specs.declared.event.Event.TheVariants as event
 use Rattle.router_trace.specs.declared.channel.PeerChannel.{PeerChannel}
 use Rattle.router_trace.specs.Trace.{Trace, did}
 use Rattle.router_trace.specs.Sessions.{maps, is_channel}
-use Rattle.router_trace.specs.Deliveries.{Delivery, source, delivery, unless_over, is_undecided, disposed, decided, is_on, is_meant, is_named, is_number, is_settled_at, stands_on, untold, last_of, decision, terminal, named, channels_found}
+use Rattle.router_trace.specs.Deliveries.{Delivery, source, delivery, unless_over, is_undecided, disposed, decided, is_on, is_meant, is_named, is_number, is_settled_at, stands_on, untold, last_of, decision, terminal, named, channels_found, acts_found, giving}
 use Rattle.state_deliveries.specs.declared.change.Change.{Change}
 use Rattle.state_deliveries.specs.declared.change.Change.TheVariants as change
 use Rattle.router_trace.specs.Channels.{channel_of}
@@ -25,7 +26,9 @@ use Rattle.state_deliveries.specs.Hearing.{heard_change, disposed_change, decide
 use Rattle.state_deliveries.specs.Naming.{Remembers, is_open}
 use Rattle.state_deliveries.specs.Stepping.{changed, after_change, after_any, comes_with_id, untold_by, is_in, IsKept}
 use Rattle.router_trace.proofs.Numbers.{equal_back}
-use Rattle.state_deliveries.proofs.Puts.{kept}
+use Rattle.state_deliveries.specs.Giving.{after_acts}
+use Rattle.state_deliveries.proofs.Given.{no_acts}
+use Rattle.state_deliveries.proofs.Puts.{kept, kept_after}
 
 -- a change of a delivery that may exist
 abbrev by : (Delivery → Delivery) → Option Delivery → Option Delivery
@@ -204,11 +207,27 @@ disposes Sender x c n (Some own) t stored v same remembers =
 disposes Receiver x c n (Some own) t stored v same remembers =
     sent_by_consumer x c own n t stored v (decision x.settled (terminal x.state)) same remembers refl (delivery t n) refl (kept t n)
 
+-- what a change leaves isn't over
+pub kept_heard : (x : Option Change) (names : ℕ → ℕ → ℕ → Option ℕ) (n : ℕ) (v : Option Delivery) → IsKept v → IsKept (heard_by x names n v)
+kept_heard None names n v keeps = keeps
+kept_heard (Some (change.Decided c own first last made)) names n v keeps = by_test (is_named_in first last (names c own) n v)
+  where
+    by_test : (b : Bool) → IsKept (if b then after_change (change.Decided c own first last made) v else v)
+    by_test true = kept_after (changed (change.Decided c own first last made)) v
+    by_test false = keeps
+kept_heard (Some x) names n v keeps = kept_after (changed x) v
+
+-- An item changes a delivery as a table is changed by its disposition, and then by the outcomes that its attach gives.
 pub heard_follows : (conn : ConnectionId) (i : Item) (t : Trace) (n : ℕ) (own : Option ℕ) (stored : ℕ → ℕ → ℕ → Option ℕ)
+    → (acts : List Act) → giving i acts ≡ giving i (acts_found t)
     → ((o : ℕ) → is_channel own o ≡ maps (channels_found t conn.0 (channel_of i)) o) → ((o id : ℕ) → Remembers t (stored conn.0 o id) (named t conn.0 o id))
-    → heard_by (heard_change conn.0 own i) stored n (delivery t n) ≡ delivery (did (event.Item conn i) ∷ t) n
-heard_follows conn (item.Frame true channel body payload) t n own stored same remembers = quiet (λ d. d) (delivery t n) (kept t n) (λ d e. refl)
-heard_follows conn (item.Frame false channel (perf.Disposition x) payload) t n own stored same remembers =
-    disposes x.role x conn.0 n own t stored (channels_found t conn.0 channel) same remembers
-heard_follows conn (item.Frame false channel body payload) t n own stored same remembers = quiet (λ d. d) (delivery t n) (kept t n) (λ d e. refl)
-heard_follows conn i t n own stored same remembers = quiet (λ d. d) (delivery t n) (kept t n) (λ d e. refl)
+    → after_acts (giving i acts) (heard_by (heard_change conn.0 own i) stored n (delivery t n)) ≡ delivery (did (event.Item conn i) ∷ t) n
+heard_follows conn (item.Frame true channel body payload) t n own stored acts gives same remembers =
+    no_acts (delivery t n) (kept t n) ∙ quiet (λ d. d) (delivery t n) (kept t n) (λ d e. refl)
+heard_follows conn (item.Frame false channel (perf.Disposition x) payload) t n own stored acts gives same remembers =
+    no_acts (heard_by (disposed_change x.role conn.0 own x) stored n (delivery t n)) (kept_heard (disposed_change x.role conn.0 own x) stored n (delivery t n) (kept t n))
+    ∙ disposes x.role x conn.0 n own t stored (channels_found t conn.0 channel) same remembers
+heard_follows conn (item.Frame false channel (perf.Attach x) payload) t n own stored acts gives same remembers = ap (λ a. after_acts a (delivery t n)) gives
+heard_follows conn (item.Frame false channel body payload) t n own stored acts gives same remembers =
+    no_acts (delivery t n) (kept t n) ∙ quiet (λ d. d) (delivery t n) (kept t n) (λ d e. refl)
+heard_follows conn i t n own stored acts gives same remembers = no_acts (delivery t n) (kept t n) ∙ quiet (λ d. d) (delivery t n) (kept t n) (λ d e. refl)

@@ -14,7 +14,7 @@ use Rattle.amqp_model.specs.declared.item.Item.{Item}
 use Rattle.amqp_model.specs.declared.item.Item.TheVariants as item
 use Rattle.router_trace.specs.declared.binding.DeliveryName.{DeliveryName}
 use Rattle.router_trace.specs.Trace.{Entry, Trace, Did, Out, Took, Bound, Booked, Began}
-use Rattle.router_trace.specs.Deliveries.{Delivery, delivery, bindings, bound, name_in, number_named, unless_over, unless_called, after_event, after_put, is_number, tagged, number_tagged, carried, tag_in, sending, sending_in, sending_by, named, channels_found}
+use Rattle.router_trace.specs.Deliveries.{Delivery, delivery, bindings, bound, name_in, number_named, unless_over, unless_called, after_event, after_put, is_number, tagged, number_tagged, carried, tag_in, sending, sending_in, sending_by, named, channels_found, acts_found}
 use Rattle.state_deliveries.specs.Calling.{IsGone, Knows}
 use Rattle.state_deliveries.specs.Fits.{carried_in, carried_by}
 use Rattle.state_deliveries.proofs.Low.{IsLow}
@@ -24,7 +24,7 @@ gone_after : (f : Delivery → Option Delivery) (v : Option Delivery) → v ≡ 
 gone_after f v e = ap (option_and_then f) e
 
 pub gone_stays : (e : Entry) (t : Trace) (n : ℕ) → n ≤ bindings t → delivery t n ≡ None → delivery (e ∷ t) n ≡ None
-gone_stays (Did s) t n low gone = gone_after (λ d. unless_over (after_event s.event (channels_found t) (named t) n d)) (delivery t n) gone
+gone_stays (Did s) t n low gone = gone_after (λ d. unless_over (after_event s.event (channels_found t) (named t) (acts_found t) n d)) (delivery t n) gone
 gone_stays (Out c i) t n low gone = gone_after (λ d. unless_over (after_put (number_named t) i c n (sending t c) d)) (delivery t n) gone
 gone_stays (Took c k) t n low gone = gone
 gone_stays (Booked acts full) t n low gone = gone

@@ -9,6 +9,7 @@ mod Closed
 mod Named
 mod Bound
 mod Picked
+mod Given
 mod Heard
 mod Reindexed
 mod Settled

@@ -6,7 +6,7 @@ use Rattle.std.proofs.lemmas.Bool.{eqb-true, ltb-true}
 use Rattle.std.proofs.lemmas.Bool.Decides.{nat_tests}
 use Rattle.router_trace.specs.Trace.{Trace, Did, Out, Took, Bound, Booked, Began}
 use Rattle.router_trace.specs.Counting.{IsCount}
-use Rattle.router_trace.specs.Deliveries.{Delivery, delivery, bindings, bound as fresh_delivery, name_in, number_named, unless_called, sending, named, unless_over, after_event, after_put, channels_found}
+use Rattle.router_trace.specs.Deliveries.{Delivery, delivery, bindings, bound as fresh_delivery, name_in, number_named, unless_called, sending, named, unless_over, after_event, after_put, channels_found, acts_found}
 use Rattle.router_trace.specs.Following.{first_delivery}
 use Rattle.router_trace.specs.Numbers.{first_below, or_other, if_passes}
 use Rattle.router_trace.proofs.Numbers.{not_true, none_below, count_is}
@@ -44,7 +44,7 @@ fresh false v w e f = f
 
 pub none_beyond : (t : Trace) (n : ℕ) → bindings t < n → delivery t n ≡ None
 none_beyond [] n l = refl
-none_beyond (Did s ∷ t) n l = none_is (λ d. unless_over (after_event s.event (channels_found t) (named t) n d)) (delivery t n) (none_beyond t n l)
+none_beyond (Did s ∷ t) n l = none_is (λ d. unless_over (after_event s.event (channels_found t) (named t) (acts_found t) n d)) (delivery t n) (none_beyond t n l)
 none_beyond (Out c i ∷ t) n l = none_is (λ d. unless_over (after_put (number_named t) i c n (sending t c) d)) (delivery t n) (none_beyond t n l)
 none_beyond (Took c k ∷ t) n l = none_beyond t n l
 none_beyond (Began g ∷ t) n l = refl
@@ -56,7 +56,7 @@ none_beyond (Bound b ∷ t) n l = fresh (bindings t + 1 == n) (Some (fresh_deliv
 
 pub none_before : (t : Trace) → delivery t 0 ≡ None
 none_before [] = refl
-none_before (Did s ∷ t) = none_is (λ d. unless_over (after_event s.event (channels_found t) (named t) 0 d)) (delivery t 0) (none_before t)
+none_before (Did s ∷ t) = none_is (λ d. unless_over (after_event s.event (channels_found t) (named t) (acts_found t) 0 d)) (delivery t 0) (none_before t)
 none_before (Out c i ∷ t) = none_is (λ d. unless_over (after_put (number_named t) i c 0 (sending t c) d)) (delivery t 0) (none_before t)
 none_before (Took c k ∷ t) = none_before t
 none_before (Began g ∷ t) = refl

@@ -16,7 +16,7 @@ use Rattle.router_trace.specs.declared.binding.DeliveryName.{DeliveryName}
 use Rattle.router_trace.specs.declared.binding.Origin.{Origin}
 use Rattle.router_trace.specs.declared.handle.Attachment.{Attachment}
 use Rattle.router_trace.specs.Trace.{Trace, Did, Out, Took, Bound, Booked, Began}
-use Rattle.router_trace.specs.Deliveries.{Delivery, source, delivery, named, after_event, bindings, bound, name_in, same_name, number_named, unless_called, unless_over, is_over, after_ends, after_put, after_frame, put_in, ended_by, is_number, carried, tag_in, told, is_meant, origin_id, stands_on, untold, unsettled, last_of, sending, sender, channels_found}
+use Rattle.router_trace.specs.Deliveries.{Delivery, source, delivery, named, after_event, bindings, bound, name_in, same_name, number_named, unless_called, unless_over, is_over, after_ends, after_put, after_frame, put_in, ended_by, is_number, carried, tag_in, told, is_meant, origin_id, stands_on, untold, unsettled, last_of, sending, sender, channels_found, acts_found}
 use Rattle.state_deliveries.specs.declared.change.Change.{Change}
 use Rattle.state_deliveries.specs.declared.change.Change.TheVariants as change
 use Rattle.state_deliveries.specs.declared.change.Gone.TheVariants as gone
@@ -33,13 +33,13 @@ kept_once d = by_test (is_over d) refl
     by_test true e = rw e refl
     by_test false e = rw (e, e) refl
 
-kept_after : (f : Delivery → Delivery) (v : Option Delivery) → IsKept (option_and_then (λ d. unless_over (f d)) v)
+pub kept_after : (f : Delivery → Delivery) (v : Option Delivery) → IsKept (option_and_then (λ d. unless_over (f d)) v)
 kept_after f None = refl
 kept_after f (Some d) = kept_once (f d)
 
 pub kept : (t : Trace) (n : ℕ) → IsKept (delivery t n)
 kept [] n = refl
-kept (Did s ∷ t) n = kept_after (after_event s.event (channels_found t) (named t) n) (delivery t n)
+kept (Did s ∷ t) n = kept_after (after_event s.event (channels_found t) (named t) (acts_found t) n) (delivery t n)
 kept (Out c i ∷ t) n = kept_after (after_put (number_named t) i c n (sending t c)) (delivery t n)
 kept (Took c k ∷ t) n = kept t n
 kept (Began g ∷ t) n = refl

@@ -64,6 +64,15 @@ one_step f m n d x old mid new was is changed gone = gone ∙ by_test (m == n) r
     by_test false e =
         ap (λ b. if x.over then (if b then None else mid) else mid) e ∙ either x.over mid ∙ changed ∙ ap (λ b. if b then option_map f (old n) else old n) e
 
+pub steps_at : (f : Delivery → Delivery) (m : ℕ) (x : Moved) (old new : Store) (mid : ℕ → Option Delivery)
+    → Some x ≡ found_of f (at_number old.deliveries m)
+    → ((n : ℕ) → mid n ≡ (if m == n then option_map f (at_number old.deliveries n) else at_number old.deliveries n))
+    → ((n : ℕ) → at_number new.deliveries n ≡ (if x.over then (if m == n then None else mid n) else mid n))
+    → (n : ℕ) → at_number new.deliveries n ≡ (if m == n then step f (at_number old.deliveries n) else at_number old.deliveries n)
+steps_at f m x old new mid found changed gone n =
+    let one = found_there f (at_number old.deliveries m) x found in
+    one_step f m n one.0 x (at_number old.deliveries) (mid n) (at_number new.deliveries n) one.1 one.2 (changed n) (gone n)
+
 pub one_stepped : (f : Delivery → Delivery) (m : ℕ) (x : Moved) (old new : Store) (mid : ℕ → Option Delivery) → ((d : Delivery) → (f d).name ≡ d.name)
     → Some x ≡ found_of f (at_number old.deliveries m)
     → ((n : ℕ) → mid n ≡ (if m == n then option_map f (at_number old.deliveries n) else at_number old.deliveries n))
@@ -136,6 +145,24 @@ unfound f m s u found is none at index by_name x = record {
             at n ∙ ap (λ b. if b then option_map f (at_number s.deliveries n) else at_number s.deliveries n) e
             ∙ mapped (at_number s.deliveries n) (ap (at_number s.deliveries) (sym (eqb-true m n e)) ∙ nowhere (at_number s.deliveries m) is)
         by_test false e = at n ∙ ap (λ b. if b then option_map f (at_number s.deliveries n) else at_number s.deliveries n) e
+
+pub stood : (f : Delivery → Delivery) (v : Option Delivery) (x : Moved) → Some x ≡ found_of f v → x.before ≡ standing v
+stood f v x e = let one = found_there f v x e in ap (λ (y : Moved). y.before) one.2 ∙ sym (ap standing one.1)
+
+pub nothing_there : (f : Delivery → Delivery) (v : Option Delivery) → None ≡ found_of f v → v ≡ None
+nothing_there f None e = refl
+nothing_there f (Some d) e = absurd cc
+
+pub unfound_step : (f : Delivery → Delivery) (m n : ℕ) (old : ℕ → Option Delivery) → None ≡ found_of f (old m)
+    → (if m == n then option_map f (old n) else old n) ≡ (if m == n then step f (old n) else old n)
+unfound_step f m n old none = by_test (m == n) refl
+  where
+    nothing : (v : Option Delivery) → v ≡ None → option_map f v ≡ step f v
+    nothing v e = ap (option_map f) e ∙ sym (ap (step f) e)
+
+    by_test : (b : Bool) → (m == n) ≡ b → (if b then option_map f (old n) else old n) ≡ (if b then step f (old n) else old n)
+    by_test true e = nothing (old n) (ap old (sym (eqb-true m n e)) ∙ nothing_there f (old m) none)
+    by_test false e = refl
 
 -- whether there was one, told by a Boolean
 pub one_there : (b : Bool) (x : Moved) (r : Option Moved) → b ≡ true → (if b then Some x else None) ≡ r → Some x ≡ r

@@ -1,4 +1,5 @@
 pub mod Stepping
+pub mod Giving
 pub mod Hearing
 pub mod Rowing
 pub mod Placing

@@ -6,7 +6,7 @@ ghost use Rattle.router_trace.specs.Trace.{Beginning, Trace};
 ghost use Rattle.router_trace.specs.Configuration.{opened};
 ghost use Rattle.router_trace.specs.Trace.{Entry, Out, Bound, did};
 ghost use Rattle.router_trace.specs.declared.event.Event.TheVariants as event;
-ghost use Rattle.router_trace.specs.Deliveries.{called, origin_in, told_in, early_in, delivery, channels_found, name_of, next_id, sending, named, waits_on, undecided_on, held_from, is_to_tell};
+ghost use Rattle.router_trace.specs.Deliveries.{called, origin_in, told_in, early_in, delivery, acts_found, channels_found, giving, name_of, next_id, sending, named, waits_on, undecided_on, held_from, is_to_tell};
 ghost use Rattle.router_trace.specs.Sessions.{maps, is_channel};
 ghost use Rattle.router_trace.specs.Following.{first_delivery, is_unsent_on, is_used};
 ghost use Rattle.router_trace.specs.Settling.{open_ids};
@@ -22,13 +22,14 @@ ghost use Rattle.state_deliveries.specs.Touching.{is_touched, Touches};
 use crate::change::{Change, after_heard};
 use crate::deciding::{decided_rows, rows_from};
 use crate::delivery::{Delivery, Producers};
+use crate::giving::give;
 use crate::hearing::hear;
 use crate::names::Names;
 use crate::next_ids::NextIds;
 use crate::sending::Sending;
 use crate::store::Store;
 use amqp_model::Item;
-use book_model::{Decision, RowNumber};
+use book_model::{Act, Decision, RowNumber};
 use router_trace::{Binding, ConnectionId, DeliveryName};
 use std::alloc::{AllocError, Global};
 
@@ -246,20 +247,26 @@ impl Deliveries {
     }
 
     /// An item was received on a connection; `own` is the router's channel of its session, if its channel has one and the event didn't
-    /// end the connection first.
+    /// end the connection first. `acts` are those of the event: if the item is an attach, its deliveries get the outcomes that they give
+    /// their rows.
     pub fn hear(
         &mut self,
         conn: ConnectionId,
         own: Option<u16>,
         item: &Item,
+        acts: &[Act],
     ) -> Result<(), AllocError>
         ensures fits { OnOk result ((t : List Entry) → ((o : ℕ) → is_channel own o ≡ maps (channels_found t conn.0 (channel_of item.now)) o)
+            → giving item.now acts.now ≡ giving item.now (acts_found t)
             → DeliveriesFit self.old t → DeliveriesFit self.new (did (event.Item conn item.now) ∷ t)) }
         ensures touches { OnOk result (Touches self.old self.new) }
     {
         let change = after_heard(conn.0, own, item)?;
         hear(&mut self.store, &self.names, change)?;
+        let mut given = Vec::new(self.alloc);
+        give(&mut self.store, item, acts, &mut given)?;
         self.names.settle_heard(&self.store, conn.0, own, item)?;
+        self.names.settle_at(&self.store, given.as_slice())?;
         Ok(())
     }
 

@@ -3,6 +3,7 @@ ghost use Rattle.std.specs.Prelude.{◌≡◌, ◌&&◌, OnOk, Some, option_map,
 ghost use Rattle.router_trace.specs.Settling.{is_open_as};
 ghost use Rattle.router_trace.specs.Deliveries.{bound, brought, origin_in, told_in, early_in, outcome_as, is_resumed, resumes, source, sender, holder, is_over, is_undecided, after_frame, untold, unsettled, forsaken, ended, after_ends};
 ghost use Rattle.state_deliveries.specs.Deciding.{bare, changed_by};
+ghost use Rattle.state_deliveries.specs.Giving.{with_outcome};
 ghost use Rattle.state_deliveries.specs.Stepping.{is_gone, is_decided_by, comes_with_id, changed};
 
 use crate::change::{Change, Gone, comes_with_id, is_in};
@@ -285,6 +286,17 @@ impl Delivery {
     {
         self.told = self.source();
         self.origin = None;
+    }
+
+    /// It gets an outcome, if it has none.
+    pub(crate) fn give(&mut self, outcome: &DeliveryState) -> Result<(), AllocError>
+        ensures { OnOk result (self.new ≡ with_outcome outcome.now self.old) }
+    {
+        if self.outcome.is_some() {
+            return Ok(());
+        }
+        self.outcome = Some(copy_state(outcome)?);
+        Ok(())
     }
 
     /// Its link ends, closed for good or not.

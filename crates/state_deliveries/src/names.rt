@@ -18,6 +18,7 @@ ghost use Rattle.state_deliveries.specs.Naming.{NamesFit, AreSmall, kept_name, d
 ghost use Rattle.router_trace.specs.Settling.{ids_between};
 ghost use Rattle.std.specs.List.{filter};
 
+use crate::spots::Spot;
 use crate::store::Store;
 use amqp_model::{Item, Perf, Transfer};
 use router_trace::ConnectionId;
@@ -260,6 +261,16 @@ impl Names {
     {
         if let Some(own) = detached_in(item) {
             self.settle_all(store, conn, own, ids)?;
+        }
+        Ok(())
+    }
+
+    /// Forgets those of the ids at these places that name deliveries which aren't undecided.
+    pub(crate) fn settle_at(&mut self, store: &Store, places: &[Spot]) -> Result<(), AllocError>
+        ensures { OnOk result ((t : List Entry) → ((n : ℕ) → at_number store.now.deliveries n ≡ delivery t n) → NamesFit self.old t → NamesFit self.new t) }
+    {
+        for place in places {
+            self.settle_one(store, place.conn, place.own, place.at)?;
         }
         Ok(())
     }

@@ -1,11 +1,12 @@
 //! Deliveries by number.
-ghost use Rattle.std.specs.Prelude.{◌≡◌, ◌==◌, ℕ, Some, None, true, if◌then◌else◌, OnOk, IfOk, length, ◌||◌, ◌&&◌, nat_lt, ◌∷◌, List, Bool, false};
+ghost use Rattle.std.specs.Prelude.{◌≡◌, ◌==◌, ℕ, Some, None, true, if◌then◌else◌, OnOk, IfOk, length, ◌||◌, ◌&&◌, nat_lt, ◌∷◌, [], List, Bool, false};
 ghost use Rattle.std.specs.Option.{option_map, option_and_then};
 ghost use Rattle.std.specs.Ordering.{nat_cmp};
 ghost use Rattle.std.specs.Map.{keys_of};
 ghost use Rattle.state_collections.specs.NumberMap.{at_number};
 ghost use Rattle.amqp_session.specs.Ranges.{has};
 ghost use Rattle.router_trace.specs.declared.binding.DeliveryName.{DeliveryName as Name};
+ghost use Rattle.router_trace.specs.declared.binding.DeliveryName.TheVariants.{Row};
 ghost use Rattle.router_trace.specs.Deliveries.{unless_over, unless_called, same_name, bound, after_frame, is_number, is_id, delivery, number_named, sending};
 ghost use Rattle.router_trace.specs.Settling.{is_open_as};
 ghost use Rattle.router_trace.specs.Trace.{Entry, Out, did};
@@ -21,6 +22,8 @@ ghost use Rattle.std.specs.BTreeSet.{contains};
 ghost use Rattle.state_collections.specs.NumberSet.{has as is_marked};
 ghost use Rattle.state_deliveries.specs.Finding.{IsFirst, IsFirstLink, is_above};
 ghost use Rattle.state_deliveries.specs.Touching.{is_touched_in, StandsSame, StoreTouches};
+ghost use Rattle.book_model.specs.declared.act.Act.TheVariants.{Decide};
+ghost use Rattle.state_deliveries.specs.Giving.{after_acts, with_outcome};
 ghost use Rattle.state_deliveries.specs.Hearing.{id_of};
 ghost use Rattle.state_deliveries.specs.Naming.{is_open, is_detached, is_detached_in};
 ghost use Rattle.state_deliveries.specs.Stepping.{after_change, after_any, changed, IsKept};
@@ -31,8 +34,10 @@ use crate::change::{Change, Gone, after_put};
 use crate::delivery::Delivery;
 use crate::index::{Index, Keys, Moved};
 use crate::sets::{after, first};
+use crate::spots::Spot;
 use crate::touched::Touched;
-use amqp_model::{Item, Perf, Transfer};
+use amqp_model::{DeliveryState, Item, Perf, Transfer};
+use book_model::Decision;
 use bytes::Bytes;
 use router_trace::{Binding, ConnectionId, DeliveryName};
 use state_collections::{Boxed, NumberMap};
@@ -309,6 +314,31 @@ impl Store {
         Ok(())
     }
 
+    /// Gives the delivery of a row the outcome that was decided, if it has none. Returns the place of its id, if it was undecided and had one.
+    pub(crate) fn give(&mut self, decision: &Decision) -> Result<Option<Spot>, AllocError>
+        ensures place { IfOk result (λ place. place ≡ (standing (option_and_then (at_number self.old.deliveries) (at_name self.old.by_name (Row decision.now.row)))).durable) }
+        ensures deliveries { OnOk result (((n : ℕ) → IsKept (at_number self.old.deliveries n)) → Indexed self.old
+            → (n : ℕ) → at_number self.new.deliveries n ≡ after_acts (Decide decision.now ∷ []) (at_number self.old.deliveries n)) }
+        ensures indexed { OnOk result (Indexed self.old → Indexed self.new) }
+        ensures touches { OnOk result (StoreTouches self.old self.new) }
+    {
+        let Some(number) = self.by_name.get(DeliveryName::Row(decision.row)) else {
+            return Ok(None);
+        };
+        let mut entries = Moved::new();
+        let found = give_to(
+            &mut self.deliveries,
+            number,
+            &decision.outcome,
+            &mut entries,
+        )?;
+        if !found {
+            return Ok(None);
+        }
+        self.settle(number, &entries)?;
+        Ok(entries.before.durable)
+    }
+
     /// Changes the delivery with a number.
     pub(crate) fn change(&mut self, number: u64, change: &Change) -> Result<(), AllocError>
         ensures deliveries { OnOk result ((n : ℕ) → at_number self.new.deliveries n
@@ -556,6 +586,27 @@ fn change_in(
     let delivery = kept.as_mut();
     entries.note_before(delivery);
     delivery.change(change)?;
+    entries.note_after(delivery);
+    Ok(true)
+}
+
+/// Gives the delivery with a number an outcome, in its place, if it is undecided, and notes its entries; whether there is one.
+fn give_to(
+    deliveries: &mut NumberMap<Boxed<Delivery>>,
+    number: u64,
+    outcome: &DeliveryState,
+    entries: &mut Moved,
+) -> Result<bool, AllocError>
+    ensures deliveries { OnOk result ((n : ℕ) → at_number deliveries.new n
+        ≡ (if number == n then option_map (with_outcome outcome.now) (at_number deliveries.old n) else at_number deliveries.old n)) }
+    ensures found { IfOk result (λ found. (if found then Some entries.new else None) ≡ option_map (λ d. moved (keys d) (with_outcome outcome.now d)) (at_number deliveries.old number)) }
+{
+    let Some(kept) = deliveries.get_mut(number) else {
+        return Ok(false);
+    };
+    let delivery = kept.as_mut();
+    entries.note_before(delivery);
+    delivery.give(outcome)?;
     entries.note_after(delivery);
     Ok(true)
 }

@@ -4,7 +4,7 @@ ghost use Rattle.route_table.specs.Places.{FindsAs};
 ghost use Rattle.router_trace.specs.Trace.{Beginning, Trace};
 ghost use Rattle.router_trace.specs.Configuration.{opened};
 ghost use Rattle.router_trace.specs.Trace.{Entry, Out, did};
-ghost use Rattle.router_trace.specs.Deliveries.{channels_found};
+ghost use Rattle.router_trace.specs.Deliveries.{acts_found, channels_found, giving};
 ghost use Rattle.router_trace.specs.Sessions.{is_channel, maps, theirs};
 ghost use Rattle.router_trace.specs.Settling.{part_at};
 ghost use Rattle.router_trace.specs.declared.event.Event.TheVariants as event;
@@ -16,7 +16,7 @@ ghost use Rattle.state_messages.specs.Fits.{MessagesFit};
 use crate::hearing::receiving;
 use amqp_link::Part;
 use amqp_model::Item;
-use book_model::LinkKey;
+use book_model::{Act, LinkKey};
 use route_table::Table;
 use router_trace::ConnectionId;
 use state_deliveries::Deliveries;
@@ -82,22 +82,24 @@ impl Messages {
     }
 
     /// An item was received on a connection; `own` is the router's channel of its session, if it has one, and `found` the same, unless the event
-    /// ended the connection first. Returns what a transfer makes of its delivery.
+    /// ended the connection first; `acts` are those of the event. Returns what a transfer makes of its delivery.
     pub fn hear(
         &mut self,
         conn: ConnectionId,
         own: Option<u16>,
         found: Option<u16>,
         item: &Item,
+        acts: &[Act],
     ) -> Result<Option<Part>, AllocError>
         ensures part { IfOk result (λ part. (t : List Entry) → MessagesFit self.old t → part ≡ part_at t conn.0 own item.now) }
         ensures fits { OnOk result ((t : List Entry) → ((o : ℕ) → is_channel own o ≡ maps (theirs t conn.0 (channel_of item.now)) o)
             → ((o : ℕ) → is_channel found o ≡ maps (channels_found t conn.0 (channel_of item.now)) o)
+            → giving item.now acts.now ≡ giving item.now (acts_found t)
             → MessagesFit self.old t → MessagesFit self.new (did (event.Item conn item.now) ∷ t)) }
     {
         let link = receiving(&self.links, conn.0, own, item);
         self.incoming.hear(conn, own, item, link)?;
-        self.deliveries.hear(conn, found, item)?;
+        self.deliveries.hear(conn, found, item, acts)?;
         let part = self.links.hear(conn, own, item)?;
         Ok(part)
     }

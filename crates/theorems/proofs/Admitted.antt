@@ -33,7 +33,7 @@ use Rattle.router_trace.specs.Links.{Link, link, link_place, durable_key, free_h
 use Rattle.router_trace.specs.Sessions.{free_channel, theirs}
 use Rattle.router_trace.specs.Settling.{part_of}
 use Rattle.router_trace.specs.Trace.{Entry, Booked, did, step_of}
-use Rattle.state_messages.specs.Messages.{choice_of, consumer_of, binding_to}
+use Rattle.state_messages.specs.Messages.{choice_of, consumer_of, binding_to, lasts}
 use Rattle.reply_rows.specs.declared.answer.Answer.{Answer}
 use Rattle.reply_rows.specs.declared.answer.Answer.TheVariants.{Nothing, Taken}
 use Rattle.reply_rows.specs.Booking.{answer_at}
@@ -81,11 +81,11 @@ failures_of_rows (r ∷ rs) = (refl, failures_of_rows rs)
 start_admits : (b : BookView) → row_in (start_acts b) ≡ None
 start_admits b = ap row_in (sym (append-nil (start_acts b))) ∙ after_rows (start_acts b) [] (failures_of_rows (filter is_lost b.rows))
 
-answer_admits : (b : BookView) (t : List Entry) (e : Event) (y : Answer) → row_in (settles b (decided t e y) (forgotten b t e y)
-    ++ terminus_acts (effects b (settles b (decided t e y) (forgotten b t e y))) (terminus_of_event b t e y)) ≡ None
+answer_admits : (b : BookView) (t : List Entry) (e : Event) (y : Answer) → row_in (settles b (decided b t e y) (forgotten b t e y)
+    ++ terminus_acts (effects b (settles b (decided b t e y) (forgotten b t e y))) (terminus_of_event b t e y)) ≡ None
 answer_admits b t e y =
-    let settled : List Act = settles b (decided t e y) (forgotten b t e y) in
-    after_rows settled (terminus_acts (effects b settled) (terminus_of_event b t e y)) (settled_of_rows b (decided t e y) (forgotten b t e y))
+    let settled : List Act = settles b (decided b t e y) (forgotten b t e y) in
+    after_rows settled (terminus_acts (effects b settled) (terminus_of_event b t e y)) (settled_of_rows b (decided b t e y) (forgotten b t e y))
     ∙ terminus_admits (effects b settled) (terminus_of_event b t e y)
 
 planned_admits : (full : Bool) (b : BookView) (t : List Entry) (e : Event) → row_in (planned_acts full b t e) ≡ None
@@ -177,6 +177,7 @@ record BoundWhole (after : List Entry) (c own handle : ℕ) (d : Told) (row : Op
   format : x.format ≡ unwrap_or d.format 0
   carried : x.payload ≡ payload
   fresh : x.taken_up ≡ None
+  lasting : x.lasting ≡ lasts after x.consumer
 
 whole_is_bound : (after : List Entry) (c own handle : ℕ) (d : Told) (row : Option RowNumber) (payload : List ℕ) (x : Binding) → whole_bound after c own handle d row payload ≡ Some x
     → BoundWhole after c own handle d row payload x
@@ -201,6 +202,7 @@ whole_is_bound after c own handle d row payload x is =
           format = sym (ap (λ (y : Binding). y.format) same);
           carried = sym (ap (λ (y : Binding). y.payload) same);
           fresh = sym (ap (λ (y : Binding). y.taken_up) same);
+          lasting = sym (ap (λ (y : Binding). y.lasting) same) ∙ ap (λ (y : Binding). lasts after y.consumer) same;
         }
 
 -- after the event that completed it
@@ -225,10 +227,14 @@ claimed_after : (acts : List Act) (e : Event) (t : List Entry) (c own handle : �
 claimed_after acts e t c own handle None = refl
 claimed_after acts e t c own handle (Some id) = refl
 
-consumer_after : (acts : List Act) (e : Event) (t : List Entry) (l : Option Link) → consumer_of (did e ∷ Booked acts (due t e) ∷ t) l ≡ consumer_of (without_acts t e) l
+-- (the acts of an attach decide deliveries, but those of an event with a message don't)
+consumer_after : (acts : List Act) (from : ConnectionId) (i : Item) (t : List Entry) (own : ℕ) (d : Told) (payload : List ℕ) → part_of i (link_place t from.0 own) ≡ Some (part.Whole d payload) → (l : Option Link)
+    → consumer_of (did (event.Item from i) ∷ Booked acts (due t (event.Item from i)) ∷ t) l ≡ consumer_of (without_acts t (event.Item from i)) l
 unfolding choice_of
-consumer_after acts e t None = refl
-consumer_after acts e t (Some l) = refl
+consumer_after acts from (item.Frame sasl channel (perf.Transfer x) carried) t own d payload part None = refl
+consumer_after acts from (item.Frame sasl channel (perf.Transfer x) carried) t own d payload part (Some l) = refl
+consumer_after acts from (item.Frame sasl channel body carried) t own d payload part l = absurd (none_not_some (sym (no_part sasl) ∙ part))
+consumer_after acts from _ t own d payload part l = absurd (none_not_some part)
 
 -- the answer to an item after the acts of its event
 pub answer_after : (acts : List Act) (ends : List ℕ) (t : List Entry) (full : Bool) (b : BookView) (c : ℕ) (p : Conn) (i : Item) → answer_at full b (Booked acts ends ∷ t) c p i ≡ answer_at full b t c p i
@@ -247,8 +253,9 @@ admitted_there : (t : List Entry) (e : Event) (c own handle : ℕ) (d : Told) (p
     → CameAt (booked t e) (did e ∷ booked t e) c own handle d x.payload
     → AdmittedWhole (book_in t) (without_acts t e) c own handle d payload y
     → BoundWhole (did e ∷ booked t e) c own handle d (row_found (booked t e)) payload x
+    → consumer_of (did e ∷ booked t e) (link (without_acts t e) c own handle) ≡ consumer_of (without_acts t e) (link (without_acts t e) c own handle)
     → IsAdmitted (did e ∷ booked t e) x row
-admitted_there t e c own handle d payload x row y alone applies number came whole is = record {
+admitted_there t e c own handle d payload x row y alone applies number came whole is chooses = record {
   conn = c;
   own = own;
   handle = handle;
@@ -277,7 +284,7 @@ admitted_there t e c own handle d payload x row y alone applies number came whol
 
     same : whole.at ≡ x.consumer
     same =
-        some_same (sym whole.chosen ∙ sym (consumer_after (acts_of t e) e t (link (without_acts t e) c own handle)) ∙ is.chosen)
+        some_same (sym whole.chosen ∙ sym chooses ∙ is.chosen)
 
 -- it came whole
 came_there : (t : List Entry) (from : ConnectionId) (i : Item) (p : Conn) (own handle : ℕ) (d : Told) (payload : List ℕ)
@@ -328,7 +335,8 @@ whole_row id t from i p own handle d payload x stands answer part is (Some row) 
     subst (λ (w : List Entry). IsAdmitted w x row) (sym same)
     (admitted_there t e from.0 own handle d payload x row y adm.alone adm.applies adm.number
     (subst (λ (bytes : List ℕ). CameAt at (did e ∷ at) from.0 own handle d bytes) (sym now.carried) (came_there t from i p own handle d payload answer part))
-    (whole_admitted b (without_acts t e) from.0 own handle d payload y admitted) now)
+    (whole_admitted b (without_acts t e) from.0 own handle d payload y admitted) now
+    (consumer_after (acts_of t e) from i t own d payload part (link (without_acts t e) from.0 own handle)))
 
 -- where a message that an event binds comes from
 
@@ -378,6 +386,15 @@ bound_fresh id t (event.Item from i) x is =
     (λ p own handle d payload stands answer part is.
     (whole_is_bound (heard id (booked t (event.Item from i)) (step_of (event.Item from i))) from.0 own handle d (row_found (booked t (event.Item from i))) payload x is).fresh) is
 bound_fresh id t _ x is = absurd (none_not_some is)
+
+-- it outlives its consumer's connection if its consumer's link is durable
+pub bound_lasting : (id : List ℕ) (t : List Entry) (e : Event) (x : Binding) → bound_by (booked t e) (heard id (booked t e) (step_of e)) e ≡ Some x
+    → x.lasting ≡ lasts (heard id (booked t e) (step_of e)) x.consumer
+bound_lasting id t (event.Item from i) x is =
+    item_elim id t from i x (x.lasting ≡ lasts (heard id (booked t (event.Item from i)) (step_of (event.Item from i))) x.consumer)
+    (λ p own handle d payload stands answer part is.
+    (whole_is_bound (heard id (booked t (event.Item from i)) (step_of (event.Item from i))) from.0 own handle d (row_found (booked t (event.Item from i))) payload x is).lasting) is
+bound_lasting id t _ x is = absurd (none_not_some is)
 
 pub row_of_bound : (id : List ℕ) (t : List Entry) (e : Event) (x : Binding) → bound_by (booked t e) (heard id (booked t e) (step_of e)) e ≡ Some x → x.row ≡ row_in (acts_of t e)
 row_of_bound id t (event.Item from i) x is =
@@ -439,7 +456,7 @@ item_next id t from i row p own handle d payload adm stands answer part open_end
     let after : List Entry = heard id at (step_of e) in
     let answered : answer_of at from.0 p i ≡ Taken own handle =
     answer_after (acts_of t e) (due t e) t full b from.0 p i ∙ ap (λ (f : Bool). answer_at f b t from.0 p i) adm.room ∙ answer in
-    let chosen : consumer_of u (link u from.0 own handle) ≡ Some whole.at = consumer_after (acts_of t e) e t (link (without_acts t e) from.0 own handle) ∙ whole.chosen in
+    let chosen : consumer_of u (link u from.0 own handle) ≡ Some whole.at = consumer_after (acts_of t e) from i t own d payload part (link (without_acts t e) from.0 own handle) ∙ whole.chosen in
     record {
       binding = binding_to u (option_map (origin_of (from_link from.0 own handle there.0)) (claimed_id u from.0 own handle d.id)) (Some row) (unwrap_or d.format 0) payload whole.at;
       is =

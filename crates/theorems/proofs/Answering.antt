@@ -286,11 +286,39 @@ origin_is : (o : Option Origin) (p : Origin) → either_origin o None ≡ Some p
 origin_is None p is = absurd (none_not_some is)
 origin_is (Some q) p is = is
 
+-- the row of a message that the event before admitted
+pub record AdmittedRow (u : Trace) (r : RowNumber) (x : Admission) : Type 0 where
+  pub known : r.0 < (book_in u).next_row
+  pub found : row_at r.0 (book_in u).rows ≡ Some (admitted x)
+
+pub admitted_row : (u : Trace) (b : Binding) (r : RowNumber) (adm : IsAdmitted u b r) → IsOrdered (book_in u) → AdmittedRow u r adm.admission
+admitted_row u b r adm ordered = record {
+  known = subst (λ (c : BookView). r.0 < c.next_row) (sym now) (under r.0 before.next_row adm.is_next);
+  found =
+      ap (λ (c : BookView). row_at r.0 c.rows) now
+      ∙ ap (λ (k : RowNumber). row_at k.0 (effect before (Admit x)).rows) (sym adm.number) ∙ found_new before.rows (admitted x) below;
+}
+  where
+    before : BookView
+    before = book_in adm.before
+
+    x : Admission
+    x = adm.admission
+
+    now : book_in u ≡ effect before (Admit x)
+    now = (since u adm.came.handled 0 adm.came.just).book ∙ ap book_in adm.acts ∙ one_effect before (Admit x)
+
+    under : (r n : ℕ) → r ≡ n → r < n + 1
+    under r n e = omega (arith, e)
+
+    below : AllBelow number_of_row x.row.0 before.rows
+    below = rises_last before.rows (admitted x) (let P : BookView → Type 0 = λ c. Rises number_of_row c.rows in subst P now ordered.rows_rise)
+
 row_fact : (u : Trace) (b : Binding) (r : RowNumber) → b.taken_up ≡ None → IsAdmitted u b r → IsOrdered (book_in u) → RowFact u (book_in u) r (bound (name_in u b) b)
 row_fact u b r fresh adm ordered = record {
   settled = unsettled b.origin adm.producer;
-  known = subst (λ (c : BookView). r.0 < c.next_row) (sym now) (under r.0 before.next_row adm.is_next);
-  agrees = subst (λ (v : Option ARow). Agrees u (book_in u) v (bound (name_in u b) b)) (sym there) (record {
+  known = (admitted_row u b r adm ordered).known;
+  agrees = subst (λ (v : Option ARow). Agrees u (book_in u) v (bound (name_in u b) b)) (sym (admitted_row u b r adm ordered).found) (record {
     outcome = λ p from. ap (λ (up : Option TakenUp). option_map kept_form (brought (λ v. outcome_as v.how) up)) (sym fresh);
     form = λ p from. refl;
     waits = λ p from. refl;
@@ -310,17 +338,6 @@ row_fact u b r fresh adm ordered = record {
     unsettled : (o : Option Origin) → IsFromTerminus o u before x.producer → (is_none o && is_none b.taken_up) ≡ false
     unsettled None is = absurd is
     unsettled (Some p) is = refl
-
-    under : (r n : ℕ) → r ≡ n → r < n + 1
-    under r n e = omega (arith, e)
-
-    below : AllBelow number_of_row x.row.0 before.rows
-    below = rises_last before.rows (admitted x) (let P : BookView → Type 0 = λ c. Rises number_of_row c.rows in subst P now ordered.rows_rise)
-
-    there : row_at r.0 (book_in u).rows ≡ Some (admitted x)
-    there =
-        ap (λ (c : BookView). row_at r.0 c.rows) now
-        ∙ ap (λ (k : RowNumber). row_at k.0 (effect before (Admit x)).rows) (sym adm.number) ∙ found_new before.rows (admitted x) below
 
     role : has_role Producer (terminus_at x.producer.0 before.termini) ≡ true
     role = holds (has_role Producer (terminus_at x.producer.0 before.termini)) NoTerminus _ adm.applies

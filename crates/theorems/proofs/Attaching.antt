@@ -88,7 +88,7 @@ not_on w c own handle a l none there = by ((a.conn.0 == c) && ((own == a.channel
         ap (λ (k : ℕ). link w k a.channel a.handle) (eqb-true a.conn.0 c e.0) ∙ ap (λ (k : ℕ). link w c k a.handle) (sym (eqb-true own a.channel e.1)) ∙ ap (λ (k : ℕ). link w c own k) (sym (eqb-true handle a.handle e.2)) in
         absurd (none_not_some (sym none ∙ sym same ∙ there))
 
-attached_link : (a : Attachment) (v : Option Link) → has_number a.number v ≡ true → (l : Link) × (v ≡ Some l) × (l.number ≡ a.number)
+pub attached_link : (a : Attachment) (v : Option Link) → has_number a.number v ≡ true → (l : Link) × (v ≡ Some l) × (l.number ≡ a.number)
 attached_link a None h = absurd (clash (sym h))
 attached_link a (Some l) h = (l, refl, eqb-true l.number a.number h)
 
@@ -195,20 +195,20 @@ put_answer w c own largest ours a k keyed none came was = by (free_handle w c ow
 
 -- the link that held the key
 
-held_is : (w : Trace) (v : Option Attachment) (x : Attachment) → if_attached w v ≡ Some x → (v ≡ Some x) × (is_attached w x ≡ true)
+pub held_is : (w : Trace) (v : Option Attachment) (x : Attachment) → if_attached w v ≡ Some x → (v ≡ Some x) × (is_attached w x ≡ true)
 held_is w None x is = absurd (none_not_some is)
 held_is w (Some y) x is =
     by_test (is_attached w y)
     (λ e. let same : Some y ≡ Some x = rw e at is in (same, subst (λ (z : Attachment). is_attached w z ≡ true) (some_same same) e))
     (λ e. absurd (none_not_some (rw e at is)))
 
-held_where : (w : Trace) (v : Option Attachment) (x : Attachment) → v ≡ Some x → is_attached w x ≡ true → if_attached w v ≡ Some x
+pub held_where : (w : Trace) (v : Option Attachment) (x : Attachment) → v ≡ Some x → is_attached w x ≡ true → if_attached w v ≡ Some x
 held_where w v x is here = ap (if_attached w) is ∙ ap (λ (b : Bool). if b then Some x else None) here
 
-numbered_link : (n : ℕ) (v : Option Link) (l : Link) → v ≡ Some l → l.number ≡ n → has_number n v ≡ true
+pub numbered_link : (n : ℕ) (v : Option Link) (l : Link) → v ≡ Some l → l.number ≡ n → has_number n v ≡ true
 numbered_link n v l is number = subst (λ (w : Option Link). has_number n w ≡ true) (sym is) (eq-eqb l.number n number)
 
-detached_none : (u : Trace) (x : Attachment) (closed : Bool) (e : Option Condition) → link (Out x.conn.0 (detach_item x.channel x.handle closed e) ∷ u) x.conn.0 x.channel x.handle ≡ None
+pub detached_none : (u : Trace) (x : Attachment) (closed : Bool) (e : Option Condition) → link (Out x.conn.0 (detach_item x.channel x.handle closed e) ∷ u) x.conn.0 x.channel x.handle ≡ None
 detached_none u x closed e = rw (eq-eqb x.conn.0 x.conn.0 refl, eq-eqb x.channel x.channel refl, eq-eqb x.handle x.handle refl) refl
 
 pub taken_kept : (t u : Trace) (c own : ℕ) (ours : List UnsettledDelivery) (a : AnAttach) → AttachAt t u c a → Kept u (stolen_from (holder t (wanted_key t c a)))

@@ -6,7 +6,7 @@ use Rattle.router_trace.specs.declared.binding.Binding.{Binding}
 use Rattle.router_trace.specs.declared.binding.DeliveryName.{DeliveryName}
 use Rattle.router_trace.specs.declared.binding.Origin.{Origin}
 use Rattle.router_trace.specs.Trace.{Entry, Did, Out, Took, Bound, Booked, Began, is_opening, IsOneRun}
-use Rattle.router_trace.specs.Deliveries.{Delivery, has_row, bound, bindings, name_in, number_named, delivery, sending, named, is_over, unless_over, after_put, after_event, channels_found}
+use Rattle.router_trace.specs.Deliveries.{Delivery, has_row, bound, bindings, name_in, number_named, delivery, sending, named, is_over, unless_over, after_put, after_event, channels_found, acts_found}
 use Rattle.theorems.specs.Each.{EachBound}
 use Rattle.theorems.specs.OneConsumer.{IsOrNone, IsOf, WhileThere, IsOfMessage}
 use Rattle.state_connections.proofs.Lists.{by_test}
@@ -69,9 +69,9 @@ later_message x t n d e one was follows = record {
 pub of_messages : (u : List Entry) (n : ℕ) (d : Delivery) → delivery u n ≡ Some d → IsOfMessage u n d
 of_messages [] n d h = absurd cc
 of_messages (Did s ∷ t) n d h =
-    let was = of_what (after_event s.event (channels_found t) (named t) n) (delivery t n) d h
+    let was = of_what (after_event s.event (channels_found t) (named t) (acts_found t) n) (delivery t n) d h
     in later_message (Did s) t n was.0 d refl (of_messages t n was.0 was.1)
-    (subst (λ (e : Delivery). Follows was.0 e) (sym was.2) (event_follows s.event (channels_found t) (named t) n was.0))
+    (subst (λ (e : Delivery). Follows was.0 e) (sym was.2) (event_follows s.event (channels_found t) (named t) (acts_found t) n was.0))
 of_messages (Out c i ∷ t) n d h =
     let was = of_what (after_put (number_named t) i c n (sending t c)) (delivery t n) d h
     in later_message (Out c i) t n was.0 d refl (of_messages t n was.0 was.1)

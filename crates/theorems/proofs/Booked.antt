@@ -1,13 +1,15 @@
 -- The acts of an event make of the book what its changes will make of the deliveries.
-use Rattle.std.proofs.Common.{◌≡◌, ◌∙◌, sym, ap, refl, subst, ℕ, ◌≤◌, ◌<◌, Bool, true, false, not, ◌&&◌, List, [], ◌∷◌, ◌++◌, arith, append_assoc}
+use Rattle.std.proofs.Common.{◌≡◌, ◌∙◌, sym, ap, refl, subst, ℕ, ◌≤◌, ◌<◌, Bool, true, false, not, ◌&&◌, List, [], ◌∷◌, ◌++◌, arith, append_assoc, append-nil, ◌⊎◌, inl, inr}
 use Rattle.std.specs.Prelude.{Option, Some, None, map, is_some, is_none, option_map, if◌then◌else◌}
 use Rattle.std.specs.Option.{option_and_then}
 use Rattle.std.proofs.lemmas.Bool.{eqb-true, eq-eqb}
 use Rattle.amqp_model.specs.declared.perf.Attach.{Attach as AnAttach}
+use Rattle.amqp_model.specs.declared.perf.Perf.{Perf}
 use Rattle.amqp_model.specs.declared.perf.Perf.TheVariants as perf
 use Rattle.amqp_model.specs.declared.state.DeliveryState.{DeliveryState}
 use Rattle.amqp_model.specs.declared.item.Item.{Item}
 use Rattle.amqp_model.specs.declared.item.Item.TheVariants as item
+use Rattle.amqp_conn.specs.declared.conn.Conn.{Conn}
 use Rattle.book_model.specs.declared.act.Act.{Act}
 use Rattle.book_model.specs.declared.act.Admission.{Admission}
 use Rattle.book_model.specs.declared.act.Decision.{Decision}
@@ -27,11 +29,12 @@ use Rattle.journal_store.proofs.Settled.{settles_leave}
 use Rattle.journal_store.proofs.Started.{start_applies}
 use Rattle.router_trace.specs.declared.binding.DeliveryName.TheVariants.{Row}
 use Rattle.router_trace.specs.declared.binding.Origin.{Origin}
+use Rattle.router_trace.specs.declared.event.ConnectionId.{ConnectionId}
 use Rattle.router_trace.specs.declared.event.Event.{Event}
 use Rattle.router_trace.specs.declared.event.Event.TheVariants as event
-use Rattle.router_trace.specs.Connection.{due}
+use Rattle.router_trace.specs.Connection.{standing, found, due}
 use Rattle.router_trace.specs.DeliveryFrames.{kept_outcome}
-use Rattle.router_trace.specs.Deliveries.{Delivery, source, delivery, is_undecided}
+use Rattle.router_trace.specs.Deliveries.{Delivery, source, delivery, is_undecided, outcome_or, outcome_among, outcome_named, given}
 use Rattle.router_trace.specs.Following.{link_of}
 use Rattle.router_trace.specs.Links.{link, holder, durable_key}
 use Rattle.router_trace.specs.declared.handle.Attachment.{Attachment}
@@ -39,22 +42,25 @@ use Rattle.router_trace.specs.Trace.{Trace, Booked}
 use Rattle.state_deliveries.specs.declared.change.Change.{Change}
 use Rattle.state_deliveries.specs.declared.change.Change.TheVariants as change
 use Rattle.state_deliveries.specs.declared.change.Gone.TheVariants as gone
-use Rattle.state_deliveries.specs.Deciding.{changed_by}
+use Rattle.state_deliveries.specs.Deciding.{changed_by, decided_rows}
 use Rattle.state_deliveries.specs.Hearing.{disposed_change}
 use Rattle.state_deliveries.specs.Stepping.{is_gone, changed}
 use Rattle.reply_rows.specs.declared.answer.Answer.{Answer}
 use Rattle.reply_rows.specs.declared.answer.Answer.TheVariants.{Attach, Detach}
 use Rattle.reply_rows.specs.Booking.{wanted_key, wants_durable}
-use Rattle.router_reply.specs.Acts.{event_answer, answer_acts, planned_acts, admitted_acts, or_admits, event_acts, finds_full, journaled, book_in, acts_of}
+use Rattle.router_reply.specs.Acts.{live_answer, event_answer, answer_acts, planned_acts, admitted_acts, or_admits, event_acts, finds_full, journaled, book_in, acts_of}
 use Rattle.router_reply.specs.Admitting.{event_admission, admits}
-use Rattle.router_reply.specs.Deciding.{lost, listed, ended_by, stolen_from, session_found, event_changes, decided as decided_in, sent_by, sent_from, closed_terminus, resumed_terminus, forgotten as forgotten_at, terminus_of_event}
+use Rattle.router_reply.specs.Asking.{resumed_key, attach_in, map_decides}
+use Rattle.router_reply.specs.Deciding.{as_kept, lost, listed, ended_by, stolen_from, session_found, event_changes, decided as decided_in, sent_by, sent_from, closed_terminus, resumed_terminus, forgotten as forgotten_at, terminus_of_event}
 use Rattle.theorems.proofs.Applying.{settled_apply, admission_applies, ordered_after}
-use Rattle.theorems.proofs.Changing.{Leaves, leaves_by}
-use Rattle.theorems.proofs.Decisions.{decided_of, settled_is_done, among_rows}
+use Rattle.theorems.proofs.Changing.{Leaves, leaves_by, undecided_is}
+use Rattle.theorems.proofs.Decisions.{decided_of, none_for, either_for, settled_is_done, among_rows}
 use Rattle.theorems.proofs.Ended.{IsEnded, ended_by_all, event_gives}
-use Rattle.theorems.proofs.Facts.{IsKeptForm, IsHeld, Agrees, RowFact, Facts}
+use Rattle.theorems.proofs.Facts.{FromTerminus, IsKeptForm, IsHeld, Agrees, RowFact, Facts, FactsOf}
+use Rattle.theorems.proofs.Giving.{row_given, acts_give, map_form, kept_is_form}
+use Rattle.theorems.proofs.Hearing.{gives}
 use Rattle.theorems.proofs.KeptForm.{kept_form, kept_twice}
-use Rattle.theorems.proofs.Looking.{found_number}
+use Rattle.theorems.proofs.Looking.{found_number, found_below}
 use Rattle.theorems.proofs.Settling.{settled, settled_row, found_at_number, found_key, Stays, stays_it, terminus_stays, admission_stays}
 use Rattle.theorems.proofs.Standing.{Standing, one_place, holds_key}
 use Rattle.theorems.proofs.Tests.{some_same, none_not_some}
@@ -178,12 +184,12 @@ decided_number ds row x is = by (is_open_row row) (outcome_for row.number.0 ds) 
     by true (Some s) is = made s row.forgotten is
     by false o is = same row is refl
 
-settle_step : (t : Trace) (b : BookView) (ds : List Decision) (numbers : List RowNumber) (r : ℕ) (v : Option ARow) (d e : Delivery) → Leaves d e → d.presettled ≡ false
-    → ((row : ARow) → v ≡ Some row → row.number.0 ≡ r) → outcome_for r ds ≡ option_map kept_outcome (if is_undecided d then e.outcome else None)
-    → (d.outcome ≡ None → IsEnded e.outcome) → (is_among r numbers ≡ true → (p : Origin) → source e ≡ Some p → ⊥) → Agrees t b v d → Agrees t b (settled ds numbers v) e
-settle_step t b ds numbers r None d e leaves open_one number outcome ended done was = λ p from. was p (leaves.comes p from)
-settle_step t b ds numbers r (Some row) d e leaves open_one number outcome ended done was =
-    by (decided_by ds row) refl (decide_step t b ds r row d e leaves open_one (number row refl) outcome ended was)
+settle_step : (t : Trace) (b : BookView) (ds : List Decision) (numbers : List RowNumber) (r : ℕ) (v : Option ARow) (d e : Delivery) → ((p : Origin) → source e ≡ Some p → source d ≡ Some p)
+    → ((row : ARow) → v ≡ Some row → row.number.0 ≡ r) → ((row : ARow) → v ≡ Some row → IsHeld t b row d → Agrees t b (decided_by ds row) e)
+    → (is_among r numbers ≡ true → (p : Origin) → source e ≡ Some p → ⊥) → Agrees t b v d → Agrees t b (settled ds numbers v) e
+settle_step t b ds numbers r None d e comes number decides done was = λ p from. was p (comes p from)
+settle_step t b ds numbers r (Some row) d e comes number decides done was =
+    by (decided_by ds row) refl (decides row refl was)
   where
     by : (o : Option ARow) → decided_by ds row ≡ o → Agrees t b o e → Agrees t b (option_and_then (forgotten_by numbers) o) e
     by None is agrees = agrees
@@ -258,21 +264,30 @@ changed_more : (xs ys : List Change) (d : Delivery) → changed_by (xs ++ ys) d 
 changed_more [] ys d = refl
 changed_more (x ∷ xs) ys d = changed_more xs ys (changed x d)
 
+-- what the book has of the producer of a row that it isn't done with
+abbrev IsFrom : Trace → BookView → Option ARow → Delivery → Type 0
+IsFrom t b None d = Unit {0}
+IsFrom t b (Some row) d = (p : Origin) → source d ≡ Some p → FromTerminus t b p row.producer.0
+
+is_from_one : (t : Trace) (b : BookView) (v : Option ARow) (d : Delivery) → Agrees t b v d → IsFrom t b v d
+is_from_one t b None d agrees = tt
+is_from_one t b (Some row) d agrees = agrees.from
+
 -- a producer that isn't done with a row of a terminus has a durable link with the terminus' key
-sent_by_key : (t : Trace) (b : BookView) (d : Delivery) (r : RowNumber) (key : LinkKey) (x : Terminus) → IsOrdered b → Agrees t b (row_at r.0 b.rows) d → terminus_of key b.termini ≡ Some x
+sent_by_key : (t : Trace) (b : BookView) (d : Delivery) (r : RowNumber) (key : LinkKey) (x : Terminus) → IsOrdered b → IsFrom t b (row_at r.0 b.rows) d → terminus_of key b.termini ≡ Some x
     → (role : LinkRole) → is_among r.0 (sent_by b role x.number.0) ≡ true → (p : Origin) → source d ≡ Some p → durable_key (link_of t p.link) ≡ Some key
 sent_by_key t b d r key x ordered agrees found Consumer among p from = absurd (clash among)
 sent_by_key t b d r key x ordered agrees found Producer among p from =
     let rows = among_rows r.0 (is_from x.number.0) b.rows ordered.rows_rise among in
-    let held : IsHeld t b rows.0 d = subst (λ (v : Option ARow). Agrees t b v d) rows.1 agrees in
-    let at = held.from p from in
+    let held : IsFrom t b (Some rows.0) d = subst (λ (v : Option ARow). IsFrom t b v d) rows.1 agrees in
+    let at = held p from in
     let same_number : at.at.number.0 ≡ x.number.0 = at.number ∙ eqb-true rows.0.producer.0 x.number.0 rows.2 in
     let one : at.at ≡ x = some_same (sym (found_at_number at.key b.termini at.at ordered.termini_rise at.found)
     ∙ ap (λ (m : ℕ). terminus_at m b.termini) same_number ∙ found_at_number key b.termini x ordered.termini_rise found) in
     let keys : at.key ≡ key = sym (found_key at.key b.termini at.at at.found) ∙ ap (λ (y : Terminus). y.key) one ∙ found_key key b.termini x found in
     at.durable ∙ ap (λ (k : LinkKey). Some k) keys
 
-closed_is_done : (t : Trace) (b : BookView) (n : ℕ) (d : Delivery) (r : RowNumber) (c : ℕ) (answer : Answer) (first : List Change) (i : Item) → Standing t → IsOrdered b → Agrees t b (row_at r.0 b.rows) d
+closed_is_done : (t : Trace) (b : BookView) (n : ℕ) (d : Delivery) (r : RowNumber) (c : ℕ) (answer : Answer) (first : List Change) (i : Item) → Standing t → IsOrdered b → IsFrom t b (row_at r.0 b.rows) d
     → is_among r.0 (sent_from b (closed_terminus b t c answer)) ≡ true → (p : Origin) → source (changed_by (first ++ ended_by t c i answer) d) ≡ Some p → ⊥
 closed_is_done t b n d r c (Detach own handle true None) first i standing ordered agrees among p from =
     by_key (durable_key (link t c own handle)) refl among
@@ -309,7 +324,7 @@ closed_is_done t b n d r c _ first i standing ordered agrees among p from = clas
 
 -- nor is a producer whose link takes a terminus up again: it takes the place of the older link
 resumed_is_done : (t : Trace) (b : BookView) (d : Delivery) (r : RowNumber) (c channel : ℕ) (a : AnAttach) (payload : List ℕ) (answer : Answer) (first : List Change) → Standing t → IsOrdered b
-    → Agrees t b (row_at r.0 b.rows) d → is_among r.0 (sent_from b (resumed_terminus b t c a answer)) ≡ true
+    → IsFrom t b (row_at r.0 b.rows) d → is_among r.0 (sent_from b (resumed_terminus b t c a answer)) ≡ true
     → (p : Origin) → source (changed_by (first ++ ended_by t c (item.Frame false channel (perf.Attach a) payload) answer) d) ≡ Some p → ⊥
 resumed_is_done t b d r c channel a payload (Attach own) first standing ordered agrees among p from = by_wish (wants_durable a) among
   where
@@ -341,7 +356,7 @@ resumed_is_done t b d r c channel a payload (Attach own) first standing ordered 
     by_wish false among = clash among
 resumed_is_done t b d r c channel a payload _ first standing ordered agrees among p from = clash among
 
-forgotten_is_done : (t : Trace) (b : BookView) (n : ℕ) (d : Delivery) (r : RowNumber) (e : Event) (answer : Answer) → Standing t → IsOrdered b → Agrees t b (row_at r.0 b.rows) d
+forgotten_is_done : (t : Trace) (b : BookView) (n : ℕ) (d : Delivery) (r : RowNumber) (e : Event) (answer : Answer) → Standing t → IsOrdered b → IsFrom t b (row_at r.0 b.rows) d
     → delivery t n ≡ Some d → d.name ≡ Row r → is_among r.0 (forgotten_at b t e answer) ≡ true → (p : Origin) → source (changed_by (event_changes t e answer) d) ≡ Some p → ⊥
 forgotten_is_done t b n d r (event.Item c (item.Frame false channel (perf.Disposition x) payload)) answer standing ordered agrees there name among p from =
     let i : Item = item.Frame false channel (perf.Disposition x) payload in
@@ -363,20 +378,30 @@ forgotten_is_done t b n d r _ answer standing ordered agrees there name among p 
 abbrev IsPlanned : Bool → Trace → Event → Type 0
 IsPlanned full t e = planned_acts full (book_in t) t e ≡ answer_acts (book_in t) t e (event_answer full (book_in t) t e)
 
-facts_after : (full : Bool) (t : Trace) (e : Event) → IsPlanned full t e → Standing t → IsOrdered (book_in t) → Facts t []
-    → Facts (Booked (event_acts full (book_in t) t e) (due t e) ∷ t) (event_changes t e (event_answer full (book_in t) t e))
-facts_after full t e planned standing ordered was n d r there name =
+-- the change of a delivery before the event's own changes leaves its producer
+record Before (d e : Delivery) : Type 0 where
+  settled : e.presettled ≡ d.presettled
+  comes : (p : Origin) → source e ≡ Some p → source d ≡ Some p
+
+facts_with : (full : Bool) (t : Trace) (e : Event) (g : Delivery → Delivery) → IsPlanned full t e → IsOrdered (book_in t) → ((d : Delivery) → Before d (g d))
+    → ((n : ℕ) (d : Delivery) (r : RowNumber) → delivery t n ≡ Some d → d.name ≡ Row r → d.presettled ≡ false → (row : ARow) → row_at r.0 (book_in t).rows ≡ Some row → IsHeld t (book_in t) row d
+    → Agrees t (book_in t) (decided_by (decided_in (book_in t) t e (event_answer full (book_in t) t e)) row) (changed_by (event_changes t e (event_answer full (book_in t) t e)) (g d)))
+    → ((n : ℕ) (d : Delivery) (r : RowNumber) → delivery t n ≡ Some d → d.name ≡ Row r → IsFrom t (book_in t) (row_at r.0 (book_in t).rows) d
+    → is_among r.0 (forgotten_at (book_in t) t e (event_answer full (book_in t) t e)) ≡ true → (p : Origin)
+    → source (changed_by (event_changes t e (event_answer full (book_in t) t e)) (g d)) ≡ Some p → ⊥)
+    → Facts t [] → FactsOf (Booked (event_acts full (book_in t) t e) (due t e) ∷ t) g (event_changes t e (event_answer full (book_in t) t e))
+facts_with full t e g planned ordered before decides done was n d r there name =
     let fact : RowFact t b r d = was n d r there name in
-    let leaves : Leaves d after = leaves_by xs d in
+    let leaves : Leaves (g d) after = leaves_by xs (g d) in
     let first : Agrees t b (settled ds numbers (row_at r.0 b.rows)) after =
-    settle_step t b ds numbers r.0 (row_at r.0 b.rows) d after leaves fact.settled (numbered_in b r) (decided_of t n d r xs there name)
-    (λ none. ended_by_all xs d (event_gives t e answer) (subst IsEnded (sym none) tt)) (forgotten_is_done t b n d r e answer standing ordered fact.agrees there name) fact.agrees in
+    settle_step t b ds numbers r.0 (row_at r.0 b.rows) d after (λ p from. (before d).comes p (leaves.comes p from)) (numbered_in b r) (decides n d r there name fact.settled)
+    (done n d r there name (is_from_one t b (row_at r.0 b.rows) d fact.agrees)) fact.agrees in
     let next : Agrees t between (settled ds numbers (row_at r.0 b.rows)) after =
     termini_step t b between (settled ds numbers (row_at r.0 b.rows)) after (ap (λ (x : BookView). x.termini) left.is) first in
     let found : row_at r.0 between.rows ≡ settled ds numbers (row_at r.0 b.rows) = settled_row b ds numbers r.0 ordered in
     let low : r.0 < between.next_row = subst (λ (x : BookView). r.0 < x.next_row) (sym left.is) fact.known in
     record {
-      settled = leaves.settled ∙ fact.settled;
+      settled = leaves.settled ∙ (before d).settled ∙ fact.settled;
       known = under r.0 between.next_row c.next_row low stays.next;
       agrees = subst (λ (v : Option ARow). Agrees (Booked acts (due t e) ∷ t) c v after) (sym (stays.rows r.0 low ∙ found))
           (book_step t acts (due t e) between c r.0 (settled ds numbers (row_at r.0 b.rows)) after found stays next);
@@ -392,10 +417,10 @@ facts_after full t e planned standing ordered was n d r there name =
     xs = event_changes t e answer
 
     after : Delivery
-    after = changed_by xs d
+    after = changed_by xs (g d)
 
     ds : List Decision
-    ds = decided_in t e answer
+    ds = decided_in b t e answer
 
     numbers : List RowNumber
     numbers = forgotten_at b t e answer
@@ -420,6 +445,269 @@ facts_after full t e planned standing ordered was n d r there name =
     under : (r k n : ℕ) → r < k → k ≤ n → r < n
     under r k n low most = omega (arith, low, most)
 
+-- of an event whose item is no attach: its changes decide all that its acts do
+facts_after : (full : Bool) (t : Trace) (e : Event) → IsPlanned full t e → map_decides (book_in t) t e (event_answer full (book_in t) t e) ≡ [] → Standing t → IsOrdered (book_in t) → Facts t []
+    → Facts (Booked (event_acts full (book_in t) t e) (due t e) ∷ t) (event_changes t e (event_answer full (book_in t) t e))
+facts_after full t e planned unmapped standing ordered was =
+    facts_with full t e (λ d. d) planned ordered (λ d. record { settled = refl; comes = λ p from. from }) decides
+    (λ n d r there name from among. forgotten_is_done t b n d r e answer standing ordered from there name among) was
+  where
+    b : BookView
+    b = book_in t
+
+    answer : Answer
+    answer = event_answer full b t e
+
+    xs : List Change
+    xs = event_changes t e answer
+
+    rows : List Decision
+    rows = map as_kept (decided_rows t xs)
+
+    decides : (n : ℕ) (d : Delivery) (r : RowNumber) → delivery t n ≡ Some d → d.name ≡ Row r → d.presettled ≡ false → (row : ARow) → row_at r.0 b.rows ≡ Some row → IsHeld t b row d
+        → Agrees t b (decided_by (decided_in b t e answer) row) (changed_by xs d)
+    decides n d r there name settled row found held =
+        subst (λ (ds : List Decision). Agrees t b (decided_by ds row) (changed_by xs d)) (sym (append-nil rows) ∙ ap (λ (ms : List Decision). rows ++ ms) (sym unmapped))
+        (decide_step t b rows r.0 row d (changed_by xs d) (leaves_by xs d) settled (numbered_in b r row found) (decided_of t n d r xs there name)
+        (λ none. ended_by_all xs d (event_gives t e answer) (subst IsEnded (sym none) tt)) held)
+
+-- Of one with an attach: its entry gives each delivery what its acts give its row, before its changes. So these decide no row any more.
+
+one_given : (acts : List Act) (d : Delivery) (r : RowNumber) (v : Option DeliveryState) → d.name ≡ Row r → d.outcome ≡ None → outcome_among acts r ≡ v → (given acts d).outcome ≡ v
+one_given acts d r v name none is =
+    ap (λ (o : Option DeliveryState). outcome_or o (outcome_named acts d.name)) none ∙ ap (outcome_named acts) name ∙ is
+
+none_given : (acts : List Act) (d : Delivery) (r : RowNumber) → d.name ≡ Row r → d.outcome ≡ None → outcome_among acts r ≡ None → given acts d ≡ d
+none_given acts d r name none is = ap (λ (o : Option DeliveryState). record d { outcome = o }) (one_given acts d r None name none is ∙ sym none)
+
+attach_step : (t : Trace) (b : BookView) (acts : List Act) (ds : List Decision) (xs : List Change) (r : RowNumber) (row : ARow) (d : Delivery) → d.name ≡ Row r → row.number.0 ≡ r.0
+    → outcome_among acts r ≡ row_given ds (Some row) → (d.outcome ≡ None → outcome_for r.0 ds ≡ None → (changed_by xs d).outcome ≡ None)
+    → ((s : DeliveryState) → outcome_for r.0 ds ≡ Some s → kept_form (journal_outcome s) ≡ journal_outcome s) → IsHeld t b row d → Agrees t b (decided_by ds row) (changed_by xs (given acts d))
+attach_step t b acts ds xs r row d name number gives quiet form held = by_source (source e) refl
+  where
+    e : Delivery
+    e = changed_by xs (given acts d)
+
+    leaves : Leaves (given acts d) e
+    leaves = leaves_by xs (given acts d)
+
+    named : outcome_for row.number.0 ds ≡ outcome_for r.0 ds
+    named = ap (λ (n : ℕ). outcome_for n ds) number
+
+    stays : (p : Origin) → source d ≡ Some p → (o : Option DeliveryState) → row.outcome ≡ option_map kept_form o → e.outcome ≡ o → Agrees t b (Some row) e
+    stays p from o had same = record {
+      outcome = λ q comes. had ∙ ap (option_map kept_form) (sym same);
+      form = λ q comes. held.form q (leaves.comes q comes);
+      waits = λ q comes. held.waits q (leaves.comes q comes);
+      from = λ q comes. held.from q (leaves.comes q comes);
+    }
+
+    -- it is decided now
+    now : (s : DeliveryState) → kept_form (journal_outcome s) ≡ journal_outcome s → e.outcome ≡ Some (journal_outcome s) → Agrees t b (decided (journal_outcome s) row) e
+    now s kept is = gone_or_not row.forgotten refl
+      where
+        gone_or_not : (f : Bool) → row.forgotten ≡ f → Agrees t b (if f then None else Some (record row { outcome = Some (journal_outcome s) })) e
+        gone_or_not true f = λ p from. clash (sym (held.waits p (leaves.comes p from)) ∙ f)
+        gone_or_not false f = record {
+          outcome = λ q comes. ap (λ (x : DeliveryState). Some x) (sym kept) ∙ ap (option_map kept_form) (sym is);
+          form = λ q comes. ap (λ (x : DeliveryState). Some x) (sym kept);
+          waits = λ q comes. f;
+          from = λ q comes. held.from q (leaves.comes q comes);
+        }
+
+    open_one : d.outcome ≡ None → row.outcome ≡ None → (o : Option DeliveryState) → outcome_for r.0 ds ≡ o → (p : Origin) → source d ≡ Some p → Agrees t b (decided_to o row) e
+    open_one none open_row None is p from =
+        let nothing : outcome_among acts r ≡ None =
+        gives ∙ ap (λ (q : Bool). if q then option_map journal_outcome (outcome_for row.number.0 ds) else None) (ap is_none open_row) ∙ ap (option_map journal_outcome) (named ∙ is) in
+        stays p from None open_row (ap (λ (x : Delivery). (changed_by xs x).outcome) (none_given acts d r name none nothing) ∙ quiet none is)
+    open_one none open_row (Some s) is p from =
+        let something : outcome_among acts r ≡ Some (journal_outcome s) =
+        gives ∙ ap (λ (q : Bool). if q then option_map journal_outcome (outcome_for row.number.0 ds) else None) (ap is_none open_row) ∙ ap (option_map journal_outcome) (named ∙ is) in
+        now s (form s is) (leaves.stays (journal_outcome s) (one_given acts d r (Some (journal_outcome s)) name none something))
+
+    decided_row : (o : Option DeliveryState) → d.outcome ≡ o → (p : Origin) → source d ≡ Some p → Agrees t b (decided_by ds row) e
+    decided_row (Some s) is p from =
+        subst (λ (q : Bool). Agrees t b (if q then decided_to (outcome_for row.number.0 ds) row else Some row) e) (sym (ap is_none (held.outcome p from ∙ ap (option_map kept_form) is)))
+        (stays p from (Some s) (held.outcome p from ∙ ap (option_map kept_form) is) (leaves.stays s (ap (λ (o : Option DeliveryState). outcome_or o (outcome_named acts d.name)) is)))
+    decided_row None is p from =
+        let open_row : row.outcome ≡ None = held.outcome p from ∙ ap (option_map kept_form) is in
+        subst (λ (q : Bool). Agrees t b (if q then decided_to (outcome_for row.number.0 ds) row else Some row) e) (sym (ap is_none open_row))
+        (subst (λ (o : Option DeliveryState). Agrees t b (decided_to o row) e) (sym named) (open_one is open_row (outcome_for r.0 ds) refl p from))
+
+    by_source : (o : Option Origin) → source e ≡ o → Agrees t b (decided_by ds row) e
+    by_source None none = no_source t b (decided_by ds row) e none
+    by_source (Some p) from = decided_row d.outcome refl p (leaves.comes p from)
+
+-- changes that decide nothing leave an undecided delivery so
+stays_open : (xs : List Change) (d : Delivery) → d.presettled ≡ false → d.outcome ≡ None → option_map kept_outcome (if is_undecided d then (changed_by xs d).outcome else None) ≡ None
+    → (changed_by xs d).outcome ≡ None
+stays_open xs d settled none is = by (is_undecided d) refl is
+  where
+    mapped : (o : Option DeliveryState) → option_map kept_outcome o ≡ None → o ≡ None
+    mapped None is = refl
+    mapped (Some s) is = absurd (none_not_some (sym is))
+
+    asleep : (q : Bool) → d.suspended ≡ q → is_undecided d ≡ false → (changed_by xs d).outcome ≡ None
+    asleep true f not_open = ((leaves_by xs d).sleeps none f).0
+    asleep false f not_open = absurd (clash (sym not_open ∙ (let open_now : is_undecided d ≡ true = rw (none, settled, f) refl in open_now)))
+
+    by : (u : Bool) → is_undecided d ≡ u → option_map kept_outcome (if u then (changed_by xs d).outcome else None) ≡ None → (changed_by xs d).outcome ≡ None
+    by true open_now is = mapped (changed_by xs d).outcome is
+    by false not_open is = asleep d.suspended refl not_open
+
+attach_facts : (full : Bool) (t : Trace) (c : ConnectionId) (channel : ℕ) (a : AnAttach) (payload : List ℕ) → Standing t → IsOrdered (book_in t) → Facts t []
+    → FactsOf (Booked (event_acts full (book_in t) t (event.Item c (item.Frame false channel (perf.Attach a) payload))) (due t (event.Item c (item.Frame false channel (perf.Attach a) payload))) ∷ t)
+    (given (event_acts full (book_in t) t (event.Item c (item.Frame false channel (perf.Attach a) payload))))
+    (event_changes t (event.Item c (item.Frame false channel (perf.Attach a) payload)) (event_answer full (book_in t) t (event.Item c (item.Frame false channel (perf.Attach a) payload))))
+attach_facts full t c channel a payload standing ordered was =
+    facts_with full t e (given acts) refl ordered (λ d. record { settled = refl; comes = λ p from. from }) decides done was
+  where
+    i : Item
+    i = item.Frame false channel (perf.Attach a) payload
+
+    e : Event
+    e = event.Item c i
+
+    b : BookView
+    b = book_in t
+
+    acts : List Act
+    acts = event_acts full b t e
+
+    answer : Answer
+    answer = event_answer full b t e
+
+    xs : List Change
+    xs = event_changes t e answer
+
+    rows : List Decision
+    rows = map as_kept (decided_rows t xs)
+
+    told : List Decision
+    told = map_decides b t e answer
+
+    ds : List Decision
+    ds = rows ++ told
+
+    numbers : List RowNumber
+    numbers = forgotten_at b t e answer
+
+    gives : (r : RowNumber) (row : ARow) → row_at r.0 b.rows ≡ Some row → outcome_among acts r ≡ row_given ds (Some row)
+    gives r row found = acts_give full b t e ds numbers (terminus_of_event b t e answer) r refl ordered ∙ ap (row_given ds) found
+
+    decides : (n : ℕ) (d : Delivery) (r : RowNumber) → delivery t n ≡ Some d → d.name ≡ Row r → d.presettled ≡ false → (row : ARow) → row_at r.0 b.rows ≡ Some row → IsHeld t b row d
+        → Agrees t b (decided_by ds row) (changed_by xs (given acts d))
+    decides n d r there name settled row found held =
+        attach_step t b acts ds xs r row d name (numbered_in b r row found) (gives r row found)
+        (λ none is. stays_open xs d settled none (sym (decided_of t n d r xs there name) ∙ none_for r.0 rows told is)) form held
+      where
+        form : (s : DeliveryState) → outcome_for r.0 ds ≡ Some s → kept_form (journal_outcome s) ≡ journal_outcome s
+        form s is = by (either_for r.0 rows told s is)
+          where
+            made : (o : Option DeliveryState) → IsEnded o → option_map kept_outcome o ≡ Some s → kept_form (journal_outcome s) ≡ journal_outcome s
+            made None ended is = absurd (none_not_some is)
+            made (Some x) ended is = kept_is_form s (record { of = x; is = sym (some_same is); ended = ended })
+
+            none_ended : (d.outcome ≡ None → IsEnded (changed_by xs d).outcome) → (u : Bool) → is_undecided d ≡ u → IsEnded (if u then (changed_by xs d).outcome else None)
+            none_ended all true open_now = all (undecided_is d open_now).0
+            none_ended all false open_now = tt
+
+            by : (outcome_for r.0 rows ≡ Some s) ⊎ (outcome_for r.0 told ≡ Some s) → kept_form (journal_outcome s) ≡ journal_outcome s
+            by (inl is) =
+                made (if is_undecided d then (changed_by xs d).outcome else None)
+                (none_ended (λ none. ended_by_all xs d (event_gives t e answer) (subst IsEnded (sym none) tt)) (is_undecided d) refl) (sym (decided_of t n d r xs there name) ∙ is)
+            by (inr is) = kept_is_form s (map_form b (attach_in e) (resumed_key t e answer) r.0 s is)
+
+    done : (n : ℕ) (d : Delivery) (r : RowNumber) → delivery t n ≡ Some d → d.name ≡ Row r → IsFrom t b (row_at r.0 b.rows) d → is_among r.0 numbers ≡ true → (p : Origin)
+        → source (changed_by xs (given acts d)) ≡ Some p → ⊥
+    done n d r there name from among p comes =
+        resumed_is_done t b (given acts d) r c.0 channel a payload answer (map lost (due t e)) standing ordered (still (row_at r.0 b.rows) from) among p comes
+      where
+        still : (v : Option ARow) → IsFrom t b v d → IsFrom t b v (given acts d)
+        still None is = tt
+        still (Some row) is = is
+
+-- what is there of a row after the acts has the outcome that it had, or that they give
+row_by : (ds : List Decision) (numbers : List RowNumber) (row now : ARow) → settled ds numbers (Some row) ≡ Some now → now.outcome ≡ outcome_or row.outcome (row_given ds (Some row))
+row_by ds numbers row now is = by row.outcome refl
+  where
+    Is : Option ARow → Option DeliveryState → Type 0
+    Is v o = option_and_then (forgotten_by numbers) v ≡ Some now → now.outcome ≡ o
+
+    forgets : (x : ARow) → Is (Some x) x.outcome
+    forgets x made = on (not x.forgotten && is_among x.number.0 numbers) (is_some x.outcome) made
+      where
+        on : (f g : Bool) → (if f then (if g then None else Some (record x { forgotten = true })) else Some x) ≡ Some now → now.outcome ≡ x.outcome
+        on true true made = absurd (none_not_some made)
+        on true false made = ap (λ (y : ARow). y.outcome) (sym (some_same made))
+        on false g made = ap (λ (y : ARow). y.outcome) (sym (some_same made))
+
+    decides : (s : DeliveryState) → Is (decided s row) (Some s)
+    decides s made = on row.forgotten made
+      where
+        on : (f : Bool) → Is (if f then None else Some (record row { outcome = Some s })) (Some s)
+        on true made = absurd (none_not_some made)
+        on false made = forgets (record row { outcome = Some s }) made
+
+    opened : (o : Option DeliveryState) → row.outcome ≡ None → Is (decided_to o row) (option_map journal_outcome o)
+    opened None none made = forgets row made ∙ none
+    opened (Some s) none made = decides (journal_outcome s) made
+
+    by : (o : Option DeliveryState) → row.outcome ≡ o → now.outcome ≡ outcome_or row.outcome (row_given ds (Some row))
+    by (Some s) had =
+        forgets row (ap (λ (q : Bool). option_and_then (forgotten_by numbers) (if q then decided_to (outcome_for row.number.0 ds) row else Some row)) (sym (ap is_none had)) ∙ is)
+        ∙ had ∙ ap (λ (o : Option DeliveryState). outcome_or o (row_given ds (Some row))) (sym had)
+    by None none =
+        opened (outcome_for row.number.0 ds) none
+        (ap (λ (q : Bool). option_and_then (forgotten_by numbers) (if q then decided_to (outcome_for row.number.0 ds) row else Some row)) (sym (ap is_none none)) ∙ is)
+        ∙ ap (λ (q : Bool). if q then option_map journal_outcome (outcome_for row.number.0 ds) else None) (sym (ap is_none none))
+        ∙ ap (λ (o : Option DeliveryState). outcome_or o (row_given ds (Some row))) (sym none)
+
+pub record RowAfter (b c : BookView) (acts : List Act) (r : RowNumber) (row : ARow) : Type 0 where
+  pub known : r.0 < c.next_row
+  pub outcome : (now : ARow) → row_at r.0 c.rows ≡ Some now → now.outcome ≡ outcome_or row.outcome (outcome_among acts r)
+
+pub row_after : (full : Bool) (t : Trace) (e : Event) (r : RowNumber) (row : ARow) → IsPlanned full t e → IsOrdered (book_in t) → row_at r.0 (book_in t).rows ≡ Some row
+    → RowAfter (book_in t) (effects (book_in t) (event_acts full (book_in t) t e)) (event_acts full (book_in t) t e) r row
+row_after full t e r row planned ordered there = record {
+  known = under r.0 between.next_row c.next_row low stays.next;
+  outcome = λ now is.
+      row_by ds numbers row now (ap (settled ds numbers) (sym there) ∙ sym (settled_row b ds numbers r.0 ordered) ∙ sym (stays.rows r.0 low) ∙ is)
+      ∙ ap (outcome_or row.outcome) (sym (acts_give full b t e ds numbers (terminus_of_event b t e answer) r planned ordered ∙ ap (row_given ds) there));
+}
+  where
+    b : BookView
+    b = book_in t
+
+    answer : Answer
+    answer = event_answer full b t e
+
+    ds : List Decision
+    ds = decided_in b t e answer
+
+    numbers : List RowNumber
+    numbers = forgotten_at b t e answer
+
+    between : BookView
+    between = effects b (settles b ds numbers)
+
+    left : Left b (settles b ds numbers) (rows_after ds numbers b.rows)
+    left = settles_leave b ds numbers ordered.rows_rise
+
+    c : BookView
+    c = effects b (event_acts full b t e)
+
+    stays : Stays between c
+    stays =
+        subst (λ (ys : List Act). Stays between (effects b (or_admits ys (admitted_acts full b t e)))) (sym planned)
+        (all_stay b ds numbers (terminus_of_event b t e answer) (admitted_acts full b t e) ordered (admitted_stay full b t e))
+
+    low : r.0 < between.next_row
+    low = subst (λ (x : BookView). r.0 < x.next_row) (sym left.is) (found_below r.0 b.next_row b.rows row ordered.rows_below there)
+
+    under : (r k n : ℕ) → r < k → k ≤ n → r < n
+    under r k n low most = omega (arith, low, most)
+
 -- the book's numbers go on rising
 
 admits_apply : (b : BookView) (o : Option Admission) → first_fault b (admits b o) ≡ None
@@ -435,7 +723,7 @@ admitted_apply false b t e = admits_apply b (event_admission b t e (event_answer
 planned_apply : (full : Bool) (b : BookView) (t : Trace) (e : Event) → IsOrdered b → first_fault b (planned_acts full b t e) ≡ None
 planned_apply full b t event.Start ordered = start_applies b ordered.rows_rise
 planned_apply full b t e ordered =
-    settled_apply b (decided_in t e (event_answer full b t e)) (forgotten_at b t e (event_answer full b t e)) (terminus_of_event b t e (event_answer full b t e)) ordered
+    settled_apply b (decided_in b t e (event_answer full b t e)) (forgotten_at b t e (event_answer full b t e)) (terminus_of_event b t e (event_answer full b t e)) ordered
 
 pub acts_apply : (t : Trace) (e : Event) → IsOrdered (book_in t) → first_fault (book_in t) (acts_of t e) ≡ None
 acts_apply t e ordered = by (planned_acts full (book_in t) t e) (planned_apply full (book_in t) t e ordered)
@@ -457,9 +745,30 @@ answer_for t e = event_answer (finds_full (journaled t) t e) (book_in t) t e
 abbrev pub changes_of : Trace → Event → List Change
 changes_of t e = event_changes t e (answer_for t e)
 
-pub booked_facts : (t : Trace) (e : Event) → Standing t → IsOrdered (book_in t) → (e ≡ event.Start → (n : ℕ) → delivery t n ≡ None) → Facts t [] → Facts (Booked (acts_of t e) (due t e) ∷ t) (changes_of t e)
+-- a frame of SASL is no attach that is taken
+sasl_decides : (full : Bool) (t : Trace) (c : ConnectionId) (channel : ℕ) (body : Perf) (payload : List ℕ)
+    → map_decides (book_in t) t (event.Item c (item.Frame true channel body payload)) (event_answer full (book_in t) t (event.Item c (item.Frame true channel body payload))) ≡ []
+sasl_decides full t c channel (perf.Attach a) payload = by (standing (found t e c.0))
+  where
+    e : Event
+    e = event.Item c (item.Frame true channel (perf.Attach a) payload)
+
+    by : (v : Option Conn) → map_decides (book_in t) t e (live_answer full (book_in t) t c.0 (item.Frame true channel (perf.Attach a) payload) v) ≡ []
+    by None = refl
+    by (Some p) = refl
+sasl_decides full t c channel body payload = refl
+
+pub booked_facts : (t : Trace) (e : Event) → Standing t → IsOrdered (book_in t) → (e ≡ event.Start → (n : ℕ) → delivery t n ≡ None) → Facts t []
+    → FactsOf (Booked (acts_of t e) (due t e) ∷ t) (gives e (acts_of t e)) (changes_of t e)
 booked_facts t event.Start standing ordered none was = λ n d r there name. absurd (none_not_some (sym (none refl n) ∙ there))
-booked_facts t (event.Item c i) standing ordered none was = facts_after (finds_full (journaled t) t (event.Item c i)) t (event.Item c i) refl standing ordered was
-booked_facts t (event.Up c p) standing ordered none was = facts_after (finds_full (journaled t) t (event.Up c p)) t (event.Up c p) refl standing ordered was
-booked_facts t (event.Down c) standing ordered none was = facts_after (finds_full (journaled t) t (event.Down c)) t (event.Down c) refl standing ordered was
-booked_facts t (event.Tick ms) standing ordered none was = facts_after (finds_full (journaled t) t (event.Tick ms)) t (event.Tick ms) refl standing ordered was
+booked_facts t (event.Item c (item.Frame true channel body payload)) standing ordered none was =
+    facts_after (finds_full (journaled t) t (event.Item c (item.Frame true channel body payload))) t (event.Item c (item.Frame true channel body payload)) refl
+    (sasl_decides (finds_full (journaled t) t (event.Item c (item.Frame true channel body payload))) t c channel body payload) standing ordered was
+booked_facts t (event.Item c (item.Frame false channel (perf.Attach a) payload)) standing ordered none was =
+    attach_facts (finds_full (journaled t) t (event.Item c (item.Frame false channel (perf.Attach a) payload))) t c channel a payload standing ordered was
+booked_facts t (event.Item c (item.Frame false channel body payload)) standing ordered none was =
+    facts_after (finds_full (journaled t) t (event.Item c (item.Frame false channel body payload))) t (event.Item c (item.Frame false channel body payload)) refl refl standing ordered was
+booked_facts t (event.Item c i) standing ordered none was = facts_after (finds_full (journaled t) t (event.Item c i)) t (event.Item c i) refl refl standing ordered was
+booked_facts t (event.Up c p) standing ordered none was = facts_after (finds_full (journaled t) t (event.Up c p)) t (event.Up c p) refl refl standing ordered was
+booked_facts t (event.Down c) standing ordered none was = facts_after (finds_full (journaled t) t (event.Down c)) t (event.Down c) refl refl standing ordered was
+booked_facts t (event.Tick ms) standing ordered none was = facts_after (finds_full (journaled t) t (event.Tick ms)) t (event.Tick ms) refl refl standing ordered was

@@ -1,78 +1,154 @@
 -- In every trace of the router that was opened on a sound book, a row that is taken up brings the outcome that the book has of it.
-use Rattle.std.proofs.Common.{◌≡◌, ◌∙◌, sym, ap, refl, subst, ℕ, List, [], ◌∷◌}
-use Rattle.std.specs.Prelude.{Option, Some, None}
+use Rattle.std.proofs.Common.{◌≡◌, ◌∙◌, sym, ap, refl, subst, ℕ, List, [], ◌∷◌, ◌++◌}
+use Rattle.std.specs.Prelude.{Option, Some, None, option_map, true}
+use Rattle.amqp_model.specs.declared.perf.Attach.{Attach as AnAttach}
+use Rattle.amqp_model.specs.declared.state.DeliveryState.{DeliveryState}
 use Rattle.amqp_model.specs.declared.item.Item.{Item}
 use Rattle.book_laws.proofs.KeptSound.{empty_sound, acts_keep}
 use Rattle.book_model.specs.declared.row.Row.{Row as ARow}
 use Rattle.book_model.specs.declared.row.RowNumber.{RowNumber}
-use Rattle.book_model.specs.Book.{row_at}
+use Rattle.book_model.specs.declared.terminus.LinkKey.{LinkKey}
+use Rattle.book_model.specs.Book.{BookView, row_at, terminus_of}
 use Rattle.book_model.specs.Sound.{IsSound}
 use Rattle.book_core.specs.Rising.{Rises}
-use Rattle.gate_journal.specs.Ordered.{number_of_row}
+use Rattle.gate_journal.specs.Ordered.{IsOrdered, number_of_row}
 use Rattle.journal_store.proofs.Sound.{sound_is_ordered}
+use Rattle.journal_store.specs.Acting.{journal_outcome}
+use Rattle.resume_core.specs.Resuming.{entries_of, told_of, outcome_given, decided_by, either_outcome, outcome_after}
+use Rattle.reply_rows.specs.declared.answer.Answer.{Answer}
 use Rattle.router_trace.specs.Configuration.{beginning, opened}
 use Rattle.router_trace.specs.Connection.{conn, due}
-use Rattle.router_trace.specs.Deliveries.{outcome_as}
+use Rattle.router_trace.specs.Deliveries.{outcome_among, outcome_as, acts_found}
 use Rattle.router_trace.specs.Trace.{Beginning, Trace, Did, Out, Took, Bound, Put, Step, did, step_of, goes, puts, each_to}
 use Rattle.router_trace.specs.declared.binding.Binding.{Binding}
 use Rattle.router_trace.specs.declared.binding.TakenUp.{TakenUp}
 use Rattle.router_trace.specs.declared.condition.Condition.TheVariants.{ResourceLimitExceeded}
 use Rattle.router_trace.specs.declared.event.Event.{Event}
-use Rattle.state_messages.specs.Messages.{with_bound}
-use Rattle.router_reply.specs.Acts.{book_in, acts_of, booked}
+use Rattle.router_trace.specs.declared.event.Event.TheVariants as event
+use Rattle.state_messages.specs.Messages.{lasts, with_bound}
+use Rattle.router_reply.specs.Acts.{event_answer, answer_acts, planned_acts, finds_full, journaled, book_found, book_in, acts_of, booked}
+use Rattle.router_reply.specs.Asking.{resumed_key}
 use Rattle.router_reply.specs.Replies.{closing_of, ends, heard, bound_by, own_row, replied}
 use Rattle.router_reply.specs.Resuming.{resumed}
 use Rattle.core_machine.specs.Moves.{Move, handles, takes, took_one}
 use Rattle.router_core.specs.Moves.{Goes, IsTrace}
 use Rattle.router_core.specs.Replies.{handled}
 use Rattle.router_core.proofs.Following.{all_keep}
-use Rattle.theorems.specs.Came.{TakesUp, BringsItsOutcome}
+use Rattle.theorems.specs.Admitted.{IsAdmittedUnder}
+use Rattle.theorems.specs.Came.{last_found, TakesUp, IsOutcomeThen, BringsItsOutcome}
 use Rattle.theorems.specs.Each.{EachBound}
-use Rattle.theorems.proofs.Admitted.{bound_fresh}
-use Rattle.theorems.proofs.Booked.{acts_apply}
+use Rattle.theorems.proofs.Admitted.{bound_fresh, bound_row, bound_lasting as bound_lasting_as}
+use Rattle.theorems.proofs.Booked.{acts_apply, answer_for, RowAfter, row_after}
+use Rattle.theorems.proofs.Lasting.{Lasting, booked_lasting, did_lasting, out_lasting, bound_lasting, message_lasts, taken_lasts}
 use Rattle.theorems.proofs.Looking.{found_in}
-use Rattle.theorems.proofs.Resumed.{resumed_takes, replied_book}
-use Rattle.theorems.proofs.Served.{none_decided}
+use Rattle.theorems.proofs.Resumed.{Brought, resumed_takes, replied_book, replied_found}
+use Rattle.theorems.proofs.Served.{key_before, row_gets}
+use Rattle.theorems.proofs.Taking.{taken_durable}
 use Rattle.theorems.proofs.Tests.{none_not_some, some_same}
 
 pub record Brings (t : Trace) : Type 0 where
   pub book : IsSound (book_in t)
   pub brings : EachBound BringsItsOutcome t
+  pub lasting : Lasting t
 
 -- a row that is taken up is the one of its number
-row_there : (t : Trace) (b : Binding) → IsSound (book_in t) → (again : TakesUp t b) → row_at again.row.number.0 (book_in t).rows ≡ Some again.row
-row_there t b sound again =
-    ap (row_at again.row.number.0) again.kept
-    ∙ found_in again.earlier again.later again.row (let P : List ARow → Type 0 = λ rs. Rises number_of_row rs in subst P again.kept (sound_is_ordered (book_in t) sound).rows_rise)
+row_there : (t u : Trace) (b : Binding) → IsOrdered (book_in t) → book_found (last_found u) ≡ book_in t → (up : TakesUp u b) → row_at up.row.number.0 (book_in t).rows ≡ Some up.row
+row_there t u b ordered found up =
+    let kept : (book_in t).rows ≡ up.earlier ++ up.row ∷ up.later = ap (λ (c : BookView). c.rows) (sym found) ∙ up.kept in
+    ap (row_at up.row.number.0) kept
+    ∙ found_in up.earlier up.later up.row (let P : List ARow → Type 0 = λ rs. Rises number_of_row rs in subst P kept ordered.rows_rise)
 
-same_outcome : (t : Trace) (b : Binding) → IsSound (book_in t) → (one other : TakesUp t b) → outcome_as one.brought.how ≡ one.row.outcome
-    → outcome_as other.brought.how ≡ other.row.outcome
-same_outcome t b sound one other is =
+same_outcome : (t u : Trace) (b : Binding) → IsOrdered (book_in t) → book_found (last_found u) ≡ book_in t → (one other : TakesUp u b)
+    → IsOutcomeThen one.row.outcome (outcome_among (acts_found (last_found u)) one.row.number) (outcome_as one.brought.how)
+    → IsOutcomeThen other.row.outcome (outcome_among (acts_found (last_found u)) other.row.number) (outcome_as other.brought.how)
+same_outcome t u b ordered found one other is =
     let number : one.row.number ≡ other.row.number = some_same (sym one.number ∙ other.number) in
     let row : one.row ≡ other.row =
-    some_same (sym (row_there t b sound one) ∙ ap (λ (n : RowNumber). row_at n.0 (book_in t).rows) number ∙ row_there t b sound other) in
+    some_same (sym (row_there t u b ordered found one) ∙ ap (λ (n : RowNumber). row_at n.0 (book_in t).rows) number ∙ row_there t u b ordered found other) in
     let brought : one.brought ≡ other.brought = some_same (sym one.taken ∙ other.taken) in
-    ap (λ (x : TakenUp). outcome_as x.how) (sym brought) ∙ is ∙ ap (λ (r : ARow). r.outcome) row
+    subst (λ (x : TakenUp). IsOutcomeThen other.row.outcome (outcome_among (acts_found (last_found u)) other.row.number) (outcome_as x.how)) brought
+    (subst (λ (r : ARow). IsOutcomeThen r.outcome (outcome_among (acts_found (last_found u)) r.number) (outcome_as one.brought.how)) row is)
 
-pub taken_brings : (t : Trace) (b : Binding) (again : TakesUp t b) → outcome_as again.brought.how ≡ again.row.outcome → Brings t → Brings (Bound b ∷ t)
-taken_brings t b again is was = record { book = was.book; brings = (λ other. same_outcome t b was.book again other is, was.brings) }
+-- what is known of a row that the event after t up up
+pub record Found (t : Trace) (e : Event) (u : Trace) (b : Binding) (up : TakesUp u b) : Type 0 where
+  pub attach : AnAttach
+  pub gets : outcome_as up.brought.how ≡ outcome_after (entries_of attach.unsettled) up.row
+  pub acts : outcome_among (acts_of t e) up.row.number ≡ option_map journal_outcome (decided_by (entries_of attach.unsettled) up.row)
+  pub row : RowAfter (book_in t) (book_in u) (acts_of t e) up.row.number up.row
 
-bound_brings : (b : Option Binding) (t : Trace) → ((x : Binding) → b ≡ Some x → x.taken_up ≡ None) → Brings t → Brings (with_bound b t)
+planned : (t : Trace) (e : Event) (k : LinkKey) (y : Answer) → resumed_key t e y ≡ Some k
+    → planned_acts (finds_full (journaled t) t e) (book_in t) t e ≡ answer_acts (book_in t) t e (event_answer (finds_full (journaled t) t e) (book_in t) t e)
+planned t (event.Item from i) k y keyed = refl
+planned t event.Start k y keyed = absurd (none_not_some keyed)
+planned t (event.Up c p) k y keyed = absurd (none_not_some keyed)
+planned t (event.Down c) k y keyed = absurd (none_not_some keyed)
+planned t (event.Tick ms) k y keyed = absurd (none_not_some keyed)
+
+pub found_row : (id : List ℕ) (t : Trace) (s : Step) (u : Trace) (b : Binding) (up : TakesUp u b) → IsOrdered (book_in t) → Lasting t
+    → Brought (booked t s.event) s.event (replied id (booked t s.event) s) u b up → Found t s.event u b up
+found_row id t s u b up ordered lasting known =
+    let found : book_found (last_found u) ≡ book_in t = ap book_found known.found_at in
+    let there = row_there t u b ordered found up in
+    let at : terminus_of up.key (book_in t).termini ≡ Some up.terminus = ap (λ (c : BookView). terminus_of up.key c.termini) (sym found) ∙ up.of_key in
+    let behind : book_in u ≡ book_in (booked t s.event) = known.same_book ∙ replied_book id (booked t s.event) s in
+    record {
+      attach = known.attach;
+      gets = known.gets;
+      acts = row_gets t s.event up.key known.attach up.terminus up.row ordered lasting known.by_key known.came at there up.waits;
+      row = subst (λ (c : BookView). RowAfter (book_in t) c (acts_of t s.event) up.row.number up.row) (sym behind)
+          (row_after (finds_full (journaled t) t s.event) t s.event up.row.number up.row
+          (planned t s.event up.key (answer_for t s.event) (key_before t s.event up.key known.by_key)) ordered there);
+    }
+
+outcome_is : (o how : Option DeliveryState) (theirs : Option DeliveryState → Option DeliveryState) (given : Option DeliveryState)
+    → how ≡ either_outcome o (theirs o) → given ≡ option_map journal_outcome (theirs o) → IsOutcomeThen o given how
+outcome_is (Some s) how theirs given gets acts = gets
+outcome_is None how theirs given gets acts = ap (option_map journal_outcome) gets ∙ sym acts
+
+brings_it : (id : List ℕ) (t : Trace) (s : Step) (u : Trace) (b : Binding) (up : TakesUp u b) → Brought (booked t s.event) s.event (replied id (booked t s.event) s) u b up
+    → Found t s.event u b up → IsOutcomeThen up.row.outcome (outcome_among (acts_found (last_found u)) up.row.number) (outcome_as up.brought.how)
+brings_it id t s u b up known is =
+    outcome_is up.row.outcome (outcome_as up.brought.how) (outcome_given (told_of (entries_of is.attach.unsettled) up.row))
+    (outcome_among (acts_found (last_found u)) up.row.number) is.gets
+    (ap (λ (v : Trace). outcome_among (acts_found v) up.row.number) known.found_at ∙ is.acts)
+
+pub taken_brings : (id : List ℕ) (t : Trace) (s : Step) (u : Trace) (b : Binding) (up : TakesUp u b) → Brings t → Brought (booked t s.event) s.event (replied id (booked t s.event) s) u b up
+    → Brings u → Brings (Bound b ∷ u)
+taken_brings id t s u b up before known was =
+    let ordered : IsOrdered (book_in t) = sound_is_ordered (book_in t) before.book in
+    let is : Found t s.event u b up = found_row id t s u b up ordered before.lasting known in
+    let durable : lasts u b.consumer ≡ true = known.same_link ∙ taken_durable id t s up.key b.consumer known.by_key known.held in
+    record {
+      book = was.book;
+      brings = (λ other. same_outcome t u b ordered (ap book_found known.found_at) up other (brings_it id t s u b up known is), was.brings);
+      lasting = bound_lasting b u (taken_lasts u b up is.row.known durable) was.lasting;
+    }
+
+bound_brings : (b : Option Binding) (t : Trace) → ((x : Binding) → b ≡ Some x → (x.taken_up ≡ None) × (x.lasting ≡ lasts t x.consumer) × IsAdmittedUnder t x x.row) → Brings t → Brings (with_bound b t)
 bound_brings None t fresh was = was
-bound_brings (Some b) t fresh was = record { book = was.book; brings = (λ again. absurd (none_not_some (sym (fresh b refl) ∙ again.taken)), was.brings) }
+bound_brings (Some b) t fresh was =
+    let now = fresh b refl in
+    record {
+      book = was.book;
+      brings = (λ takes. absurd (none_not_some (sym now.0 ∙ takes.taken)), was.brings);
+      lasting = bound_lasting b t
+          (λ r named. message_lasts t b r (subst (λ (o : Option RowNumber). IsAdmittedUnder t b o) named now.2) (sound_is_ordered (book_in t) was.book) now.1 named) was.lasting;
+    }
 
 booked_brings : (t : Trace) (e : Event) → Brings t → Brings (booked t e)
-booked_brings t e was = record { book = acts_keep (book_in t) (acts_of t e) (acts_apply t e (sound_is_ordered (book_in t) was.book)) was.book; brings = was.brings }
+booked_brings t e was =
+    let ordered : IsOrdered (book_in t) = sound_is_ordered (book_in t) was.book in
+    record { book = acts_keep (book_in t) (acts_of t e) (acts_apply t e ordered) was.book; brings = was.brings; lasting = booked_lasting t e ordered was.lasting }
 
 did_brings : (s : Step) (t : Trace) → Brings t → Brings (Did s ∷ t)
-did_brings s t was = record { book = was.book; brings = was.brings }
+did_brings s t was = record { book = was.book; brings = was.brings; lasting = did_lasting s t was.lasting }
 
 pub took_brings : (c k : ℕ) (t : Trace) → Brings t → Brings (Took c k ∷ t)
-took_brings c k t was = record { book = was.book; brings = was.brings }
+took_brings c k t was = record { book = was.book; brings = was.brings; lasting = was.lasting }
 
 goes_brings : (ps : List Put) (t : Trace) → Brings t → Brings (goes ps t)
 goes_brings [] t was = was
-goes_brings (p ∷ ps) t was = goes_brings ps (Out p.conn p.item ∷ t) (record { book = was.book; brings = was.brings })
+goes_brings (p ∷ ps) t was = goes_brings ps (Out p.conn p.item ∷ t) (record { book = was.book; brings = was.brings; lasting = out_lasting p.conn p.item t was.lasting })
 
 ends_brings : (id : List ℕ) (cs : List ℕ) (t : Trace) → Brings t → Brings (ends id cs t)
 ends_brings id [] t was = was
@@ -86,9 +162,10 @@ handled_brings id t s was =
     let u : Trace = heard id at s in
     let b : Option Binding = bound_by at u s.event in
     let came : Brings u = ends_brings id (due t s.event) (Did s ∷ at) (did_brings s at (booked_brings t s.event was)) in
-    let rows : Brings (replied id at s) = goes_brings (own_row id at u s.event) (with_bound b u) (bound_brings b u (λ x is. bound_fresh id t s.event x is) came) in
+    let rows : Brings (replied id at s) = goes_brings (own_row id at u s.event) (with_bound b u)
+    (bound_brings b u (λ x is. (bound_fresh id t s.event x is, bound_lasting_as id t s.event x is, bound_row id t s.event x is)) came) in
     all_keep Brings goes_brings (resumed at s.event (replied id at s))
-    (resumed_takes Brings at s.event (replied id at s) (λ v x again same held. taken_brings v x again (same (none_decided t s.event was.book)) held) (replied_book id at s) rows)
+    (resumed_takes Brings at s.event (replied id at s) (λ v x takes known held. taken_brings id t s v x takes was known held) (replied_found id at s) rows)
 
 pub moves_brings : (id : List ℕ) (ms : List Move) (t u : Trace) → Brings t → Goes id ms t u → Brings u
 moves_brings id [] t u was went = subst Brings (sym went) was
@@ -96,7 +173,7 @@ moves_brings id (handles s ∷ ms) t u was went = moves_brings id ms (handled id
 moves_brings id (takes x ∷ ms) t u was went = moves_brings id ms (took_one x t) u (took_brings _ _ t was) went
 
 pub start_brings : (g : Beginning) → IsSound g.book → Brings (beginning g)
-start_brings g sound = record { book = sound; brings = tt }
+start_brings g sound = record { book = sound; brings = tt; lasting = λ n d r there name. absurd (none_not_some there) }
 
 pub trace_brings : (id : List ℕ) (g : Beginning) (u : Trace) → IsTrace id g u → IsSound g.book → Brings u
 trace_brings id g u trace sound = moves_brings id trace.0 (beginning g) u (start_brings g sound) trace.1
@@ -104,10 +181,10 @@ trace_brings id g u trace sound = moves_brings id trace.0 (beginning g) u (start
 -- over runs
 
 pub no_brings : Brings []
-no_brings = record { book = empty_sound; brings = tt }
+no_brings = record { book = empty_sound; brings = tt; lasting = λ n d r there name. absurd (none_not_some there) }
 
 pub opened_brings : (g : Beginning) (below : Trace) → g.book ≡ book_in below → Brings below → Brings (opened g below)
-opened_brings g below book was = record { book = subst IsSound (sym book) was.book; brings = was.brings }
+opened_brings g below book was = record { book = subst IsSound (sym book) was.book; brings = was.brings; lasting = λ n d r there name. absurd (none_not_some there) }
 
 pub cut_brings : (t : Trace) (e : Event) → Brings t → Brings (did e ∷ booked t e)
 cut_brings t e was = did_brings (step_of e) (booked t e) (booked_brings t e was)

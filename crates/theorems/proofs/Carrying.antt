@@ -12,7 +12,7 @@ use Rattle.amqp_model.specs.declared.item.Item.TheVariants as item
 use Rattle.router_trace.specs.declared.binding.Binding.{Binding}
 use Rattle.router_trace.specs.declared.binding.DeliveryName.{DeliveryName}
 use Rattle.router_trace.specs.Trace.{Entry, Did, Out, Took, Bound, Booked, Began, IsOneRun}
-use Rattle.router_trace.specs.Deliveries.{Delivery, bindings, name_in, number_named, delivery, sending, named, unless_over, after_frame, closes, ended_by, put_in, after_put, after_event, carried, tag_in, is_number, channels_found}
+use Rattle.router_trace.specs.Deliveries.{Delivery, bindings, name_in, number_named, delivery, sending, named, unless_over, after_frame, closes, ended_by, put_in, after_put, after_event, carried, tag_in, is_number, channels_found, acts_found}
 use Rattle.theorems.specs.OneConsumer.{IsOf, WhileThere}
 use Rattle.theorems.specs.Each.{EachOut}
 use Rattle.theorems.specs.Carried.{HasSmallNumbers, BeginsOrGoesOn, CarriesMessage, CarriesWhatWasBound, bytes_by, bytes_out, IsBeginning, GoesInOrder, CompletesMessage}
@@ -103,7 +103,7 @@ moves_unstarted f v unmoved was e there none =
 
 pub did_unstarted : (t : List Entry) (s : _) → Unstarted t → Unstarted (Did s ∷ t)
 did_unstarted t s was n =
-    moves_unstarted (after_event s.event (channels_found t) (named t) n) (delivery t n) (λ d. event_left Unmoved unmoved_left s.event (channels_found t) (named t) n d) (was n)
+    moves_unstarted (after_event s.event (channels_found t) (named t) (acts_found t) n) (delivery t n) (λ d. event_left Unmoved unmoved_left s.event (channels_found t) (named t) (acts_found t) n d) (was n)
 
 pub bound_unstarted : (t : List Entry) (b : Binding) → Unstarted t → Unstarted (Bound b ∷ t)
 bound_unstarted t b was n d there none =
@@ -262,9 +262,9 @@ out_went t c n i small was =
 pub went : (u : List Entry) (n : ℕ) → AllCarried u → HasSmallNumbers u → AllWent u n
 went [] n all small d there = absurd cc
 went (Did s ∷ t) n all small d there =
-    let was = of_what (after_event s.event (channels_found t) (named t) n) (delivery t n) d there
+    let was = of_what (after_event s.event (channels_found t) (named t) (acts_found t) n) (delivery t n) d there
     in unmoved_went (bytes_out t n) was.0 d (went t n all small was.0 was.1)
-    (subst (λ (g : Delivery). Unmoved was.0 g) (sym was.2) (event_left Unmoved unmoved_left s.event (channels_found t) (named t) n was.0))
+    (subst (λ (g : Delivery). Unmoved was.0 g) (sym was.2) (event_left Unmoved unmoved_left s.event (channels_found t) (named t) (acts_found t) n was.0))
 went (Out c i ∷ t) n all small d there = out_went t c n i small (went t n all.1 small) all.0 d there
 went (Began g ∷ t) n all small d there = absurd cc
 went (Took c k ∷ t) n all small d there = went t n all small d there

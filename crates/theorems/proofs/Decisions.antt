@@ -1,5 +1,5 @@
 -- What an event decides and forgets of rows is what its changes make of their deliveries.
-use Rattle.std.proofs.Common.{◌≡◌, ◌∙◌, sym, ap, refl, subst, ℕ, zero, suc, ◌+◌, ◌≤◌, ◌<◌, Bool, true, false, ◌||◌, List, [], ◌∷◌, ◌++◌, arith}
+use Rattle.std.proofs.Common.{◌≡◌, ◌∙◌, sym, ap, refl, subst, ℕ, zero, suc, ◌+◌, ◌≤◌, ◌<◌, Bool, true, false, ◌||◌, List, [], ◌∷◌, ◌++◌, ◌⊎◌, inl, inr, arith}
 use Rattle.std.specs.Prelude.{◌==◌, Option, Some, None, map, filter, option_map, if◌then◌else◌}
 use Rattle.std.proofs.lemmas.Bool.{eqb-true}
 use Rattle.std.proofs.lemmas.Bool.Decides.{nat_tests}
@@ -149,6 +149,57 @@ decided_of t n d r xs there name =
   where
     under : (n k : ℕ) → n ≤ k → n < k + 1
     under n k low = omega (arith, low)
+
+-- a row whose deliveries they leave undecided
+pub undecided_of : (t : Trace) (r : RowNumber) (xs : List Change)
+    → ((n : ℕ) (d : Delivery) → delivery t n ≡ Some d → d.name ≡ Row r → is_undecided d ≡ true → (changed_by xs d).outcome ≡ None)
+    → outcome_for r.0 (map as_kept (decided_rows t xs)) ≡ None
+undecided_of t r xs each =
+    kept_for r.0 (decided_rows t xs) ∙ ap (option_map kept_outcome) (gathered_none (bindings t + 1) (λ m. decision_of xs (delivery t m)) r.0 (λ m low. one m (delivery t m) refl))
+  where
+    made : (q : RowNumber) (o : Option DeliveryState) → o ≡ None → outcome_for r.0 (outcome_of_row q o) ≡ None
+    made q None none = refl
+    made q (Some s) none = absurd (none_not_some (sym none))
+
+    other : (q : RowNumber) (o : Option DeliveryState) → (q.0 == r.0) ≡ false → outcome_for r.0 (outcome_of_row q o) ≡ None
+    other q None differs = refl
+    other q (Some s) differs = rw differs refl
+
+    of_name : (m : ℕ) (e : Delivery) (name : DeliveryName) (u : Bool) → delivery t m ≡ Some e → e.name ≡ name → is_undecided e ≡ u
+        → outcome_for r.0 (outcome_of (if u then row_of name else None) (changed_by xs e).outcome) ≡ None
+    of_name m e (Counter k) true here called open_one = refl
+    of_name m e (Counter k) false here called open_one = refl
+    of_name m e (Row q) false here called open_one = refl
+    of_name m e (Row q) true here called open_one =
+        by_case (q.0 == r.0)
+        (λ f. made q (changed_by xs e).outcome (each m e here (called ∙ ap (λ (x : RowNumber). Row x) (row_same q r f)) open_one))
+        (λ f. other q (changed_by xs e).outcome f)
+
+    one : (m : ℕ) (v : Option Delivery) → delivery t m ≡ v → outcome_for r.0 (decision_of xs v) ≡ None
+    one m None here = refl
+    one m (Some e) here = of_name m e e.name (is_undecided e) here refl refl
+
+-- what two lists of decisions say of a row
+pub first_for : (n : ℕ) (ds es : List Decision) → outcome_for n ds ≡ None → outcome_for n (ds ++ es) ≡ outcome_for n es
+first_for n ds es none = skip_first n ds es none
+
+pub none_for : (n : ℕ) (ds es : List Decision) → outcome_for n (ds ++ es) ≡ None → outcome_for n ds ≡ None
+none_for n [] es none = refl
+none_for n (d ∷ ds) es none = by (d.row.0 == n) none (none_for n ds es)
+  where
+    by : (b : Bool) → (if b then Some d.outcome else outcome_for n (ds ++ es)) ≡ None → (outcome_for n (ds ++ es) ≡ None → outcome_for n ds ≡ None)
+        → (if b then Some d.outcome else outcome_for n ds) ≡ None
+    by true is rest = absurd (none_not_some (sym is))
+    by false is rest = rest is
+
+pub either_for : (n : ℕ) (ds es : List Decision) (s : DeliveryState) → outcome_for n (ds ++ es) ≡ Some s → (outcome_for n ds ≡ Some s) ⊎ (outcome_for n es ≡ Some s)
+either_for n [] es s is = inr is
+either_for n (d ∷ ds) es s is = by (d.row.0 == n) is (either_for n ds es s)
+  where
+    by : (b : Bool) → (if b then Some d.outcome else outcome_for n (ds ++ es)) ≡ Some s → (outcome_for n (ds ++ es) ≡ Some s → (outcome_for n ds ≡ Some s) ⊎ (outcome_for n es ≡ Some s))
+        → ((if b then Some d.outcome else outcome_for n ds) ≡ Some s) ⊎ (outcome_for n es ≡ Some s)
+    by true is rest = inl is
+    by false is rest = rest is
 
 -- the rows that a producer settles
 

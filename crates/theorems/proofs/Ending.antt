@@ -3,6 +3,7 @@ use Rattle.std.proofs.Common.{◌≡◌, ◌∙◌, sym, ap, refl, subst, ℕ, B
 use Rattle.std.specs.Prelude.{◌==◌, Option, Some, None, map, filter, is_some, option_map, if◌then◌else◌}
 use Rattle.amqp_model.specs.declared.item.Item.{Item}
 use Rattle.amqp_conn.specs.declared.conn.Conn.{Conn}
+use Rattle.book_model.specs.declared.act.Act.{Act}
 use Rattle.router_trace.specs.declared.condition.Condition.{Condition}
 use Rattle.router_trace.specs.declared.condition.Condition.TheVariants.{ResourceLimitExceeded}
 use Rattle.router_trace.specs.declared.event.ConnectionId.{ConnectionId}
@@ -10,7 +11,7 @@ use Rattle.router_trace.specs.declared.event.Event.{Event}
 use Rattle.router_trace.specs.declared.event.Event.TheVariants as event
 use Rattle.router_trace.specs.Trace.{Trace, Did, Out, Step, goes, puts, each_to, ups}
 use Rattle.router_trace.specs.Connection.{Connection, conn, ended, fresh, has, is_full, is_due, due, due_of, unless_due, live_of, at_event, with_item}
-use Rattle.router_trace.specs.Deliveries.{Delivery, delivery, named, number_named, sending, ended_by as put_ends, after_event, channels_found}
+use Rattle.router_trace.specs.Deliveries.{Delivery, delivery, named, number_named, sending, ended_by as put_ends, after_event, channels_found, acts_found}
 use Rattle.router_trace.specs.Frames.{error_of, header_item, open_item, close_item, begin_item, end_item, flow_item, closing}
 use Rattle.router_trace.specs.LinkFrames.{detach_item, link_flow_item}
 use Rattle.router_trace.specs.declared.channel.PeerChannel.{PeerChannel}
@@ -26,15 +27,15 @@ use Rattle.state_links.specs.Fits.{channel_of}
 use Rattle.reply_rows.specs.declared.answer.Answer.{Answer}
 use Rattle.reply_rows.specs.declared.answer.Answer.TheVariants.{Nothing, Header, Open, Close, CloseWith, Begin, End, Flow, Attach, Refuse, Detach, LinkFlow, Taken, Settle}
 use Rattle.reply_rows.specs.Rows.{said}
-use Rattle.router_reply.specs.Acts.{booked}
+use Rattle.router_reply.specs.Acts.{acts_of, booked}
 use Rattle.router_reply.specs.Deciding.{lost, listed, stolen_for, ended_by, session_found, event_changes}
 use Rattle.router_reply.specs.Replies.{closing_of, ends}
 use Rattle.state_connections.proofs.Lists.{by_test}
 use Rattle.theorems.proofs.Booked.{answer_for, changes_of}
 use Rattle.theorems.proofs.Changing.{alike_it, closed_is}
 use Rattle.theorems.proofs.Facts.{did_facts}
-use Rattle.theorems.proofs.Hearing.{IsNamed, heard_is}
-use Rattle.theorems.proofs.Keeps.{Kept, next_kept, same_kept, plain_kept}
+use Rattle.theorems.proofs.Hearing.{IsNamed, gives_by, gives, heard_is}
+use Rattle.theorems.proofs.Keeps.{Kept, Ahead, next_kept, same_kept, plain_kept}
 use Rattle.theorems.proofs.Naming.{AreNamed, did_named}
 use Rattle.theorems.proofs.Standing.{did_standing}
 
@@ -174,11 +175,11 @@ abbrev pub answer_rest : Trace → Event → List Change
 answer_rest t (event.Item c i) = ended_by t c.0 i (answer_for t (event.Item c i))
 answer_rest t _ = []
 
-did_kept : (s : Step) (t : Trace) (xs ys : List Change)
-    → ((n : ℕ) (d : Delivery) → delivery t n ≡ Some d → changed_by ys (after_event s.event (channels_found t) (named t) n d) ≡ changed_by xs d) → Kept t xs → Kept (Did s ∷ t) ys
-did_kept s t xs ys same was = record {
+did_kept : (s : Step) (t : Trace) (g : Delivery → Delivery) (xs ys : List Change)
+    → ((n : ℕ) (d : Delivery) → delivery t n ≡ Some d → changed_by ys (after_event s.event (channels_found t) (named t) (acts_found t) n d) ≡ changed_by xs (g d)) → Ahead t g xs → Kept (Did s ∷ t) ys
+did_kept s t g xs ys same was = record {
   law = was.law;
-  facts = did_facts s t xs ys was.standing (λ n d there. alike_it (changed_by xs d) (changed_by ys (after_event s.event (channels_found t) (named t) n d)) (same n d there)) was.facts;
+  facts = did_facts s t g xs ys was.standing (λ n d there. alike_it (changed_by xs (g d)) (changed_by ys (after_event s.event (channels_found t) (named t) (acts_found t) n d)) (same n d there)) was.facts;
   standing = did_standing s t was.standing;
   named = did_named s t was.named;
   ordered = was.ordered;
@@ -188,17 +189,17 @@ changed_more : (xs ys : List Change) (d : Delivery) → changed_by (xs ++ ys) d 
 changed_more [] ys d = refl
 changed_more (x ∷ xs) ys d = changed_more xs ys (changed x d)
 
-came_same : (t : Trace) (c : ConnectionId) (i : Item) (answer : Answer) (n : ℕ) (d : Delivery) → AreNamed t → delivery t n ≡ Some d
-    → changed_by (map lost (due t (event.Item c i)) ++ ended_by t c.0 i answer) (after_event (event.Item c i) (channels_found (booked t (event.Item c i))) (named t) n d)
-    ≡ changed_by (event_changes t (event.Item c i) answer) d
-came_same t c i answer n d names there =
+came_same : (t : Trace) (c : ConnectionId) (i : Item) (answer : Answer) (acts : List Act) (n : ℕ) (d : Delivery) → AreNamed t → delivery t n ≡ Some d
+    → changed_by (map lost (due t (event.Item c i)) ++ ended_by t c.0 i answer) (after_event (event.Item c i) (channels_found (booked t (event.Item c i))) (named t) acts n d)
+    ≡ changed_by (event_changes t (event.Item c i) answer) (gives_by i acts d)
+came_same t c i answer acts n d names there =
     let first : List Change = listed (heard_change c.0 (session_found t c i) i) in
     let ends_them : List Change = map lost (due t (event.Item c i)) in
     ap (changed_by (ends_them ++ ended_by t c.0 i answer))
-    (heard_is i c.0 n (channels_found (booked t (event.Item c i)) c.0) (named t c.0) d named_it
-    ∙ ap (λ (own : Option ℕ). changed_by (listed (heard_change c.0 own i)) d) (own_if (has c.0 (due t (event.Item c i))) (theirs t c.0 (channel_of i))))
-    ∙ sym (changed_more first (ends_them ++ ended_by t c.0 i answer) d)
-    ∙ ap (λ (zs : List Change). changed_by zs d) (sym (append_assoc first ends_them (ended_by t c.0 i answer)))
+    (heard_is i c.0 n (channels_found (booked t (event.Item c i)) c.0) (named t c.0) acts d named_it
+    ∙ ap (λ (own : Option ℕ). changed_by (listed (heard_change c.0 own i)) (gives_by i acts d)) (own_if (has c.0 (due t (event.Item c i))) (theirs t c.0 (channel_of i))))
+    ∙ sym (changed_more first (ends_them ++ ended_by t c.0 i answer) (gives_by i acts d))
+    ∙ ap (λ (zs : List Change). changed_by zs (gives_by i acts d)) (sym (append_assoc first ends_them (ended_by t c.0 i answer)))
   where
     own_if : (b : Bool) (v : Option PeerChannel) → own_of (if b then None else v) ≡ (if b then None else own_of v)
     own_if true v = refl
@@ -211,13 +212,13 @@ more_nothing : (xs : List Change) (d e : Delivery) → e ≡ d → changed_by (x
 more_nothing xs d e same = ap (λ (zs : List Change). changed_by zs e) (append-nil xs) ∙ ap (changed_by xs) same
 
 event_same : (t : Trace) (e : Event) (n : ℕ) (d : Delivery) → AreNamed t → delivery t n ≡ Some d
-    → changed_by (map lost (due t e) ++ answer_rest t e) (after_event e (channels_found (booked t e)) (named t) n d) ≡ changed_by (changes_of t e) d
-event_same t (event.Item c i) n d names there = came_same t c i (answer_for t (event.Item c i)) n d names there
+    → changed_by (map lost (due t e) ++ answer_rest t e) (after_event e (channels_found (booked t e)) (named t) (acts_of t e) n d) ≡ changed_by (changes_of t e) (gives e (acts_of t e) d)
+event_same t (event.Item c i) n d names there = came_same t c i (answer_for t (event.Item c i)) (acts_of t (event.Item c i)) n d names there
 event_same t (event.Down c) n d names there = ap (λ (zs : List Change). changed_by zs (changed (lost c.0) d)) (append-nil (map lost (due t (event.Down c))))
 event_same t (event.Up c p) n d names there = more_nothing (map lost (due t (event.Up c p))) d d refl
 event_same t (event.Tick ms) n d names there = more_nothing (map lost (due t (event.Tick ms))) d d refl
 event_same t event.Start n d names there = more_nothing (map lost (due t event.Start)) d d refl
 
-pub came_kept : (s : Step) (t : Trace) → Kept (booked t s.event) (changes_of t s.event) → Kept (Did s ∷ booked t s.event) (map lost (due t s.event) ++ answer_rest t s.event)
+pub came_kept : (s : Step) (t : Trace) → Ahead (booked t s.event) (gives s.event (acts_of t s.event)) (changes_of t s.event) → Kept (Did s ∷ booked t s.event) (map lost (due t s.event) ++ answer_rest t s.event)
 came_kept s t was =
-    did_kept s (booked t s.event) (changes_of t s.event) (map lost (due t s.event) ++ answer_rest t s.event) (λ n d there. event_same t s.event n d was.named there) was
+    did_kept s (booked t s.event) (gives s.event (acts_of t s.event)) (changes_of t s.event) (map lost (due t s.event) ++ answer_rest t s.event) (λ n d there. event_same t s.event n d was.named there) was

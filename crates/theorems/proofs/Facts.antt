@@ -14,7 +14,7 @@ use Rattle.router_trace.specs.declared.binding.DeliveryName.TheVariants.{Row}
 use Rattle.router_trace.specs.declared.binding.Origin.{Origin}
 use Rattle.router_trace.specs.declared.handle.Attachment.{Attachment}
 use Rattle.router_trace.specs.Trace.{Trace, Entry, Did, Out, Took, Bound, Step}
-use Rattle.router_trace.specs.Deliveries.{Delivery, source, bindings, bound, name_in, name_of, number_named, delivery, sending, named, after_put, after_event, channels_found}
+use Rattle.router_trace.specs.Deliveries.{Delivery, source, bindings, bound, name_in, name_of, number_named, delivery, sending, named, after_put, after_event, channels_found, acts_found}
 use Rattle.router_trace.specs.Following.{link_of}
 use Rattle.router_trace.specs.Links.{durable_key}
 use Rattle.state_deliveries.specs.declared.change.Change.{Change}
@@ -62,6 +62,10 @@ pub record RowFact (t : Trace) (b : BookView) (r : RowNumber) (e : Delivery) : T
 abbrev pub Facts : Trace → List Change → Type 0
 Facts t xs = (n : ℕ) (d : Delivery) (r : RowNumber) → delivery t n ≡ Some d → d.name ≡ Row r → RowFact t (book_in t) r (changed_by xs d)
 
+-- the same where the event's entry gives it an outcome first (`given`)
+abbrev pub FactsOf : Trace → (Delivery → Delivery) → List Change → Type 0
+FactsOf t g xs = (n : ℕ) (d : Delivery) (r : RowNumber) → delivery t n ≡ Some d → d.name ≡ Row r → RowFact t (book_in t) r (changed_by xs (g d))
+
 -- over another trace with the same book, where the links of producers stay
 
 agrees_moved : (t u : Trace) (b : BookView) (v : Option ARow) (e f : Delivery) → Alike e f
@@ -82,17 +86,17 @@ fact_moved t u b r e f alike stays was = record {
   agrees = agrees_moved t u b (row_at r.0 b.rows) e f alike stays was.agrees;
 }
 
-pub did_facts : (s : Step) (t : List Entry) (xs ys : List Change) → Standing t
-    → ((n : ℕ) (d : Delivery) → delivery t n ≡ Some d → Alike (changed_by xs d) (changed_by ys (after_event s.event (channels_found t) (named t) n d)))
-    → Facts t xs → Facts (Did s ∷ t) ys
-did_facts s t xs ys standing alike was n e r now name =
-    let before = of_what (after_event s.event (channels_found t) (named t) n) (delivery t n) e now in
+pub did_facts : (s : Step) (t : List Entry) (g : Delivery → Delivery) (xs ys : List Change) → Standing t
+    → ((n : ℕ) (d : Delivery) → delivery t n ≡ Some d → Alike (changed_by xs (g d)) (changed_by ys (after_event s.event (channels_found t) (named t) (acts_found t) n d)))
+    → FactsOf t g xs → Facts (Did s ∷ t) ys
+did_facts s t g xs ys standing alike was n e r now name =
+    let before = of_what (after_event s.event (channels_found t) (named t) (acts_found t) n) (delivery t n) e now in
     let w = was_did s t n e now in
     let d : Delivery = before.0 in
     let same : d ≡ w.before = some_same (sym before.1 ∙ w.there) in
     let called : d.name ≡ Row r = ap (λ (x : Delivery). x.name) same ∙ sym w.follows.name ∙ name in
     subst (λ (x : Delivery). RowFact (Did s ∷ t) (book_in t) r (changed_by ys x)) (sym before.2)
-    (fact_moved t (Did s ∷ t) (book_in t) r (changed_by xs d) (changed_by ys (after_event s.event (channels_found t) (named t) n d)) (alike n d before.1)
+    (fact_moved t (Did s ∷ t) (book_in t) r (changed_by xs (g d)) (changed_by ys (after_event s.event (channels_found t) (named t) (acts_found t) n d)) (alike n d before.1)
     (λ p key from durable. did_durable s t p.link key durable (w.keeps p ((leaves_by ys e).comes p (ap (λ (x : Delivery). source (changed_by ys x)) before.2 ∙ from))))
     (was n d r before.1 called))
 

@@ -11,6 +11,7 @@ use Rattle.amqp_model.specs.declared.perf.Transfer.{Transfer}
 use Rattle.amqp_model.specs.declared.state.DeliveryState.{DeliveryState}
 use Rattle.amqp_model.specs.declared.item.Item.{Item}
 use Rattle.amqp_model.specs.declared.item.Item.TheVariants as item
+use Rattle.book_model.specs.declared.act.Act.{Act}
 use Rattle.router_trace.specs.declared.binding.DeliveryName.{DeliveryName}
 use Rattle.router_trace.specs.declared.binding.Origin.{Origin}
 use Rattle.router_trace.specs.declared.channel.PeerChannel.{PeerChannel}
@@ -18,7 +19,7 @@ use Rattle.router_trace.specs.declared.event.Event.{Event}
 use Rattle.router_trace.specs.declared.event.Event.TheVariants as event
 use Rattle.router_trace.specs.declared.handle.Attachment.{Attachment}
 use Rattle.router_trace.specs.Trace.{Entry, Did, Out, Took, Booked, Bound, Began, is_opening, IsOneRun}
-use Rattle.router_trace.specs.Deliveries.{Delivery, bindings, name_in, same_name, number_named, unless_called, delivery, sending, named, is_over, unless_over, after_frame, decided, source, untold, unsettled, told, ended, decided_at_end, suspended_at_end, closes, is_undecided, is_meant, is_named, decision, terminal, is_gone_with, after_origin, after_ends, ended_by, put_in, after_put, carried, tag_in, is_number, is_on, is_settled_at, disposed, heard_in, heard, lost_with, after_event, origin_id, channels_found, sender, forsaken}
+use Rattle.router_trace.specs.Deliveries.{Delivery, bindings, name_in, same_name, number_named, unless_called, delivery, sending, named, is_over, unless_over, after_frame, decided, source, untold, unsettled, told, ended, decided_at_end, suspended_at_end, closes, is_undecided, is_meant, is_named, decision, terminal, is_gone_with, after_origin, after_ends, ended_by, put_in, after_put, carried, tag_in, is_number, is_on, is_settled_at, disposed, outcome_or, outcome_named, given, heard_in, heard, lost_with, after_event, origin_id, channels_found, acts_found, sender, forsaken}
 use Rattle.theorems.specs.OneConsumer.{IsOrNone, WhileThere}
 use Rattle.state_connections.proofs.Lists.{by_test}
 
@@ -88,22 +89,23 @@ disposed_left : (R : Delivery → Delivery → Type 0) → Left R → (role : Ro
 disposed_left R left Receiver x c v names n d = choice R (is_on d.link c v) d (decided x names n d) d (decided_left R left x names n d) (left.same d)
 disposed_left R left Sender x c v names n d = choice R (is_settled_at x c v (source d)) d (untold d) d (left.untold d) (left.same d)
 
-heard_perf : (R : Delivery → Delivery → Type 0) → Left R → (body : Perf) (c : ℕ) (v : Option PeerChannel) (names : ℕ → ℕ → Option ℕ) (n : ℕ) (d : Delivery)
-    → R d (heard_in body c v names n d)
-heard_perf R left (perf.Disposition x) c v names n d = disposed_left R left x.role x c v (names d.link.channel) n d
-heard_perf R left _ c v names n d = left.same d
+heard_perf : (R : Delivery → Delivery → Type 0) → Left R → (body : Perf) (c : ℕ) (v : Option PeerChannel) (names : ℕ → ℕ → Option ℕ) (acts : List Act) (n : ℕ) (d : Delivery)
+    → R d (heard_in body c v names acts n d)
+heard_perf R left (perf.Disposition x) c v names acts n d = disposed_left R left x.role x c v (names d.link.channel) n d
+heard_perf R left (perf.Attach x) c v names acts n d = left.decided d (outcome_or d.outcome (outcome_named acts d.name))
+heard_perf R left _ c v names acts n d = left.same d
 
-heard_left : (R : Delivery → Delivery → Type 0) → Left R → (i : Item) (c : ℕ) (known : ℕ → Option PeerChannel) (names : ℕ → ℕ → Option ℕ) (n : ℕ) (d : Delivery)
-    → R d (heard i c known names n d)
-heard_left R left (item.Frame sasl channel body payload) c known names n d =
-    choice R sasl d d (heard_in body c (known channel) names n d) (left.same d) (heard_perf R left body c (known channel) names n d)
-heard_left R left _ c known names n d = left.same d
+heard_left : (R : Delivery → Delivery → Type 0) → Left R → (i : Item) (c : ℕ) (known : ℕ → Option PeerChannel) (names : ℕ → ℕ → Option ℕ) (acts : List Act) (n : ℕ) (d : Delivery)
+    → R d (heard i c known names acts n d)
+heard_left R left (item.Frame sasl channel body payload) c known names acts n d =
+    choice R sasl d d (heard_in body c (known channel) names acts n d) (left.same d) (heard_perf R left body c (known channel) names acts n d)
+heard_left R left _ c known names acts n d = left.same d
 
 pub event_left : (R : Delivery → Delivery → Type 0) → Left R
-    → (e : Event) (known : ℕ → ℕ → Option PeerChannel) (names : ℕ → ℕ → ℕ → Option ℕ) (n : ℕ) (d : Delivery) → R d (after_event e known names n d)
-event_left R left (event.Item c i) known names n d = heard_left R left i c.0 (known c.0) (names c.0) n d
-event_left R left (event.Down c) known names n d = ends_left R left false (lost_with c.0) d
-event_left R left _ known names n d = left.same d
+    → (e : Event) (known : ℕ → ℕ → Option PeerChannel) (names : ℕ → ℕ → ℕ → Option ℕ) (acts : List Act) (n : ℕ) (d : Delivery) → R d (after_event e known names acts n d)
+event_left R left (event.Item c i) known names acts n d = heard_left R left i c.0 (known c.0) (names c.0) acts n d
+event_left R left (event.Down c) known names acts n d = ends_left R left false (lost_with c.0) d
+event_left R left _ known names acts n d = left.same d
 
 -- the name, the link, the payload, the format, and the origin or none
 
@@ -153,9 +155,9 @@ frames_follow x count d = record { name = refl; link = refl; payload = refl; for
 pub item_follows : (numbers : DeliveryName → Option ℕ) (i : Item) (c n : ℕ) (sent : ℕ → ℕ → Option ℕ) (d : Delivery) → Follows d (after_put numbers i c n sent d)
 item_follows numbers i c n sent d = item_left Follows follows_left frames_follow numbers i c n sent d
 
-pub event_follows : (e : Event) (known : ℕ → ℕ → Option PeerChannel) (names : ℕ → ℕ → ℕ → Option ℕ) (n : ℕ) (d : Delivery)
-    → Follows d (after_event e known names n d)
-event_follows e known names n d = event_left Follows follows_left e known names n d
+pub event_follows : (e : Event) (known : ℕ → ℕ → Option PeerChannel) (names : ℕ → ℕ → ℕ → Option ℕ) (acts : List Act) (n : ℕ) (d : Delivery)
+    → Follows d (after_event e known names acts n d)
+event_follows e known names acts n d = event_left Follows follows_left e known names acts n d
 
 -- the same for a delivery that may exist
 
@@ -199,7 +201,7 @@ uncalled_follow name (Some d) = by (same_name d.name name)
     by false = same d
 
 pub entry_follows : (e : Entry) (t : List Entry) (n : ℕ) → n ≤ bindings t → AllFollow (delivery t n) (delivery (e ∷ t) n)
-entry_follows (Did s) t n given = changed (after_event s.event (channels_found t) (named t) n) (event_follows s.event (channels_found t) (named t) n) (delivery t n)
+entry_follows (Did s) t n given = changed (after_event s.event (channels_found t) (named t) (acts_found t) n) (event_follows s.event (channels_found t) (named t) (acts_found t) n) (delivery t n)
 entry_follows (Out c i) t n given = changed (after_put (number_named t) i c n (sending t c)) (item_follows (number_named t) i c n (sending t c)) (delivery t n)
 entry_follows (Took c k) t n given = all_same (delivery t n)
 entry_follows (Began g) t n given = all_gone (delivery t n)

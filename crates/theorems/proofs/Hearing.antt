@@ -1,9 +1,10 @@
 -- What a peer's item does to deliveries is a change of them, as long as the ids of undecided ones name them.
-use Rattle.std.proofs.Common.{◌≡◌, ◌∙◌, sym, ap, refl, ℕ, Bool, true, false, ◌&&◌, arith}
+use Rattle.std.proofs.Common.{◌≡◌, ◌∙◌, sym, ap, refl, ℕ, Bool, true, false, ◌&&◌, List, arith}
 use Rattle.std.specs.Prelude.{◌==◌, Option, Some, None, if◌then◌else◌}
 use Rattle.std.proofs.lemmas.Bool.{eqb-true}
 use Rattle.std.proofs.lemmas.Bool.Decides.{nat_tests}
 use Rattle.amqp_model.specs.declared.perf.Disposition.{Disposition}
+use Rattle.amqp_model.specs.declared.perf.Perf.{Perf}
 use Rattle.amqp_model.specs.declared.perf.Perf.TheVariants as perf
 use Rattle.amqp_model.specs.declared.perf.Role.{Role}
 use Rattle.amqp_model.specs.declared.perf.Role.TheVariants.{Sender, Receiver}
@@ -11,11 +12,14 @@ use Rattle.amqp_model.specs.declared.state.DeliveryState.{DeliveryState}
 use Rattle.amqp_model.specs.declared.item.Item.{Item}
 use Rattle.amqp_model.specs.declared.item.Item.TheVariants as item
 use Rattle.amqp_session.specs.Ranges.{in_range}
+use Rattle.book_model.specs.declared.act.Act.{Act}
 use Rattle.router_trace.specs.declared.binding.Origin.{Origin}
 use Rattle.router_trace.specs.declared.channel.PeerChannel.{PeerChannel}
+use Rattle.router_trace.specs.declared.event.Event.{Event}
+use Rattle.router_trace.specs.declared.event.Event.TheVariants as event
 use Rattle.router_trace.specs.declared.channel.PeerChannel.TheVariants.{Mapped, Ending}
 use Rattle.router_trace.specs.Sessions.{maps, own_of}
-use Rattle.router_trace.specs.Deliveries.{Delivery, source, untold, is_undecided, is_meant, is_named, is_number, decided, decision, terminal, last_of, is_settled_at, disposed, heard}
+use Rattle.router_trace.specs.Deliveries.{Delivery, source, untold, is_undecided, is_meant, is_named, is_number, decided, decision, terminal, last_of, is_settled_at, disposed, given, heard}
 use Rattle.state_deliveries.specs.declared.change.Change.TheVariants as change
 use Rattle.state_deliveries.specs.Deciding.{changed_by}
 use Rattle.state_deliveries.specs.Hearing.{decided_by, disposed_change, heard_change}
@@ -138,9 +142,24 @@ disposes Sender x c n (Some Ending) names d named = nowhere x c n (Some Ending) 
 disposes Receiver x c n None names d named = nowhere x c n None names d (λ o. refl) Receiver
 disposes Sender x c n None names d named = nowhere x c n None names d (λ o. refl) Sender
 
-pub heard_is : (i : Item) (c n : ℕ) (known : ℕ → Option PeerChannel) (names : ℕ → ℕ → Option ℕ) (d : Delivery) → (d.link.conn.0 ≡ c → IsNamed (names d.link.channel) n d)
-    → heard i c known names n d ≡ changed_by (listed (heard_change c (own_of (known (channel_of i))) i)) d
-heard_is (item.Frame true channel body payload) c n known names d named = refl
-heard_is (item.Frame false channel (perf.Disposition x) payload) c n known names d named = disposes x.role x c n (known channel) (names d.link.channel) d named
-heard_is (item.Frame false channel _ payload) c n known names d named = refl
-heard_is _ c n known names d named = refl
+-- what the acts of an event give a delivery: those of an attach do
+abbrev pub gives_in : Perf → List Act → Delivery → Delivery
+gives_in (perf.Attach x) acts d = given acts d
+gives_in _ acts d = d
+
+abbrev pub gives_by : Item → List Act → Delivery → Delivery
+gives_by (item.Frame true channel body payload) acts d = d
+gives_by (item.Frame false channel body payload) acts d = gives_in body acts d
+gives_by _ acts d = d
+
+abbrev pub gives : Event → List Act → Delivery → Delivery
+gives (event.Item c i) acts d = gives_by i acts d
+gives _ acts d = d
+
+pub heard_is : (i : Item) (c n : ℕ) (known : ℕ → Option PeerChannel) (names : ℕ → ℕ → Option ℕ) (acts : List Act) (d : Delivery) → (d.link.conn.0 ≡ c → IsNamed (names d.link.channel) n d)
+    → heard i c known names acts n d ≡ changed_by (listed (heard_change c (own_of (known (channel_of i))) i)) (gives_by i acts d)
+heard_is (item.Frame true channel body payload) c n known names acts d named = refl
+heard_is (item.Frame false channel (perf.Disposition x) payload) c n known names acts d named = disposes x.role x c n (known channel) (names d.link.channel) d named
+heard_is (item.Frame false channel (perf.Attach x) payload) c n known names acts d named = refl
+heard_is (item.Frame false channel _ payload) c n known names acts d named = refl
+heard_is _ c n known names acts d named = refl

@@ -96,7 +96,7 @@ ends_kept id (d ∷ ds) t was =
 
 -- an answer to an attach asks for the same as the attach
 
-outlives_same : (d : ℕ) → outlives (kept d) ≡ outlives d
+pub outlives_same : (d : ℕ) → outlives (kept d) ≡ outlives d
 outlives_same d = by_test (d == 1) (λ e. rw e (sym (ap outlives (eqb-true d 1 e)))) (λ e. rw e refl)
 
 abbrev Asks : AnAttach → Option Terminus → Type 0
@@ -288,7 +288,7 @@ makes t from sasl channel a payload p own stands answers wants = by (terminus_of
         ∙ (attach_only (free_handle t from.0) (book_refusal full b t from.0 a) (item_reply p (finds t from.0) i) own at).0
 
     ds : List Decision
-    ds = decided t e (Attach own)
+    ds = decided b t e (Attach own)
 
     numbers : List RowNumber
     numbers = forgotten b t e (Attach own)

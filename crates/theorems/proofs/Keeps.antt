@@ -40,7 +40,7 @@ use Rattle.theorems.specs.Told.{TellsOutcome}
 use Rattle.theorems.specs.Carried.{HasSmallNumbers}
 use Rattle.theorems.specs.Kept.{IsDecidedAs, RowIsDecided, role_is_decided, perf_is_decided, OutcomeIsKept}
 use Rattle.theorems.proofs.Changing.{alike_it, alike_item}
-use Rattle.theorems.proofs.Facts.{kept_form, Agrees, Facts, out_facts, took_facts}
+use Rattle.theorems.proofs.Facts.{kept_form, Agrees, Facts, FactsOf, out_facts, took_facts}
 use Rattle.theorems.proofs.Naming.{AreNamed, is_sent_in, is_sent, out_named, IsNaming, sent_named, sends_elim}
 use Rattle.theorems.proofs.Quiet.{drains_quiet}
 use Rattle.theorems.proofs.Sound.{is_loud_in, is_loud, QuietPut}
@@ -53,6 +53,14 @@ clash e = cc
 pub record Kept (t : Trace) (xs : List Change) : Type 0 where
   pub law : EachOut OutcomeIsKept t
   pub facts : Facts t xs
+  pub standing : Standing t
+  pub named : AreNamed t
+  pub ordered : IsOrdered (book_in t)
+
+-- after the acts of an event, before its entry, which gives deliveries outcomes first
+pub record Ahead (t : Trace) (g : Delivery → Delivery) (xs : List Change) : Type 0 where
+  pub law : EachOut OutcomeIsKept t
+  pub facts : FactsOf t g xs
   pub standing : Standing t
   pub named : AreNamed t
   pub ordered : IsOrdered (book_in t)

@@ -1,11 +1,12 @@
 -- In every trace of the router in which no event is declined, the outcome of a delivery with a row stands in the book before it is told, and each row is decided
 -- at most once.
 use Rattle.std.proofs.Common.{◌≡◌, ◌∙◌, sym, ap, refl, subst, ◌⊎◌, inl, inr, ℕ, ◌+◌, ◌≤◌, ◌<◌, ◌^◌, ◌||◌, Bool, true, false, List, [], ◌∷◌, ◌++◌, arith}
-use Rattle.std.specs.Prelude.{Option, Some, None, if◌then◌else◌}
+use Rattle.std.specs.Prelude.{Option, Some, None, option_map, if◌then◌else◌}
 use Rattle.amqp_model.specs.declared.perf.Attach.{Attach as AnAttach}
 use Rattle.amqp_model.specs.declared.perf.Perf.{Perf}
 use Rattle.amqp_model.specs.declared.perf.Perf.TheVariants as perf
 use Rattle.amqp_model.specs.declared.perf.Transfer.{Transfer as ATransfer}
+use Rattle.amqp_model.specs.declared.state.DeliveryState.{DeliveryState}
 use Rattle.amqp_model.specs.declared.item.Item.{Item}
 use Rattle.amqp_model.specs.declared.item.Item.TheVariants as item
 use Rattle.amqp_conn.specs.declared.conn.Conn.{Conn}
@@ -16,6 +17,8 @@ use Rattle.book_model.specs.Sound.{IsSound}
 use Rattle.gate_journal.specs.Ordered.{IsOrdered}
 use Rattle.gate_journal.proofs.Ordered.{empty_ordered}
 use Rattle.journal_store.proofs.Sound.{sound_is_ordered}
+use Rattle.journal_store.specs.Acting.{journal_outcome}
+use Rattle.resume_core.specs.Resuming.{entries_of, told_of, outcome_given, either_outcome}
 use Rattle.router_trace.specs.Configuration.{beginning, opened}
 use Rattle.router_trace.specs.declared.binding.Binding.{Binding}
 use Rattle.router_trace.specs.declared.condition.Condition.TheVariants.{ResourceLimitExceeded}
@@ -25,7 +28,8 @@ use Rattle.router_trace.specs.declared.event.Event.TheVariants as event
 use Rattle.router_trace.specs.Trace.{Beginning, Trace, Did, Out, Took, Booked, Put, Step, did, goes, puts, each_to, step_of, ups}
 use Rattle.router_trace.specs.Connection.{conn, due, found, standing, live_of}
 use Rattle.router_trace.specs.Clocks.{terms, written, needs_beat}
-use Rattle.router_trace.specs.Deliveries.{Delivery, bindings, delivery}
+use Rattle.router_trace.specs.DeliveryFrames.{kept_outcome}
+use Rattle.router_trace.specs.Deliveries.{Delivery, bindings, delivery, outcome_as, outcome_or}
 use Rattle.router_trace.specs.Links.{link_place, free_handle}
 use Rattle.router_trace.specs.Peers.{largest_frame}
 use Rattle.router_trace.specs.Sessions.{theirs}
@@ -51,6 +55,7 @@ use Rattle.router_core.proofs.Books.{started_handled}
 use Rattle.router_core.proofs.Following.{all_keep}
 use Rattle.router_core.proofs.Resuming.{resumed_keeps}
 use Rattle.theorems.specs.Carried.{HasSmallNumbers}
+use Rattle.theorems.specs.Came.{TakesUp}
 use Rattle.theorems.specs.Each.{EachOut}
 use Rattle.theorems.specs.Lives.{GoesInTurn}
 use Rattle.theorems.specs.Kept.{OutcomeIsKept, may_be_decided, times_in, times_decided, IsDecidedOnce, EachOutcomeIsKept, EachRowIsDecidedOnce}
@@ -59,14 +64,16 @@ use Rattle.theorems.proofs.AllSound.{handled_sound}
 use Rattle.theorems.proofs.Answering.{IfAttach, attach_answered, attach_finds, taken_receives, may_bind}
 use Rattle.theorems.proofs.Attaching.{AttachAt, taken_kept, refused_kept}
 use Rattle.theorems.proofs.Bindings.{of_messages, there_bound}
-use Rattle.theorems.proofs.Brings.{Brings, no_brings, start_brings, opened_brings, handled_brings, took_brings, cut_brings}
+use Rattle.theorems.proofs.Brings.{Brings, Found, found_row, no_brings, start_brings, opened_brings, handled_brings, took_brings, cut_brings}
 use Rattle.theorems.proofs.Booked.{acts_apply, ordered_acts, changes_of, booked_facts}
+use Rattle.theorems.proofs.Hearing.{gives}
 use Rattle.theorems.proofs.Ending.{takes_none, answer_rest, came_kept, ends_kept}
-use Rattle.theorems.proofs.Keeps.{Kept, PlainPut, plain_both, plain_goes, took_kept, small_before, SmallKept, followed_kept}
+use Rattle.theorems.proofs.Keeps.{Kept, Ahead, PlainPut, plain_both, plain_goes, took_kept, small_before, SmallKept, followed_kept}
 use Rattle.theorems.proofs.Once.{Decides, decides_once}
-use Rattle.theorems.proofs.Resumed.{resumed_takes, replied_book}
-use Rattle.theorems.proofs.Served.{none_decided}
-use Rattle.theorems.proofs.Rowing.{MayBind, Receives, plain_row, disposed_row, taken_row, taken_up_kept}
+use Rattle.theorems.proofs.Resumed.{resumed_takes, replied_found}
+use Rattle.theorems.proofs.Giving.{IsKept, given_kept}
+use Rattle.theorems.proofs.KeptForm.{kept_form, kept_again}
+use Rattle.theorems.proofs.Rowing.{Holds, MayBind, Receives, plain_row, disposed_row, taken_row, taken_up_kept}
 use Rattle.theorems.proofs.Sound.{Sound, none_sound, opened_sound, sound_start, did_sound, took_sound, batch_sound}
 use Rattle.theorems.proofs.Standing.{began_standing, booked_standing}
 use Rattle.theorems.proofs.Tests.{none_not_some}
@@ -204,7 +211,7 @@ event_rows id t s (event.Tick ms) is may was =
 event_rows id t s (event.Up c p) is may was = was
 event_rows id t s event.Start is may was = was
 
-booked_kept : (t : Trace) (e : Event) → (e ≡ event.Start → (n : ℕ) → delivery t n ≡ None) → Kept t [] → Kept (booked t e) (changes_of t e)
+booked_kept : (t : Trace) (e : Event) → (e ≡ event.Start → (n : ℕ) → delivery t n ≡ None) → Kept t [] → Ahead (booked t e) (gives e (acts_of t e)) (changes_of t e)
 booked_kept t e none was = record {
   law = was.law;
   facts = booked_facts t e was.standing was.ordered none was.facts;
@@ -242,19 +249,40 @@ replied_small id t s small =
     let b : Option Binding = bound_by at u s.event in
     ends_small id (due t s.event) (Did s ∷ at) (bound_small b u (small_before (own_row id at u s.event) (with_bound b u) small))
 
-resumed_kept : (id : List ℕ) (t : Trace) (s : Step) → Sound t → IsSound (book_in t) → (s.event ≡ event.Start → (n : ℕ) → delivery t n ≡ None) → Kept t []
+-- the book has of a row that is taken up what its binding brings
+brought_holds : (o how now : Option DeliveryState) (theirs : Option DeliveryState → Option DeliveryState) → ((s : DeliveryState) → theirs None ≡ Some s → IsKept s)
+    → how ≡ either_outcome o (theirs o) → now ≡ outcome_or o (option_map journal_outcome (theirs o)) → now ≡ option_map kept_form now → now ≡ option_map kept_form how
+brought_holds (Some s) how now theirs kept gets acts form = form ∙ ap (option_map kept_form) (acts ∙ sym gets)
+brought_holds None how now theirs kept gets acts form = acts ∙ by (theirs None) refl ∙ ap (option_map kept_form) (sym gets)
+  where
+    by : (v : Option DeliveryState) → theirs None ≡ v → option_map journal_outcome v ≡ option_map kept_form v
+    by None is = refl
+    by (Some s) is =
+        let of = kept s is in
+        ap (λ (x : DeliveryState). Some (journal_outcome x)) (of.is ∙ sym (kept_again of.of) ∙ ap kept_outcome (sym of.is))
+
+taken_holds : (id : List ℕ) (t : Trace) (s : Step) (u : Trace) (b : Binding) (up : TakesUp u b) → Found t s.event u b up → Holds u b up
+taken_holds id t s u b up is = record {
+  known = is.row.known;
+  outcome = λ now found form.
+      brought_holds up.row.outcome (outcome_as up.brought.how) now.outcome (outcome_given (told_of (entries_of is.attach.unsettled) up.row))
+      (λ s gives. given_kept (told_of (entries_of is.attach.unsettled) up.row) None s gives) is.gets (is.row.outcome now found ∙ ap (outcome_or up.row.outcome) is.acts) form;
+}
+
+resumed_kept : (id : List ℕ) (t : Trace) (s : Step) → Sound t → Brings t → (s.event ≡ event.Start → (n : ℕ) → delivery t n ≡ None) → Kept t []
     → Kept (resumed (booked t s.event) s.event (replied id (booked t s.event) s)) []
-resumed_kept id t s sound book none was =
+resumed_kept id t s sound brings none was =
     resumed_takes (λ (u : Trace). Kept u []) (booked t s.event) s.event (replied id (booked t s.event) s)
-    (λ u b takes same held. taken_up_kept u b takes (same (none_decided t s.event book)) held) (replied_book id (booked t s.event) s) (replied_kept id t s sound none was)
+    (λ u b takes known held. taken_up_kept u b takes (taken_holds id t s u b takes (found_row id t s u b takes was.ordered brings.lasting known)) held)
+    (replied_found id (booked t s.event) s) (replied_kept id t s sound none was)
 
 resumed_small : (id : List ℕ) (t : Trace) (s : Step) → HasSmallNumbers (resumed (booked t s.event) s.event (replied id (booked t s.event) s)) → HasSmallNumbers t
 resumed_small id t s =
     resumed_keeps (λ (u : Trace). HasSmallNumbers u → HasSmallNumbers t) (λ b u before small. before (bound_small (Some b) u small)) (booked t s.event) s.event (replied id (booked t s.event) s) (replied_small id t s)
 
-handled_kept : (id : List ℕ) (t : Trace) (s : Step) → Sound t → IsSound (book_in t) → (s.event ≡ event.Start → (n : ℕ) → delivery t n ≡ None) → SmallKept t → SmallKept (handled id t s)
-handled_kept id t s sound book none was =
-    followed_kept (resumed (booked t s.event) s.event (replied id (booked t s.event) s)) (λ small. resumed_kept id t s sound book none (was (resumed_small id t s small)))
+handled_kept : (id : List ℕ) (t : Trace) (s : Step) → Sound t → Brings t → (s.event ≡ event.Start → (n : ℕ) → delivery t n ≡ None) → SmallKept t → SmallKept (handled id t s)
+handled_kept id t s sound brings none was =
+    followed_kept (resumed (booked t s.event) s.event (replied id (booked t s.event) s)) (λ small. resumed_kept id t s sound brings none (was (resumed_small id t s small)))
 
 -- moves
 
@@ -306,7 +334,7 @@ moves_all id (handles s ∷ ms) t u all went =
     (record {
       sound = handled_sound id t s all.sound;
       brings = handled_brings id t s all.brings;
-      kept = handled_kept id t s all.sound all.brings.book (λ is n. nothing_bound t (all.before (unstarted t (subst (λ (e : Event). declines t e ≡ false) is went.0))) n) all.kept;
+      kept = handled_kept id t s all.sound all.brings (λ is n. nothing_bound t (all.before (unstarted t (subst (λ (e : Event). declines t e ≡ false) is went.0))) n) all.kept;
       before = λ not. absurd (clash (sym (started_handled id t s.event went.0) ∙ not));
     })
     went.1

@@ -18,10 +18,11 @@ use Rattle.amqp_model.specs.PerfSpelling.{state_spelling}
 use Rattle.journal_codec.specs.Batches.{IsTerminal}
 use Rattle.journal_codec.specs.Outcome.{kept_outcome as written_outcome}
 use Rattle.journal_codec.proofs.Kept.{is_kept, keeps_itself}
+use Rattle.journal_codec.proofs.Terminal.{is_outcome}
 use Rattle.journal_store.specs.Acting.{journal_outcome}
 use Rattle.journal_store.specs.Lost.{failed}
 use Rattle.journal_store.proofs.Settled.{written_is_outcome, written_is_short}
-use Rattle.router_trace.specs.DeliveryFrames.{kept_condition, kept_error, undescribed, bare, unless_long, kept_outcome}
+use Rattle.router_trace.specs.DeliveryFrames.{kept_condition, kept_error, undescribed, without_info, bare, unless_long, kept_outcome}
 
 -- the outcome that the journal keeps of a delivery's
 abbrev pub kept_form : DeliveryState → DeliveryState
@@ -263,3 +264,86 @@ kept_twice s terminal =
     let y : DeliveryState = kept_form s in
     let again : kept_outcome y ≡ y = ap unless_long (still_undescribed s terminal) ∙ long_kept y (written_is_short (kept_outcome s)) in
     ap journal_outcome again ∙ ap (λ (v : Option DeliveryState). unwrap_or v failed) (keeps_itself y (written_is_outcome (kept_outcome s)) (written_is_short (kept_outcome s)))
+
+-- Only accepted is kept as accepted.
+
+two_codes : (s : DeliveryState) (n m : ℕ) → HasCode n s → HasCode m s → (n ≡ m → ⊥) → ⊥
+two_codes s n m one other differs = differs (sym one ∙ other)
+
+accepted_spelt : (s : DeliveryState) → IsTerminal s → HasCode 0x24 (kept_outcome s) → s ≡ state.Accepted
+accepted_spelt (state.Received r) terminal code = absurd terminal
+accepted_spelt (state.Other v) terminal code = absurd terminal
+accepted_spelt state.Accepted terminal code = refl
+accepted_spelt state.Released terminal code =
+    absurd (two_codes (kept_outcome state.Released) 0x26 0x24
+    (pick (HasCode 0x26) (nat_lt 400 (length (state_spelling state.Released))) state.Released state.Released released_code released_code) code (λ h. omega (arith, h)))
+accepted_spelt (state.Modified m) terminal code =
+    absurd (two_codes (kept_outcome (state.Modified m)) 0x27 0x24
+    (pick (HasCode 0x27) (nat_lt 400 (length (state_spelling (state.Modified m)))) (bare (state.Modified m)) (state.Modified m) (modified_code (record m { message_annotations = None })) (modified_code m)) code
+    (λ h. omega (arith, h)))
+accepted_spelt (state.Rejected r) terminal code =
+    let e : Option Fault = option_map kept_error r.error in
+    absurd (two_codes (kept_outcome (state.Rejected r)) 0x25 0x24
+    (pick (HasCode 0x25) (nat_lt 400 (length (state_spelling (rejected e)))) (bare (rejected e)) (rejected e) (rejected_code (option_map without_info e)) (rejected_code e)) code (λ h. omega (arith, h)))
+
+failed_not : failed ≡ state.Accepted → ⊥
+failed_not e = cc
+
+pub accepted_back : (s : DeliveryState) → IsTerminal s → kept_form s ≡ state.Accepted → s ≡ state.Accepted
+accepted_back s terminal is = by (written_outcome (kept_outcome s)) refl is
+  where
+    by : (v : Option DeliveryState) → written_outcome (kept_outcome s) ≡ v → unwrap_or v failed ≡ state.Accepted → s ≡ state.Accepted
+    by None e is = absurd (failed_not is)
+    by (Some o) e is =
+        accepted_spelt s terminal
+        (ap (λ (l : List ℕ). first (drop 2 l)) (sym (is_kept (kept_outcome s) o e).same ∙ ap state_spelling is) ∙ accepted_code)
+
+accepted_short : length (state_spelling state.Accepted) ≤ 400
+unfolding state_spelling described_text given
+accepted_short = omega arith
+
+pub accepted_itself : journal_outcome state.Accepted ≡ state.Accepted
+accepted_itself = ap (λ (v : Option DeliveryState). unwrap_or v failed) (keeps_itself state.Accepted (is_outcome state.Accepted tt tt) accepted_short)
+
+-- To keep an outcome as the router does once more changes nothing either.
+
+error_again : (f : Fault) → kept_error (kept_error f) ≡ kept_error f
+error_again f = plain_kept (kept_error f) (refl, condition_short f.condition)
+
+undescribed_again : (s : DeliveryState) → undescribed (undescribed s) ≡ undescribed s
+undescribed_again (state.Rejected r) = ap rejected (by r.error)
+  where
+    by : (v : Option Fault) → option_map kept_error (option_map kept_error v) ≡ option_map kept_error v
+    by None = refl
+    by (Some f) = ap (λ (g : Fault). Some g) (error_again f)
+undescribed_again _ = refl
+
+bare_undescribed : (s : DeliveryState) → undescribed (bare (undescribed s)) ≡ bare (undescribed s)
+bare_undescribed (state.Rejected r) = ap rejected (by r.error)
+  where
+    by : (v : Option Fault) → option_map kept_error (option_map without_info (option_map kept_error v)) ≡ option_map without_info (option_map kept_error v)
+    by None = refl
+    by (Some f) = ap (λ (g : Fault). Some g) (plain_kept (without_info (kept_error f)) (refl, condition_short f.condition))
+bare_undescribed _ = refl
+
+bare_again : (s : DeliveryState) → bare (bare s) ≡ bare s
+bare_again (state.Rejected r) = ap rejected (by r.error)
+  where
+    by : (v : Option Fault) → option_map without_info (option_map without_info v) ≡ option_map without_info v
+    by None = refl
+    by (Some f) = refl
+bare_again _ = refl
+
+pub kept_again : (s : DeliveryState) → kept_outcome (kept_outcome s) ≡ kept_outcome s
+kept_again s = by (nat_lt 400 (length (state_spelling u))) refl
+  where
+    u : DeliveryState
+    u = undescribed s
+
+    twice : (q : Bool) → (if q then bare (bare u) else bare u) ≡ bare u
+    twice true = bare_again u
+    twice false = refl
+
+    by : (q : Bool) → nat_lt 400 (length (state_spelling u)) ≡ q → unless_long (undescribed (if q then bare u else u)) ≡ (if q then bare u else u)
+    by true e = ap unless_long (bare_undescribed s) ∙ twice (nat_lt 400 (length (state_spelling (bare u))))
+    by false e = ap unless_long (undescribed_again s) ∙ ap (λ (q : Bool). if q then bare u else u) e

@@ -40,7 +40,10 @@ pub mod KeptForm
 pub mod Ended
 pub mod Facts
 pub mod Decisions
+pub mod Giving
 pub mod Booked
+pub mod Lasting
+pub mod Taking
 pub mod Brings
 pub mod Consuming
 pub mod Naming
@@ -50,8 +53,12 @@ pub mod Rowing
 pub mod Attaching
 pub mod Answering
 pub mod KeptFirst
+-- Who accepted a row.
+pub mod Among
+pub mod Accepting
 -- Runs that end by stops.
 pub mod Lives
+pub mod AcceptedFirst
 -- The order on a connection.
 pub mod Headed
 pub mod OnlyHeaders

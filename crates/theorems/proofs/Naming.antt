@@ -20,7 +20,7 @@ use Rattle.router_trace.specs.Peers.{largest_frame}
 use Rattle.router_trace.specs.Sessions.{session}
 use Rattle.router_trace.specs.DeliveryFrames.{first_transfer, later_transfer, with_more, part_frame, filled, next_frame, largest_out, rest_of}
 use Rattle.router_trace.specs.Following.{link_of, is_busy, is_open, is_used, is_going, is_there, is_wide, goes_on_at, takes_more, can_start, can_go, place_to_go, transfer_of, send, send_of, sends_due}
-use Rattle.router_trace.specs.Deliveries.{Delivery, bindings, name_in, number_named, number_tagged, delivery, sending, named, named_in, named_by, next_id, is_id, carried, tag_in, tag_of, tagged, is_number, is_undecided, after_frame, put_in, after_put, after_event, ended_by, closes, source, told, is_meant, origin_id, untold, unsettled, channels_found}
+use Rattle.router_trace.specs.Deliveries.{Delivery, bindings, name_in, number_named, number_tagged, delivery, sending, named, named_in, named_by, next_id, is_id, carried, tag_in, tag_of, tagged, is_number, is_undecided, after_frame, put_in, after_put, after_event, ended_by, closes, source, told, is_meant, origin_id, untold, unsettled, channels_found, acts_found}
 use Rattle.state_deliveries.proofs.Called.{there_named, uncalled}
 use Rattle.state_deliveries.proofs.Puts.{no_ends}
 use Rattle.state_connections.proofs.Lists.{by_test}
@@ -58,10 +58,10 @@ same_id = record {
 
 pub did_named : (s : Step) (t : List Entry) → AreNamed t → AreNamed (Did s ∷ t)
 did_named s t was n id e now undecided has =
-    let before = of_what (after_event s.event (channels_found t) (named t) n) (delivery t n) e now in
+    let before = of_what (after_event s.event (channels_found t) (named t) (acts_found t) n) (delivery t n) e now in
     let w = was_did s t n e now in
     let same : w.before ≡ before.0 = some_same (sym w.there ∙ before.1) in
-    let had : w.before.id ≡ Some id = ap (λ (d : Delivery). d.id) same ∙ sym (event_left SameId same_id s.event (channels_found t) (named t) n before.0) ∙ sym (ap (λ (d : Delivery). d.id) before.2) ∙ has in
+    let had : w.before.id ≡ Some id = ap (λ (d : Delivery). d.id) same ∙ sym (event_left SameId same_id s.event (channels_found t) (named t) (acts_found t) n before.0) ∙ sym (ap (λ (d : Delivery). d.id) before.2) ∙ has in
     let spared : is_lost s.event w.before.link.conn.0 ≡ false = w.spares undecided in
     let named_it : named t w.before.link.conn.0 w.before.link.channel id ≡ Some n = was n id w.before w.there (w.undecided undecided) had in
     subst (λ (a : Attachment). named (Did s ∷ t) a.conn.0 a.channel id ≡ Some n) (sym w.follows.link)

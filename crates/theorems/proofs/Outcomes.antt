@@ -2,6 +2,7 @@
 use Rattle.std.proofs.Common.{◌≡◌, ◌∙◌, sym, ap, refl, subst, ◌⊎◌, inl, inr, ℕ, ◌+◌, Bool, true, false, not, ◌&&◌, ◌||◌, List, [], ◌∷◌, ◌++◌, ◌≤◌, arith}
 use Rattle.std.specs.Prelude.{◌==◌, Option, Some, None, is_none, if◌then◌else◌, length}
 use Rattle.std.proofs.lemmas.Bool.{eqb-true}
+use Rattle.amqp_model.specs.declared.perf.Attach.{Attach}
 use Rattle.amqp_model.specs.declared.perf.Disposition.{Disposition}
 use Rattle.amqp_model.specs.declared.perf.Perf.{Perf}
 use Rattle.amqp_model.specs.declared.perf.Perf.TheVariants as perf
@@ -13,6 +14,8 @@ use Rattle.amqp_model.specs.declared.item.Item.{Item}
 use Rattle.amqp_model.specs.declared.item.Item.TheVariants as item
 use Rattle.amqp_session.specs.Ranges.{in_range}
 use Rattle.router_trace.specs.declared.binding.Binding.{Binding}
+use Rattle.router_trace.specs.declared.binding.DeliveryName.{DeliveryName}
+use Rattle.router_trace.specs.declared.binding.DeliveryName.TheVariants.{Row, Counter}
 use Rattle.router_trace.specs.declared.channel.PeerChannel.{PeerChannel}
 use Rattle.router_trace.specs.declared.channel.PeerChannel.TheVariants.{Mapped, Ending}
 use Rattle.router_trace.specs.declared.event.ConnectionId.{ConnectionId}
@@ -22,9 +25,9 @@ use Rattle.router_trace.specs.declared.handle.Attachment.{Attachment}
 use Rattle.router_trace.specs.Trace.{Entry, Did, Out, Took, Booked, Bound, Began, Step, is_opening}
 use Rattle.router_trace.specs.Links.{ends_handle}
 use Rattle.router_trace.specs.Sessions.{maps}
-use Rattle.router_trace.specs.Deliveries.{Delivery, brought, outcome_as, bindings, name_in, number_named, delivery, sending, named, failed, after_frame, decided, source, untold, unsettled, told, ended, decided_at_end, suspended_at_end, is_undecided, is_meant, is_named, is_number, last_of, decision, terminal, is_gone_with, after_origin, after_ends, ended_by, put_in, after_put, carried, tag_in, is_on, is_settled_at, disposed, heard_in, heard, lost_with, after_event, origin_id, channels_found, sender, forsaken}
+use Rattle.router_trace.specs.Deliveries.{Delivery, brought, outcome_as, bindings, name_in, number_named, delivery, sending, named, failed, after_frame, decided, source, untold, unsettled, told, ended, decided_at_end, suspended_at_end, is_undecided, is_meant, is_named, is_number, last_of, decision, terminal, is_gone_with, after_origin, after_ends, ended_by, put_in, after_put, carried, tag_in, is_on, is_settled_at, disposed, outcome_or, outcome_named, given, heard_in, heard, lost_with, after_event, origin_id, channels_found, acts_found, sender, forsaken}
 use Rattle.theorems.specs.Decided.{is_for_good, GivenByConsumer, Decides, DecidesFound, Decided, IsByConsumer, IsFoundByConsumer, DecidedByConsumer}
-use Rattle.theorems.specs.Decided.Decides.{given_by_consumer, link_lost, link_ended, sent_settled}
+use Rattle.theorems.specs.Decided.Decides.{given_by_consumer, given_by_attach, link_lost, link_ended, sent_settled}
 use Rattle.state_connections.proofs.Lists.{by_test}
 use Rattle.state_deliveries.proofs.Called.{uncalled}
 use Rattle.router_core.proofs.Due.{both_true}
@@ -213,19 +216,34 @@ disposed_from s t n d conn channel x payload came Sender role =
     untold_outcome true = refl
     untold_outcome false = refl
 
+-- an attach whose acts decide its row
+given_from : (s : Step) (t : List Entry) (n : ℕ) (d : Delivery) (conn : ConnectionId) (channel : ℕ) (a : Attach) (payload : List ℕ)
+    → s.event ≡ event.Item conn (item.Frame false channel (perf.Attach a) payload) → From (Now (Did s) t n d) d (given (acts_found t) d)
+given_from s t n d conn channel a payload came outcome h = by_outcome d.outcome refl h
+  where
+    by_name : (name : DeliveryName) → d.name ≡ name → d.outcome ≡ None → outcome_named (acts_found t) name ≡ Some outcome → (d.outcome ≡ Some outcome) ⊎ Decides (Did s) t n d outcome
+    by_name (Counter k) called none gives = absurd (none_not_some gives)
+    by_name (Row r) called none gives =
+        inr (given_by_attach (record { step = s; conn = conn; channel = channel; attach = a; payload = payload; row = r; entry_is = refl; came = came; name = called; gives = gives; undecided = none }))
+
+    by_outcome : (o : Option DeliveryState) → d.outcome ≡ o → outcome_or o (outcome_named (acts_found t) d.name) ≡ Some outcome → (d.outcome ≡ Some outcome) ⊎ Decides (Did s) t n d outcome
+    by_outcome (Some s) is h = inl (is ∙ h)
+    by_outcome None is h = by_name d.name refl is h
+
 heard_perf : (s : Step) (t : List Entry) (n : ℕ) (d : Delivery) (conn : ConnectionId) (channel : ℕ) (body : Perf) (payload : List ℕ)
     → s.event ≡ event.Item conn (item.Frame false channel body payload)
-    → From (Now (Did s) t n d) d (heard_in body conn.0 (channels_found t conn.0 channel) (named t conn.0) n d)
+    → From (Now (Did s) t n d) d (heard_in body conn.0 (channels_found t conn.0 channel) (named t conn.0) (acts_found t) n d)
 heard_perf s t n d conn channel (perf.Disposition x) payload came = disposed_from s t n d conn channel x payload came x.role refl
+heard_perf s t n d conn channel (perf.Attach a) payload came = given_from s t n d conn channel a payload came
 heard_perf s t n d conn channel _ payload came = was_there _ d
 
 heard_from : (s : Step) (t : List Entry) (n : ℕ) (d : Delivery) (conn : ConnectionId) (i : Item) → s.event ≡ event.Item conn i
-    → From (Now (Did s) t n d) d (heard i conn.0 (channels_found t conn.0) (named t conn.0) n d)
+    → From (Now (Did s) t n d) d (heard i conn.0 (channels_found t conn.0) (named t conn.0) (acts_found t) n d)
 heard_from s t n d conn (item.Frame true channel body payload) came = was_there _ d
 heard_from s t n d conn (item.Frame false channel body payload) came = heard_perf s t n d conn channel body payload came
 heard_from s t n d conn _ came = was_there _ d
 
-event_from : (s : Step) (t : List Entry) (n : ℕ) (d : Delivery) (e : Event) → s.event ≡ e → From (Now (Did s) t n d) d (after_event e (channels_found t) (named t) n d)
+event_from : (s : Step) (t : List Entry) (n : ℕ) (d : Delivery) (e : Event) → s.event ≡ e → From (Now (Did s) t n d) d (after_event e (channels_found t) (named t) (acts_found t) n d)
 event_from s t n d (event.Item c i) is = heard_from s t n d c i is
 event_from s t n d (event.Down c) is =
     ends_from (Now (Did s) t n d) false (lost_with c.0) d
@@ -245,6 +263,7 @@ event_from s t n d _ is = was_there _ d
 -- what decides a delivery is no opening
 not_opening : (x : Entry) {t : List Entry} {n : ℕ} {d : Delivery} {s : DeliveryState} → Decides x t n d s → is_opening x ≡ false
 not_opening x (given_by_consumer given) = subst (λ (y : Entry). is_opening y ≡ false) (sym given.entry_is) refl
+not_opening x (given_by_attach given) = subst (λ (y : Entry). is_opening y ≡ false) (sym given.entry_is) refl
 not_opening x (link_lost lost none is_failed) = subst (λ (y : Entry). is_opening y ≡ false) (sym lost.entry_is) refl
 not_opening x (link_ended ended none is_failed) = subst (λ (y : Entry). is_opening y ≡ false) (sym ended.entry_is) refl
 not_opening x (sent_settled sent accepted) = subst (λ (y : Entry). is_opening y ≡ false) (sym sent.entry_is) refl
@@ -283,7 +302,7 @@ brought_back b t n s is brings = record { later = []; entry = Bound b; before = 
 pub outcomes_given : (u : List Entry) (n : ℕ) (d : Delivery) (s : DeliveryState) → delivery u n ≡ Some d → d.outcome ≡ Some s → Decided u n s
 outcomes_given [] n d s h e = absurd cc
 outcomes_given (Did x ∷ t) n d s h e =
-    let was = of_what (after_event x.event (channels_found t) (named t) n) (delivery t n) d h
+    let was = of_what (after_event x.event (channels_found t) (named t) (acts_found t) n) (delivery t n) d h
     in either_decided (Did x) t n was.0 s refl was.1 (outcomes_given t n was.0 s was.1)
     (event_from x t n was.0 x.event refl s (sym (ap (λ (f : Delivery). f.outcome) was.2) ∙ e))
 outcomes_given (Out c i ∷ t) n d s h e =
@@ -314,6 +333,7 @@ outcomes_of_consumers u n d s there outcome unsettled =
 
     by : (is : Decided u n s) (e : Delivery) → delivery is.before n ≡ Some e → (decides : Decides is.entry is.before n e s) → IsByConsumer is.entry is.before n e s decides
     by is e here (given_by_consumer given) = tt
+    by is e here (given_by_attach given) = tt
     by is e here (link_lost lost none is_failed) = tt
     by is e here (link_ended ended none is_failed) = tt
     by is e here (sent_settled sent accepted) =

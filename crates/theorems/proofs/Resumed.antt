@@ -17,7 +17,7 @@ use Rattle.router_trace.specs.declared.binding.DeliveryName.TheVariants.{Row}
 use Rattle.router_trace.specs.declared.binding.Resumed.{Resumed}
 use Rattle.router_trace.specs.declared.binding.Resumed.TheVariants.{Settled, Again, Anew}
 use Rattle.router_trace.specs.declared.binding.TakenUp.{TakenUp}
-use Rattle.resume_core.specs.Resuming.{entries_of, decisions, decision_of, decided_by, either_outcome, is_told_of, outcome_after, resumed_as, sending_as, sending_of, sendings, sent_as}
+use Rattle.resume_core.specs.Resuming.{entries_of, is_told_of, outcome_after, resumed_as, sending_as, sending_of, sendings, sent_as}
 use Rattle.resume_core.specs.declared.consumer.Sending.{Sending}
 use Rattle.router_trace.specs.declared.condition.Condition.TheVariants.{ResourceLimitExceeded}
 use Rattle.router_trace.specs.declared.event.Event.{Event}
@@ -26,18 +26,17 @@ use Rattle.router_trace.specs.Trace.{Trace, Out, Did, Bound, Put, Step, goes, pu
 use Rattle.router_trace.specs.Connection.{conn, due}
 use Rattle.router_trace.specs.Deliveries.{Delivery, called, delivery, number_named, outcome_as, origin_in, told_in, early_in}
 use Rattle.state_messages.specs.Asking.{consumer_with}
-use Rattle.state_messages.specs.Messages.{brings, payload_as, taken_up_by, with_bound}
+use Rattle.state_messages.specs.Messages.{brings, lasts, payload_as, taken_up_by, with_bound}
 use Rattle.state_connections.proofs.Lists.{by_test}
 use Rattle.state_deliveries.proofs.Called.{there_named, one_name}
-use Rattle.reply_rows.specs.Booking.{bound_rows}
-use Rattle.router_reply.specs.Acts.{journaled, book_in, answer_to_event}
+use Rattle.router_reply.specs.Acts.{journaled, book_found, book_in, answer_to_event}
 use Rattle.router_reply.specs.Replies.{closing_of, ends, heard, bound_by, own_row, replied}
-use Rattle.router_reply.specs.Resuming.{resumed_key, attach_in, rows_at, rows_with, rows_for, rows_taken, bound_to, bound_if, with_rows, resumed}
-use Rattle.theorems.specs.Came.{TakesUp}
+use Rattle.router_reply.specs.Resuming.{resumed_key, attach_in, rows_at, rows_for, rows_taken, bound_to, bound_if, with_rows, resumed}
+use Rattle.theorems.specs.Came.{last_found, TakesUp}
 use Rattle.theorems.proofs.Tests.{none_not_some, some_same}
 
--- what is sent of a row of a book, of the terminus of a key: its outcome, if it is decided, provided that the attach decides none
-pub record Waits (Q : Type 0) (b : BookView) (key : LinkKey) (x : Sending) : Type 0 where
+-- what is sent of a row of a book, of the terminus of a key: its outcome after the attach, by the attach's map
+pub record Waits (b : BookView) (theirs : List UnsettledDelivery) (key : LinkKey) (x : Sending) : Type 0 where
   pub row : ARow
   pub number : x.row ≡ row.number
   pub format : x.format ≡ row.format
@@ -45,27 +44,16 @@ pub record Waits (Q : Type 0) (b : BookView) (key : LinkKey) (x : Sending) : Typ
   pub earlier : List ARow
   pub later : List ARow
   pub kept : b.rows ≡ earlier ++ row ∷ later
-  pub outcome : Q → outcome_as x.how ≡ row.outcome
+  pub outcome : outcome_as x.how ≡ outcome_after theirs row
   pub terminus : Terminus
   pub of_key : terminus_of key b.termini ≡ Some terminus
   pub waits : is_for terminus.number.0 row ≡ true
 
-abbrev pub AllWait : Type 0 → BookView → LinkKey → List Sending → Type 0
-AllWait Q b key [] = Unit {0}
-AllWait Q b key (x ∷ xs) = Waits Q b key x × AllWait Q b key xs
+abbrev pub AllWait : BookView → List UnsettledDelivery → LinkKey → List Sending → Type 0
+AllWait b theirs key [] = Unit {0}
+AllWait b theirs key (x ∷ xs) = Waits b theirs key x × AllWait b theirs key xs
 
 -- what is sent of the rows of a terminus
-pub none_first : {X : Type 0} (o : Option X) (xs : List X) → cons_option o xs ≡ [] → (o ≡ None) × (xs ≡ [])
-none_first None xs e = (refl, e)
-none_first (Some x) xs e = absurd cc
-
-mapped_none : {X Y : Type 0} (f : X → Y) (o : Option X) → option_map f o ≡ None → o ≡ None
-mapped_none f None e = refl
-mapped_none f (Some x) e = absurd cc
-
-either_none : (o : Option DeliveryState) → either_outcome o None ≡ o
-either_none None = refl
-either_none (Some s) = refl
 
 sent_outcome : (complete told : Bool) (o : Option DeliveryState) (how : Resumed) → resumed_as complete told o ≡ Some how → outcome_as how ≡ o
 sent_outcome complete true (Some s) how e = let same : Settled s ≡ how = cc in ap outcome_as (sym same)
@@ -74,17 +62,14 @@ sent_outcome complete false (Some s) how e = absurd cc
 sent_outcome true false None how e = let same : Anew ≡ how = cc in ap outcome_as (sym same)
 sent_outcome false false None how e = absurd cc
 
-waits_here : (Q : Type 0) (b : BookView) (key : LinkKey) (x : Terminus) → terminus_of key b.termini ≡ Some x → (complete : Bool) (theirs : List UnsettledDelivery)
-    → (before : List ARow) (r : ARow) (rs : List ARow) → b.rows ≡ before ++ r ∷ rs → is_for x.number.0 r ≡ true → (Q → decision_of theirs r ≡ None)
-    → (s : Sending) → sending_of complete theirs r ≡ Some s → Waits Q b key s
-waits_here Q b key x found complete theirs before r rs is bound none s sent = by (sent_as complete theirs r) refl sent
+waits_here : (b : BookView) (key : LinkKey) (x : Terminus) → terminus_of key b.termini ≡ Some x → (complete : Bool) (theirs : List UnsettledDelivery)
+    → (before : List ARow) (r : ARow) (rs : List ARow) → b.rows ≡ before ++ r ∷ rs → is_for x.number.0 r ≡ true
+    → (s : Sending) → sending_of complete theirs r ≡ Some s → Waits b theirs key s
+waits_here b key x found complete theirs before r rs is bound s sent = by (sent_as complete theirs r) refl sent
   where
-    own : Q → outcome_after theirs r ≡ r.outcome
-    own q = ap (either_outcome r.outcome) (mapped_none _ (decided_by theirs r) (none q)) ∙ either_none r.outcome
-
-    by : (v : Option Resumed) → sent_as complete theirs r ≡ v → option_map (sending_as r) v ≡ Some s → Waits Q b key s
+    by : (v : Option Resumed) → sent_as complete theirs r ≡ v → option_map (sending_as r) v ≡ Some s → Waits b theirs key s
     by None e sent = absurd (none_not_some sent)
-    by (Some how) e sent = subst (λ (y : Sending). Waits Q b key y) (some_same sent) (record {
+    by (Some how) e sent = subst (λ (y : Sending). Waits b theirs key y) (some_same sent) (record {
       row = r;
       number = refl;
       format = refl;
@@ -92,52 +77,62 @@ waits_here Q b key x found complete theirs before r rs is bound none s sent = by
       earlier = before;
       later = rs;
       kept = is;
-      outcome = λ q. sent_outcome complete (is_told_of theirs r) (outcome_after theirs r) how e ∙ own q;
+      outcome = sent_outcome complete (is_told_of theirs r) (outcome_after theirs r) how e;
       terminus = x;
       of_key = found;
       waits = bound;
     })
 
-cons_wait : (Q : Type 0) (b : BookView) (key : LinkKey) (o : Option Sending) (xs : List Sending) → ((s : Sending) → o ≡ Some s → Waits Q b key s) → AllWait Q b key xs
-    → AllWait Q b key (cons_option o xs)
-cons_wait Q b key None xs one all = all
-cons_wait Q b key (Some s) xs one all = (one s refl, all)
+cons_wait : (b : BookView) (theirs : List UnsettledDelivery) (key : LinkKey) (o : Option Sending) (xs : List Sending) → ((s : Sending) → o ≡ Some s → Waits b theirs key s) → AllWait b theirs key xs
+    → AllWait b theirs key (cons_option o xs)
+cons_wait b theirs key None xs one all = all
+cons_wait b theirs key (Some s) xs one all = (one s refl, all)
 
-sent_wait : (Q : Type 0) (b : BookView) (key : LinkKey) (x : Terminus) → terminus_of key b.termini ≡ Some x → (complete : Bool) (theirs : List UnsettledDelivery)
-    → (before rest : List ARow) → b.rows ≡ before ++ rest → (Q → decisions theirs (filter (is_for x.number.0) (filter (is_of x.number.0) rest)) ≡ [])
-    → AllWait Q b key (sendings complete theirs (filter (is_for x.number.0) (filter (is_of x.number.0) rest)))
-sent_wait Q b key x found complete theirs before [] is none = tt
-sent_wait Q b key x found complete theirs before (r ∷ rs) is none =
+sent_wait : (b : BookView) (key : LinkKey) (x : Terminus) → terminus_of key b.termini ≡ Some x → (complete : Bool) (theirs : List UnsettledDelivery)
+    → (before rest : List ARow) → b.rows ≡ before ++ rest
+    → AllWait b theirs key (sendings complete theirs (filter (is_for x.number.0) (filter (is_of x.number.0) rest)))
+sent_wait b key x found complete theirs before [] is = tt
+sent_wait b key x found complete theirs before (r ∷ rs) is =
     let kept : List ARow = filter (is_for x.number.0) (filter (is_of x.number.0) rs) in
-    let others : (Q → decisions theirs kept ≡ []) → AllWait Q b key (sendings complete theirs kept)
-    = sent_wait Q b key x found complete theirs (before ++ r ∷ []) rs (is ∙ sym (append_assoc before (r ∷ []) rs)) in
+    let others : AllWait b theirs key (sendings complete theirs kept) = sent_wait b key x found complete theirs (before ++ r ∷ []) rs (is ∙ sym (append_assoc before (r ∷ []) rs)) in
     by_test (is_of x.number.0 r)
     (λ e. by_test (is_for x.number.0 r)
-    (λ f. let split : Q → (decision_of theirs r ≡ None) × (decisions theirs kept ≡ []) = λ q. (let given = none q in none_first (decision_of theirs r) (decisions theirs kept) (rw (e, f) at given)) in
-    rw (e, f) (cons_wait Q b key (sending_of complete theirs r) (sendings complete theirs kept) (waits_here Q b key x found complete theirs before r rs is f (λ q. (split q).0)) (others (λ q. (split q).1))))
-    (λ f. rw (e, f) (others (λ q. (let given = none q in rw (e, f) at given)))))
-    (λ e. rw e (others (λ q. (let given = none q in rw e at given))))
+    (λ f. rw (e, f) (cons_wait b theirs key (sending_of complete theirs r) (sendings complete theirs kept) (waits_here b key x found complete theirs before r rs is f) others))
+    (λ f. rw (e, f) others))
+    (λ e. rw e others)
+
+-- What is known where a row is taken up: the trace that the event found, the link's key, the row's outcome after the attach, and that nothing was done since
+-- to the book and to the link.
+pub record Brought (at : Trace) (e : Event) (first u : Trace) (b : Binding) (takes : TakesUp u b) : Type 0 where
+  pub found_at : last_found u ≡ at
+  pub same_book : book_in u ≡ book_in first
+  pub by_key : resumed_key at e (answer_to_event at e) ≡ Some takes.key
+  pub attach : AnAttach
+  pub came : attach_in e ≡ Some attach
+  pub gets : outcome_as takes.brought.how ≡ outcome_after (entries_of attach.unsettled) takes.row
+  pub same_link : lasts u b.consumer ≡ lasts first b.consumer
+  pub held : consumer_with first takes.key ≡ Some b.consumer
 
 -- what each binding of such a row keeps, all of them keep
 
-abbrev pub TakenStep : Type 0 → (Trace → Type 0) → Type 0
-TakenStep Q P = (u : Trace) (b : Binding) (takes : TakesUp u b) → (Q → outcome_as takes.brought.how ≡ takes.row.outcome) → P u → P (Bound b ∷ u)
+abbrev pub TakenStep : Trace → Event → Trace → (Trace → Type 0) → Type 0
+TakenStep at e first P = (u : Trace) (b : Binding) (takes : TakesUp u b) → Brought at e first u b takes → P u → P (Bound b ∷ u)
 
-takes : (Q : Type 0) (book : BookView) (key : LinkKey) (at : Attachment) (x : Sending) (u : Trace) → Waits Q book key x → book_in u ≡ book → consumer_with u key ≡ Some at
-    → TakesUp u (taken_up_by u x.row x.how x.format x.payload at)
-takes Q book key at x u w is stands = record {
+takes : (at : Trace) (theirs : List UnsettledDelivery) (key : LinkKey) (a : Attachment) (x : Sending) (u : Trace) → Waits (book_found at) theirs key x → last_found u ≡ at → consumer_with u key ≡ Some a
+    → TakesUp u (taken_up_by u x.row x.how x.format x.payload a)
+takes at theirs key a x u w is stands = record {
   brought = brings u x.row x.how;
   taken = refl;
   row = w.row;
   number = ap (λ (n : RowNumber). Some n) w.number;
   earlier = w.earlier;
   later = w.later;
-  kept = ap (λ (b : BookView). b.rows) is ∙ w.kept;
+  kept = ap (λ (v : Trace). (book_found v).rows) is ∙ w.kept;
   format = w.format;
   payload = ap (payload_as x.how) w.payload;
   key = key;
   terminus = w.terminus;
-  of_key = ap (λ (b : BookView). terminus_of key b.termini) is ∙ w.of_key;
+  of_key = ap (λ (v : Trace). terminus_of key (book_found v).termini) is ∙ w.of_key;
   waits = w.waits;
   attached = stands;
   origin = ap (λ (n : RowNumber). origin_in (called u (Row n))) w.number;
@@ -150,46 +145,40 @@ takes Q book key at x u w is stands = record {
 stays_with : (u : Trace) (b : Binding) (key : LinkKey) → consumer_with (Bound b ∷ u) key ≡ consumer_with u key
 stays_with u b key = refl
 
-all_taken : (Q : Type 0) (P : Trace → Type 0) → TakenStep Q P → (book : BookView) (key : LinkKey) (at : Attachment) (rows : List Sending) → AllWait Q book key rows
-    → (u : Trace) → book_in u ≡ book → consumer_with u key ≡ Some at → P u → P (bound_to at rows u)
+all_taken : (P : Trace → Type 0) (at : Trace) (e : Event) (first : Trace) → TakenStep at e first P → (key : LinkKey) → resumed_key at e (answer_to_event at e) ≡ Some key
+    → (attach : AnAttach) → attach_in e ≡ Some attach → (a : Attachment) → consumer_with first key ≡ Some a
+    → (rows : List Sending) → AllWait (book_found at) (entries_of attach.unsettled) key rows
+    → (u : Trace) → last_found u ≡ at → book_in u ≡ book_in first → lasts u a ≡ lasts first a → consumer_with u key ≡ Some a → P u → P (bound_to a rows u)
 unfolding takes
-all_taken Q P step book key at [] all u is stands was = was
-all_taken Q P step book key at (x ∷ xs) all u is stands was =
-    let b : Binding = taken_up_by u x.row x.how x.format x.payload at in
-    all_taken Q P step book key at xs all.1 (Bound b ∷ u) is (stays_with u b key ∙ stands) (step u b (takes Q book key at x u all.0 is stands) all.0.outcome was)
-
--- an attach, by the key of the consumer's link that it takes up, decides none of the rows that are bound to the link's terminus
-abbrev pub DecidesNone : BookView → Option AnAttach → Option LinkKey → Type 0
-DecidesNone b (Some a) (Some k) = decisions (entries_of a.unsettled) (rows_with b k) ≡ []
-DecidesNone b _ _ = Unit {0}
+all_taken P at e first step key keyed attach came a held [] all u found same stays stands was = was
+all_taken P at e first step key keyed attach came a held (x ∷ xs) all u found same stays stands was =
+    let b : Binding = taken_up_by u x.row x.how x.format x.payload a in
+    all_taken P at e first step key keyed attach came a held xs all.1 (Bound b ∷ u) found same stays (stays_with u b key ∙ stands)
+    (step u b (takes at (entries_of attach.unsettled) key a x u all.0 found stands)
+    (record { found_at = found; same_book = same; by_key = keyed; attach = attach; came = came; gets = all.0.outcome; same_link = stays; held = held }) was)
 
 -- the rows that it takes up
-rows_wait : (b : BookView) (k : LinkKey) (a : Option AnAttach) → AllWait (DecidesNone b a (Some k)) b k (rows_for b a (Some k))
-rows_wait b k None = tt
-rows_wait b k (Some a) = by (terminus_of k b.termini) refl
+rows_wait : (b : BookView) (k : LinkKey) (a : AnAttach) → AllWait b (entries_of a.unsettled) k (rows_for b (Some a) (Some k))
+rows_wait b k a = by (terminus_of k b.termini) refl
   where
     by : (v : Option Terminus) → terminus_of k b.termini ≡ v
-        → AllWait (decisions (entries_of a.unsettled) (rows_at b v) ≡ []) b k (sendings (not a.incomplete_unsettled) (entries_of a.unsettled) (rows_at b v))
+        → AllWait b (entries_of a.unsettled) k (sendings (not a.incomplete_unsettled) (entries_of a.unsettled) (rows_at b v))
     by None found = tt
-    by (Some x) found =
-        sent_wait (decisions (entries_of a.unsettled) (bound_rows b x) ≡ []) b k x found (not a.incomplete_unsettled) (entries_of a.unsettled) [] b.rows refl (λ none. none)
+    by (Some x) found = sent_wait b k x found (not a.incomplete_unsettled) (entries_of a.unsettled) [] b.rows refl
 
--- the same of an event's attach
-abbrev pub EventDecidesNone : Trace → Event → Type 0
-EventDecidesNone t e = DecidesNone (book_in t) (attach_in e) (resumed_key t e (answer_to_event t e))
-
-pub resumed_takes : (P : Trace → Type 0) (t : Trace) (e : Event) (u : Trace) → TakenStep (EventDecidesNone t e) P → book_in u ≡ book_in t → P u → P (resumed t e u)
-resumed_takes P t e u step is was = by (resumed_key t e (answer_to_event t e)) step
+pub resumed_takes : (P : Trace → Type 0) (at : Trace) (e : Event) (u : Trace) → TakenStep at e u P → last_found u ≡ at → P u → P (resumed at e u)
+resumed_takes P at e u step found was = by (resumed_key at e (answer_to_event at e)) refl
   where
-    by_link : (k : LinkKey) (v : Option Attachment) → consumer_with u k ≡ v → TakenStep (DecidesNone (book_in t) (attach_in e) (Some k)) P
-        → P (bound_if v (rows_for (book_in t) (attach_in e) (Some k)) u)
-    by_link k None stands step = was
-    by_link k (Some at) stands step =
-        all_taken (DecidesNone (book_in t) (attach_in e) (Some k)) P step (book_in t) k at (rows_for (book_in t) (attach_in e) (Some k)) (rows_wait (book_in t) k (attach_in e)) u is stands was
+    by_link : (k : LinkKey) → resumed_key at e (answer_to_event at e) ≡ Some k → (a : Option AnAttach) → attach_in e ≡ a → (v : Option Attachment) → consumer_with u k ≡ v
+        → P (bound_if v (rows_for (book_found at) a (Some k)) u)
+    by_link k keyed a came None stands = was
+    by_link k keyed None came (Some x) stands = was
+    by_link k keyed (Some a) came (Some x) stands =
+        all_taken P at e u step k keyed a came x stands (rows_for (book_found at) (Some a) (Some k)) (rows_wait (book_found at) k a) u found refl refl stands was
 
-    by : (k : Option LinkKey) → TakenStep (DecidesNone (book_in t) (attach_in e) k) P → P (with_rows k (rows_for (book_in t) (attach_in e) k) u)
-    by None step = was
-    by (Some k) step = by_link k (consumer_with u k) refl step
+    by : (k : Option LinkKey) → resumed_key at e (answer_to_event at e) ≡ k → P (with_rows k (rows_for (book_found at) (attach_in e) k) u)
+    by None keyed = was
+    by (Some k) keyed = by_link k keyed (attach_in e) refl (consumer_with u k) refl
 
 -- the same where only that it is taken up counts
 
@@ -234,6 +223,28 @@ replied_book id t s =
     let u : Trace = heard id t s in
     let b : Option Binding = bound_by t u s.event in
     ap (λ j. j.book) (goes_book (own_row id t u s.event) (with_bound b u) ∙ bound_book b u ∙ ends_book id (due t s.event) (Did s ∷ t))
+
+-- the trace that the event found
+
+goes_found : (ps : List Put) (t : Trace) → last_found (goes ps t) ≡ last_found t
+goes_found [] t = refl
+goes_found (p ∷ ps) t = goes_found ps (Out p.conn p.item ∷ t)
+
+ends_found : (id : List ℕ) (ds : List ℕ) (t : Trace) → last_found (ends id ds t) ≡ last_found t
+ends_found id [] t = refl
+ends_found id (d ∷ ds) t =
+    let items : List Item = closing_of id (conn t d) ResourceLimitExceeded
+    in ends_found id ds (puts d items t) ∙ goes_found (each_to d items) t
+
+bound_found : (b : Option Binding) (t : Trace) → last_found (with_bound b t) ≡ last_found t
+bound_found None t = refl
+bound_found (Some b) t = refl
+
+pub replied_found : (id : List ℕ) (t : Trace) (s : Step) → last_found (replied id t s) ≡ t
+replied_found id t s =
+    let u : Trace = heard id t s in
+    let b : Option Binding = bound_by t u s.event in
+    goes_found (own_row id t u s.event) (with_bound b u) ∙ bound_found b u ∙ ends_found id (due t s.event) (Did s ∷ t)
 
 -- the delivery that has a name now is one with that name
 

@@ -1,5 +1,5 @@
 -- What an event's row puts keeps what holds, but for attaches: what the answer says, the answers to a disposition, and what is put for a transfer.
-use Rattle.std.proofs.Common.{◌≡◌, ◌∙◌, sym, ap, refl, subst, ℕ, Bool, true, false, not, ◌&&◌, List, [], ◌∷◌, ◌++◌, append-nil}
+use Rattle.std.proofs.Common.{◌≡◌, ◌∙◌, sym, ap, refl, subst, ℕ, ◌<◌, Bool, true, false, not, ◌&&◌, List, [], ◌∷◌, ◌++◌, append-nil}
 use Rattle.std.specs.Prelude.{◌==◌, nat_lt, Option, Some, None, is_none, if◌then◌else◌, option_map}
 use Rattle.std.proofs.lemmas.Bool.{eqb-true, eq-eqb}
 use Rattle.amqp_model.specs.declared.perf.Disposition.{Disposition as ADisposition}
@@ -16,8 +16,6 @@ use Rattle.book_model.specs.declared.row.Row.{Row as ARow}
 use Rattle.book_model.specs.declared.row.RowNumber.{RowNumber}
 use Rattle.book_model.specs.declared.terminus.LinkKey.{LinkKey}
 use Rattle.book_model.specs.Book.{row_at}
-use Rattle.book_core.specs.Rising.{Rises}
-use Rattle.gate_journal.specs.Ordered.{number_of_row}
 use Rattle.router_trace.specs.declared.binding.Binding.{Binding}
 use Rattle.router_trace.specs.declared.binding.DeliveryName.TheVariants.{Row}
 use Rattle.router_trace.specs.declared.binding.Origin.{Origin}
@@ -43,9 +41,8 @@ use Rattle.router_trace.specs.declared.binding.TakenUp.{TakenUp}
 use Rattle.theorems.specs.Came.{TakesUp, BindsMessage, ComesFrom}
 use Rattle.theorems.proofs.Consuming.{consumer_sends}
 use Rattle.theorems.proofs.Ending.{TakesNone, takes_none, said_kept}
-use Rattle.theorems.proofs.Facts.{FromTerminus, IsKeptForm, IsHeld, Agrees, RowFact, bound_facts, kept_form}
+use Rattle.theorems.proofs.Facts.{IsKeptForm, Agrees, RowFact, bound_facts, kept_form}
 use Rattle.theorems.proofs.Keeps.{Kept, quiet_kept, plain_kept, Plain, plain_to, plain_goes}
-use Rattle.theorems.proofs.Looking.{found_below, found_in}
 use Rattle.theorems.proofs.Naming.{bound_named}
 use Rattle.theorems.proofs.Resumed.{IsCalled, called_is}
 use Rattle.theorems.proofs.Standing.{Sends, bound_standing}
@@ -208,46 +205,50 @@ taken_source : (u : Trace) (b : Binding) (takes : TakesUp u b) (p : Origin) → 
 taken_source u b takes p from =
     had_source u takes.row.number b.origin (brought (λ v. v.told) b.taken_up) p takes.origin (ap (brought (λ v. v.told)) takes.taken ∙ takes.told) from
 
+-- what the book has of the row: the outcome that is brought, as the journal keeps it
+pub record Holds (u : Trace) (b : Binding) (takes : TakesUp u b) : Type 0 where
+  pub known : takes.row.number.0 < (book_in u).next_row
+  pub outcome : (row : ARow) → row_at takes.row.number.0 (book_in u).rows ≡ Some row → IsKeptForm row → row.outcome ≡ option_map kept_form (outcome_as takes.brought.how)
+
 -- what the book has of the row holds of the new delivery as it did of the old one
-taken_fact : (u : Trace) (b : Binding) (takes : TakesUp u b) → outcome_as takes.brought.how ≡ takes.row.outcome → Kept u [] → (r : RowNumber) → b.row ≡ Some r → RowFact u (book_in u) r (bound (name_in u b) b)
-taken_fact u b takes same was r named = subst (λ (n : RowNumber). RowFact u (book_in u) n (bound (name_in u b) b)) (some_same (sym takes.number ∙ named)) fact
+taken_fact : (u : Trace) (b : Binding) (takes : TakesUp u b) → Holds u b takes → Kept u [] → (r : RowNumber) → b.row ≡ Some r → RowFact u (book_in u) r (bound (name_in u b) b)
+taken_fact u b takes holds was r named = subst (λ (n : RowNumber). RowFact u (book_in u) n (bound (name_in u b) b)) (some_same (sym takes.number ∙ named)) fact
   where
     n : RowNumber
     n = takes.row.number
-
-    there : row_at n.0 (book_in u).rows ≡ Some takes.row
-    there =
-        ap (row_at n.0) takes.kept
-        ∙ found_in takes.earlier takes.later takes.row (let P : List ARow → Type 0 = λ rs. Rises number_of_row rs in subst P takes.kept was.ordered.rows_rise)
 
     never : (q : Bool) → (q && false) ≡ false
     never true = refl
     never false = refl
 
     -- the old delivery's row
-    held : (p : Origin) → source (bound (name_in u b) b) ≡ Some p → IsKeptForm takes.row × (takes.row.forgotten ≡ false) × FromTerminus u (book_in u) p takes.row.producer.0
-    held p from =
+    old : (p : Origin) → source (bound (name_in u b) b) ≡ Some p → (v : Option ARow) → row_at n.0 (book_in u).rows ≡ v
+        → (before : Delivery) × (source before ≡ Some p) × Agrees u (book_in u) v before
+    old p from v found =
         let had = taken_source u b takes p from in
-        let old : RowFact u (book_in u) n had.before = was.facts had.was_called.number had.before n had.was_called.there had.was_called.named in
-        let is : IsHeld u (book_in u) takes.row had.before = subst (λ (v : Option ARow). Agrees u (book_in u) v had.before) there old.agrees in
-        (is.form p had.from, is.waits p had.from, is.from p had.from)
+        (had.before, had.from, subst (λ (w : Option ARow). Agrees u (book_in u) w had.before) found (was.facts had.was_called.number had.before n had.was_called.there had.was_called.named).agrees)
+
+    agrees : (v : Option ARow) → row_at n.0 (book_in u).rows ≡ v → Agrees u (book_in u) v (bound (name_in u b) b)
+    agrees None found = λ p from. let had = old p from None found in had.2 p had.1
+    agrees (Some row) found = record {
+      outcome = λ p from. let had = old p from (Some row) found in
+          holds.outcome row found (had.2.form p had.1) ∙ ap (option_map kept_form) (sym (ap (brought (λ v. outcome_as v.how)) takes.taken));
+      form = λ p from. let had = old p from (Some row) found in had.2.form p had.1;
+      waits = λ p from. let had = old p from (Some row) found in had.2.waits p had.1;
+      from = λ p from. let had = old p from (Some row) found in had.2.from p had.1;
+    }
 
     fact : RowFact u (book_in u) n (bound (name_in u b) b)
     fact = record {
       settled = ap (λ (up : Option TakenUp). is_none b.origin && is_none up) takes.taken ∙ never (is_none b.origin);
-      known = found_below n.0 (book_in u).next_row (book_in u).rows takes.row was.ordered.rows_below there;
-      agrees = subst (λ (v : Option ARow). Agrees u (book_in u) v (bound (name_in u b) b)) (sym there) (record {
-        outcome = λ p from. (held p from).0 ∙ ap (option_map kept_form) (sym (ap (brought (λ v. outcome_as v.how)) takes.taken ∙ same));
-        form = λ p from. (held p from).0;
-        waits = λ p from. (held p from).1;
-        from = λ p from. (held p from).2;
-      });
+      known = holds.known;
+      agrees = agrees (row_at n.0 (book_in u).rows) refl;
     }
 
-pub taken_up_kept : (u : Trace) (b : Binding) (takes : TakesUp u b) → outcome_as takes.brought.how ≡ takes.row.outcome → Kept u [] → Kept (Bound b ∷ u) []
-taken_up_kept u b takes same was = record {
+pub taken_up_kept : (u : Trace) (b : Binding) (takes : TakesUp u b) → Holds u b takes → Kept u [] → Kept (Bound b ∷ u) []
+taken_up_kept u b takes holds was = record {
   law = was.law;
-  facts = bound_facts b u (taken_fact u b takes same was) was.facts;
+  facts = bound_facts b u (taken_fact u b takes holds was) was.facts;
   standing = bound_standing b u (taken_sends u takes.key b.consumer takes.attached) producer was.standing;
   named = bound_named b u was.named;
   ordered = was.ordered;

@@ -1,306 +1,193 @@
--- The attach of an event decides none of the rows that it takes up: its answer refuses a map that decides one, its acts decide none but what is decided then, and
--- a terminus that they make has no undecided row.
-use Rattle.std.proofs.Common.{◌≡◌, ◌∙◌, sym, refl, subst, ℕ, ◌<◌, Bool, true, false, not, ◌&&◌, ◌||◌, List, [], ◌∷◌, ◌++◌, ◌⊎◌, inl, inr, arith}
-use Rattle.std.specs.Prelude.{◌==◌, Option, Some, None, filter, filter_map, is_some, is_none, if◌then◌else◌}
-use Rattle.std.specs.List.{cons_option, AllByRecursion}
-use Rattle.std.proofs.lemmas.Bool.{eqb-true}
-use Rattle.std.proofs.lemmas.List.Elements.{recursion_from_All}
+-- What the acts of an event do with the rows that its attach takes up: each undecided one gets the outcome that the attach's map gives it, and no other.
+use Rattle.std.proofs.Common.{◌≡◌, ◌∙◌, sym, ap, refl, ℕ, Bool, true, false, not, ◌&&◌, List, [], ◌∷◌, ◌++◌}
+use Rattle.std.specs.Prelude.{Option, Some, None, map, is_some, is_none, option_map, if◌then◌else◌}
 use Rattle.amqp_model.specs.declared.perf.Attach.{Attach as AnAttach}
 use Rattle.amqp_model.specs.declared.perf.Perf.TheVariants as perf
-use Rattle.amqp_model.specs.declared.perf.Role.{Role}
-use Rattle.amqp_model.specs.declared.perf.Role.TheVariants.{Sender, Receiver}
 use Rattle.amqp_model.specs.declared.item.Item.{Item}
 use Rattle.amqp_model.specs.declared.item.Item.TheVariants as item
 use Rattle.amqp_model.specs.declared.state.DeliveryState.{DeliveryState}
-use Rattle.amqp_model.specs.declared.state.UnsettledDelivery.{UnsettledDelivery}
 use Rattle.amqp_conn.specs.declared.conn.Conn.{Conn}
-use Rattle.amqp_link.specs.declared.part.Part.{Part}
-use Rattle.book_model.specs.declared.act.Act.{Act}
-use Rattle.book_model.specs.declared.act.Act.TheVariants.{Make, Admit, Decide, Forget, Drop}
-use Rattle.book_model.specs.declared.act.Admission.{Admission}
 use Rattle.book_model.specs.declared.act.Decision.{Decision}
 use Rattle.book_model.specs.declared.row.Row.{Row as ARow}
-use Rattle.book_model.specs.declared.row.RowNumber.{RowNumber}
-use Rattle.book_model.specs.declared.terminus.LinkRole.TheVariants.{Consumer}
+use Rattle.book_model.specs.declared.terminus.LinkKey.{LinkKey}
 use Rattle.book_model.specs.declared.terminus.Terminus.{Terminus}
 use Rattle.book_model.specs.declared.terminus.TerminusNumber.{TerminusNumber}
-use Rattle.book_model.specs.Book.{BookView, terminus_at, terminus_of, is_from, is_for, is_for_by, is_of, has_role, may_bind, decided, forgotten, with_row, make_refusal, drop_refusal, effect, effects}
-use Rattle.book_model.specs.Sound.{IsSound, IsSoundRow}
-use Rattle.book_core.specs.Rising.{AllBelow}
-use Rattle.gate_journal.specs.Ordered.{IsOrdered, number_of_terminus}
-use Rattle.journal_store.proofs.Sound.{sound_is_ordered}
-use Rattle.journal_store.specs.declared.acting.TerminusAct.{TerminusAct}
-use Rattle.journal_store.specs.declared.acting.TerminusAct.TheVariants as terminus
-use Rattle.journal_store.specs.Acting.{settles, unless_refused, terminus_acts, event_acts as settled_acts}
+use Rattle.book_model.specs.Book.{BookView, row_at, terminus_of, is_for, is_for_by, is_undecided as is_open_row}
+use Rattle.gate_journal.specs.Ordered.{IsOrdered}
+use Rattle.journal_store.specs.Acting.{journal_outcome, outcome_for}
 use Rattle.router_trace.specs.declared.event.ConnectionId.{ConnectionId}
 use Rattle.router_trace.specs.declared.event.Event.{Event}
 use Rattle.router_trace.specs.declared.event.Event.TheVariants as event
-use Rattle.router_trace.specs.Trace.{Trace, Entry}
+use Rattle.router_trace.specs.declared.handle.Attachment.{Attachment}
+use Rattle.router_trace.specs.Trace.{Trace}
 use Rattle.router_trace.specs.Connection.{standing, found, due}
-use Rattle.resume_core.specs.Resuming.{entries_of, decisions, decision_of, consumer_map}
+use Rattle.router_trace.specs.Links.{holder}
+use Rattle.router_trace.specs.Deliveries.{Delivery, outcome_among, sender, is_gone_with, forsaken, ended, decided_at_end, suspended_at_end}
+use Rattle.state_deliveries.specs.declared.change.Change.{Change}
+use Rattle.state_deliveries.specs.declared.change.Change.TheVariants as change
+use Rattle.state_deliveries.specs.Deciding.{changed_by, decided_rows}
+use Rattle.state_deliveries.specs.Stepping.{is_gone, changed}
+use Rattle.resume_core.specs.Resuming.{entries_of, told_of, outcome_given, decided_by}
 use Rattle.reply_rows.specs.declared.answer.Answer.{Answer}
-use Rattle.reply_rows.specs.declared.answer.Answer.TheVariants.{Attach, Taken}
-use Rattle.reply_rows.specs.Booking.{wanted_key, wants_durable, has_some, bound_rows, is_unserved, attach_is_unserved}
-use Rattle.state_connections.proofs.Lists.{by_test}
-use Rattle.router_reply.specs.Acts.{event_answer, planned_acts, admitted_acts, or_admits, event_acts, finds_full, journaled, book_in, booked, answer_of, answer_by}
-use Rattle.router_reply.specs.Admitting.{taken_admission, unless_ends, admits, without_acts}
-use Rattle.router_reply.specs.Deciding.{decided as decided_in, forgotten as forgotten_in, terminus_of_event}
-use Rattle.router_reply.specs.Resuming.{receives, key_taken, rows_at}
-use Rattle.theorems.proofs.Keeping.{Makes, makes}
-use Rattle.theorems.proofs.Made.{AllOfRows, settled_of_rows}
-use Rattle.theorems.proofs.Resumed.{none_first, DecidesNone, EventDecidesNone}
+use Rattle.reply_rows.specs.declared.answer.Answer.TheVariants.{Attach}
+use Rattle.reply_rows.specs.Booking.{wanted_key}
+use Rattle.router_reply.specs.Acts.{live_answer, finds_full, journaled, book_in, acts_of, booked, answer_by, answer_to_event}
+use Rattle.router_reply.specs.Asking.{attach_in, resumed_key, key_taken, decided_for, map_decides}
+use Rattle.router_reply.specs.Deciding.{as_kept, lost, stolen_from, event_changes, forgotten as forgotten_in, terminus_of_event}
+use Rattle.theorems.proofs.Admitted.{answer_after}
+use Rattle.theorems.proofs.Booked.{answer_for}
+use Rattle.theorems.proofs.Changing.{undecided_is}
+use Rattle.theorems.proofs.Decisions.{undecided_of, first_for}
+use Rattle.theorems.proofs.Giving.{row_given, acts_give, map_decides_row}
+use Rattle.theorems.proofs.Lasting.{Lasting}
+use Rattle.theorems.proofs.Tests.{none_not_some}
 
-clash : true ≡ false → ⊥
-clash e = cc
+-- the answer to an event, and the link that it takes, after its acts as before them
 
--- Of some rows none that is bound to a terminus is decided by a map.
-abbrev NoneFor : List UnsettledDelivery → ℕ → List ARow → Type 0
-NoneFor theirs n [] = Unit {0}
-NoneFor theirs n (r ∷ rs) = (is_for n r ≡ true → decision_of theirs r ≡ None) × NoneFor theirs n rs
-
-cons_none : {X : Type 0} (o : Option X) (xs : List X) → o ≡ None → xs ≡ [] → cons_option o xs ≡ []
-cons_none None xs none rest = rest
-cons_none (Some x) xs none rest = absurd cc
-
-of_none : (theirs : List UnsettledDelivery) (n : ℕ) (rs : List ARow) → decisions theirs (filter (is_for n) (filter (is_of n) rs)) ≡ [] → NoneFor theirs n rs
-of_none theirs n [] none = tt
-of_none theirs n (r ∷ rs) none =
-    let kept : List ARow = filter (is_for n) (filter (is_of n) rs) in
-    by_test (is_of n r)
-    (λ e. by_test (is_for n r)
-    (λ f. (let split = none_first (decision_of theirs r) (decisions theirs kept) (rw (e, f) at none) in (λ g. split.0, of_none theirs n rs split.1)))
-    (λ f. (λ g. absurd (clash (sym g ∙ f)), of_none theirs n rs (rw (e, f) at none))))
-    (λ e. (λ g. absurd (clash (sym (among (is_from n r) (is_for n r) g) ∙ e)), of_none theirs n rs (rw e at none)))
+pub same_answer : (t : Trace) (e : Event) → answer_to_event (booked t e) e ≡ answer_for t e
+same_answer t (event.Item from i) = by (standing (found t (event.Item from i) from.0))
   where
-    among : (a b : Bool) → b ≡ true → (a || b) ≡ true
-    among true b is = refl
-    among false b is = is
+    e : Event
+    e = event.Item from i
 
-none_of : (theirs : List UnsettledDelivery) (n : ℕ) (rs : List ARow) → NoneFor theirs n rs → decisions theirs (filter (is_for n) (filter (is_of n) rs)) ≡ []
-none_of theirs n [] all = refl
-none_of theirs n (r ∷ rs) all =
-    let kept : List ARow = filter (is_for n) (filter (is_of n) rs) in
-    by_test (is_of n r)
-    (λ e. by_test (is_for n r)
-    (λ f. (let first = all.0 f in rw (e, f) (cons_none (decision_of theirs r) (decisions theirs kept) first (none_of theirs n rs all.1))))
-    (λ f. rw (e, f) (none_of theirs n rs all.1)))
-    (λ e. rw e (none_of theirs n rs all.1))
+    by : (v : Option Conn) → answer_by (booked t e) from.0 i v ≡ live_answer (finds_full (journaled t) t e) (book_in t) t from.0 i v
+    by None = refl
+    by (Some p) = answer_after (acts_of t e) (due t e) t (finds_full (journaled t) t e) (book_in t) from.0 p i
+same_answer t _ = refl
 
--- Acts that admit nothing decide no row for it, and bind none anew.
+same_taken : (t : Trace) (e : Event) (c : ℕ) (a : AnAttach) (y : Answer) → key_taken (booked t e) c a y ≡ key_taken t c a y
+same_taken t e c a (Attach own) = refl
+same_taken t e c a _ = refl
 
-abbrev Spared : List UnsettledDelivery → ℕ → ARow → Option ARow → Type 0
-Spared theirs n r None = Unit {0}
-Spared theirs n r (Some s) = (is_for n s ≡ is_for n r) × (decision_of theirs r ≡ None → decision_of theirs s ≡ None)
+same_key : (t : Trace) (e x : Event) (y : Answer) → resumed_key (booked t e) x y ≡ resumed_key t x y
+same_key t e (event.Item from (item.Frame sasl channel (perf.Attach a) payload)) y = same_taken t e from.0 a y
+same_key t e (event.Item from (item.Frame sasl channel _ payload)) y = refl
+same_key t e (event.Item from _) y = refl
+same_key t e _ y = refl
 
-rows_spared : (theirs : List UnsettledDelivery) (n : ℕ) (f : ARow → Option ARow) → ((r : ARow) → Spared theirs n r (f r)) → (rs : List ARow) → NoneFor theirs n rs
-    → NoneFor theirs n (filter_map f rs)
-rows_spared theirs n f each [] all = tt
-rows_spared theirs n f each (r ∷ rs) all = by (f r) (each r) (rows_spared theirs n f each rs all.1)
+pub key_before : (t : Trace) (e : Event) (k : LinkKey) → resumed_key (booked t e) e (answer_to_event (booked t e) e) ≡ Some k → resumed_key t e (answer_for t e) ≡ Some k
+key_before t e k is = sym (same_key t e e (answer_for t e)) ∙ ap (resumed_key (booked t e) e) (sym (same_answer t e)) ∙ is
+
+-- what ends links but doesn't close them decides no delivery that lasts
+
+abbrev Suspends : Change → Type 0
+Suspends (change.Ends g closed) = closed ≡ false
+Suspends _ = ⊥
+
+abbrev AllSuspend : List Change → Type 0
+AllSuspend [] = Unit {0}
+AllSuspend (x ∷ xs) = Suspends x × AllSuspend xs
+
+both_suspend : (xs ys : List Change) → AllSuspend xs → AllSuspend ys → AllSuspend (xs ++ ys)
+both_suspend [] ys first rest = rest
+both_suspend (x ∷ xs) ys first rest = (first.0, both_suspend xs ys first.1 rest)
+
+all_lost : (cs : List ℕ) → AllSuspend (map lost cs)
+all_lost [] = tt
+all_lost (c ∷ cs) = (refl, all_lost cs)
+
+all_stolen : (v : Option Attachment) → AllSuspend (stolen_from v)
+all_stolen None = tt
+all_stolen (Some a) = (refl, tt)
+
+abbrev StillOpen : Delivery → Type 0
+StillOpen d = (d.lasting ≡ true) × (d.outcome ≡ None)
+
+open_if : (b : Bool) (d e : Delivery) → StillOpen d → StillOpen e → StillOpen (if b then d else e)
+open_if true d e one other = one
+open_if false d e one other = other
+
+end_open : (closed : Bool) (d : Delivery) → closed ≡ false → StillOpen d → StillOpen (ended closed d)
+end_open closed d is was = open_if d.suspended d (if d.lasting && not closed then suspended_at_end d else decided_at_end d) was (by d.lasting closed was.0 is)
   where
-    by : (o : Option ARow) → Spared theirs n r o → NoneFor theirs n (filter_map f rs) → NoneFor theirs n (cons_option o (filter_map f rs))
-    by None is rest = rest
-    by (Some s) is rest = (λ g. is.1 (all.0 (sym is.0 ∙ g)), rest)
+    by : (l c : Bool) → l ≡ true → c ≡ false → StillOpen (if l && not c then suspended_at_end d else decided_at_end d)
+    by true false lasting open_one = was
+    by true true lasting open_one = absurd cc
+    by false c lasting open_one = absurd cc
 
-decided_spared : (theirs : List UnsettledDelivery) (n : ℕ) (outcome : DeliveryState) (r : ARow) → Spared theirs n r (decided outcome r)
-decided_spared theirs n outcome r = by r.forgotten
-  where
-    by : (b : Bool) → Spared theirs n r (if b then None else Some (record r { outcome = Some outcome }))
-    by true = tt
-    by false = (refl, λ none. refl)
+change_open : (x : Change) (d : Delivery) → Suspends x → StillOpen d → StillOpen (changed x d)
+change_open (change.Ends g closed) d is was =
+    let e : Delivery = if is_gone g d.link then ended closed d else d in
+    let here : StillOpen e = open_if (is_gone g d.link) (ended closed d) d (end_open closed d is was) was in
+    open_if (is_gone_with (is_gone g) (sender e)) (forsaken e) e here here
+change_open (change.Untold c o first last) d is was = absurd is
+change_open (change.Told c o first last) d is was = absurd is
+change_open (change.Decided c o first last made) d is was = absurd is
 
-forgotten_spared : (theirs : List UnsettledDelivery) (n : ℕ) (r : ARow) → Spared theirs n r (forgotten r)
-forgotten_spared theirs n r = by (is_some r.outcome)
-  where
-    by : (b : Bool) → Spared theirs n r (if b then None else Some (record r { forgotten = true }))
-    by true = tt
-    by false = (refl, λ none. none)
+all_open : (xs : List Change) (d : Delivery) → AllSuspend xs → StillOpen d → StillOpen (changed_by xs d)
+all_open [] d all was = was
+all_open (x ∷ xs) d all was = all_open xs (changed x d) all.1 (change_open x d all.0 was)
 
-one_spared : (theirs : List UnsettledDelivery) (n m : ℕ) (change : ARow → Option ARow) → ((r : ARow) → Spared theirs n r (change r)) → (rs : List ARow) → NoneFor theirs n rs
-    → NoneFor theirs n (with_row m change rs)
-one_spared theirs n m change each rs all = rows_spared theirs n (λ r. if r.number.0 == m then change r else Some r) (λ r. by r (r.number.0 == m)) rs all
-  where
-    by : (r : ARow) (b : Bool) → Spared theirs n r (if b then change r else Some r)
-    by r true = each r
-    by r false = (refl, λ none. none)
+-- the changes of an event whose attach takes a durable link
+attach_suspends : (t : Trace) (from : ConnectionId) (sasl : Bool) (channel : ℕ) (a : AnAttach) (payload : List ℕ) (k : LinkKey) (y : Answer) → key_taken t from.0 a y ≡ Some k
+    → AllSuspend (event_changes t (event.Item from (item.Frame sasl channel (perf.Attach a) payload)) y)
+attach_suspends t from true channel a payload k (Attach own) keyed =
+    both_suspend (map lost (due t (event.Item from (item.Frame true channel (perf.Attach a) payload)))) (stolen_from (holder t (wanted_key t from.0 a)))
+    (all_lost (due t (event.Item from (item.Frame true channel (perf.Attach a) payload)))) (all_stolen (holder t (wanted_key t from.0 a)))
+attach_suspends t from false channel a payload k (Attach own) keyed =
+    both_suspend (map lost (due t (event.Item from (item.Frame false channel (perf.Attach a) payload)))) (stolen_from (holder t (wanted_key t from.0 a)))
+    (all_lost (due t (event.Item from (item.Frame false channel (perf.Attach a) payload)))) (all_stolen (holder t (wanted_key t from.0 a)))
+attach_suspends t from sasl channel a payload k _ keyed = absurd (none_not_some keyed)
 
-abbrev AdmitsNone : List Act → Type 0
-AdmitsNone [] = Unit {0}
-AdmitsNone (Admit x ∷ acts) = ⊥
-AdmitsNone (Make x ∷ acts) = AdmitsNone acts
-AdmitsNone (Decide x ∷ acts) = AdmitsNone acts
-AdmitsNone (Forget n ∷ acts) = AdmitsNone acts
-AdmitsNone (Drop n ∷ acts) = AdmitsNone acts
+is_bound : (n : ℕ) (c : Option TerminusNumber) → is_for_by n c ≡ true → is_some c ≡ true
+is_bound n None is = is
+is_bound n (Some c) is = refl
 
-acts_spared : (theirs : List UnsettledDelivery) (n : ℕ) (acts : List Act) (b : BookView) → AdmitsNone acts → NoneFor theirs n b.rows → NoneFor theirs n (effects b acts).rows
-unfolding effects
-acts_spared theirs n [] b none all = all
-acts_spared theirs n (Admit x ∷ acts) b none all = absurd none
-acts_spared theirs n (Make x ∷ acts) b none all = acts_spared theirs n acts (effect b (Make x)) none all
-acts_spared theirs n (Decide x ∷ acts) b none all =
-    acts_spared theirs n acts (effect b (Decide x)) none (one_spared theirs n x.row.0 (decided x.outcome) (decided_spared theirs n x.outcome) b.rows all)
-acts_spared theirs n (Forget m ∷ acts) b none all =
-    acts_spared theirs n acts (effect b (Forget m)) none (one_spared theirs n m.0 forgotten (forgotten_spared theirs n) b.rows all)
-acts_spared theirs n (Drop m ∷ acts) b none all = acts_spared theirs n acts (effect b (Drop m)) none all
+-- what the acts give a row that the link takes up
 
--- the acts of an event with an attach do
-
-both_admit : (acts more : List Act) → AdmitsNone acts → AdmitsNone more → AdmitsNone (acts ++ more)
-both_admit [] more first rest = rest
-both_admit (Admit x ∷ acts) more first rest = absurd first
-both_admit (Make x ∷ acts) more first rest = both_admit acts more first rest
-both_admit (Decide x ∷ acts) more first rest = both_admit acts more first rest
-both_admit (Forget n ∷ acts) more first rest = both_admit acts more first rest
-both_admit (Drop n ∷ acts) more first rest = both_admit acts more first rest
-
-rows_admit : (acts : List Act) → AllOfRows acts → AdmitsNone acts
-rows_admit [] all = tt
-rows_admit (Admit x ∷ acts) all = absurd (clash (sym all.0))
-rows_admit (Make x ∷ acts) all = absurd (clash (sym all.0))
-rows_admit (Decide x ∷ acts) all = rows_admit acts all.1
-rows_admit (Forget n ∷ acts) all = rows_admit acts all.1
-rows_admit (Drop n ∷ acts) all = absurd (clash (sym all.0))
-
-terminus_admits : (b : BookView) (x : Option TerminusAct) → AdmitsNone (terminus_acts b x)
-terminus_admits b None = tt
-terminus_admits b (Some (terminus.Make t)) = by (is_none (make_refusal b t))
-  where
-    by : (q : Bool) → AdmitsNone (unless_refused q (Make t))
-    by true = tt
-    by false = tt
-terminus_admits b (Some (terminus.Drop n)) = by (is_none (drop_refusal (terminus_at n.0 b.termini) b.rows))
-  where
-    by : (q : Bool) → AdmitsNone (unless_refused q (Drop n))
-    by true = tt
-    by false = tt
-
-settled_admit : (b : BookView) (ds : List Decision) (numbers : List RowNumber) (x : Option TerminusAct) → AdmitsNone (settled_acts b ds numbers x)
-settled_admit b ds numbers x =
-    both_admit (settles b ds numbers) (terminus_acts (effects b (settles b ds numbers)) x) (rows_admit (settles b ds numbers) (settled_of_rows b ds numbers))
-    (terminus_admits (effects b (settles b ds numbers)) x)
-
-or_admits_none : (planned admitted : List Act) → AdmitsNone planned → AdmitsNone admitted → AdmitsNone (or_admits planned admitted)
-or_admits_none [] admitted first rest = rest
-or_admits_none (act ∷ acts) admitted first rest = first
-
-abbrev nothing : Option Part
-nothing = None
-
-no_part : (sasl : Bool) → (if sasl then nothing else nothing) ≡ nothing
-no_part true = refl
-no_part false = refl
-
-attach_admits : (b : BookView) (t after : Trace) (c : ℕ) (sasl : Bool) (channel : ℕ) (a : AnAttach) (payload : List ℕ) (y : Answer)
-    → taken_admission b t after c (item.Frame sasl channel (perf.Attach a) payload) y ≡ None
-attach_admits b t after c sasl channel a payload (Taken own handle) = rw (no_part sasl) refl
-attach_admits b t after c sasl channel a payload _ = refl
-
-unless_none : (b : BookView) (ds : List ℕ) (x : Option Admission) → x ≡ None → AdmitsNone (admits b (unless_ends ds x))
-unless_none b [] None is = tt
-unless_none b [] (Some x) is = absurd cc
-unless_none b (d ∷ ds) x is = tt
-
-event_admits : (full : Bool) (b : BookView) (t : Trace) (from : ConnectionId) (sasl : Bool) (channel : ℕ) (a : AnAttach) (payload : List ℕ)
-    → AdmitsNone (event_acts full b t (event.Item from (item.Frame sasl channel (perf.Attach a) payload)))
-event_admits full b t from sasl channel a payload =
-    or_admits_none (planned_acts full b t e) (admitted_acts full b t e)
-    (settled_admit b (decided_in t e (event_answer full b t e)) (forgotten_in b t e (event_answer full b t e)) (terminus_of_event b t e (event_answer full b t e)))
-    (by full)
+pub row_gets : (t : Trace) (e : Event) (k : LinkKey) (a : AnAttach) (x : Terminus) (row : ARow) → IsOrdered (book_in t) → Lasting t
+    → resumed_key (booked t e) e (answer_to_event (booked t e) e) ≡ Some k → attach_in e ≡ Some a → terminus_of k (book_in t).termini ≡ Some x
+    → row_at row.number.0 (book_in t).rows ≡ Some row → is_for x.number.0 row ≡ true
+    → outcome_among (acts_of t e) row.number ≡ option_map journal_outcome (decided_by (entries_of a.unsettled) row)
+row_gets t (event.Item from (item.Frame sasl channel (perf.Attach a) payload)) k other x row ordered lasting key came at there waits =
+    acts_give full b t e (rows ++ told) (forgotten_in b t e answer) (terminus_of_event b t e answer) row.number refl ordered ∙ ap (row_given (rows ++ told)) there ∙ by row.outcome refl
+    ∙ ap (λ (v : Option AnAttach). option_map journal_outcome (decided_of v row)) came
   where
     e : Event
     e = event.Item from (item.Frame sasl channel (perf.Attach a) payload)
 
-    by : (q : Bool) → AdmitsNone (admitted_acts q b t e)
-    by true = tt
-    by false =
-        unless_none b (due t e) (taken_admission b t (without_acts t e) from.0 (item.Frame sasl channel (perf.Attach a) payload) (event_answer false b t e))
-        (attach_admits b t (without_acts t e) from.0 sasl channel a payload (event_answer false b t e))
-
--- A terminus that is new in a sound book has no undecided row, and decided rows are not decided.
-
-found_low : (n next : ℕ) (ts : List Terminus) → AllBelow number_of_terminus next ts → has_role Consumer (terminus_at n ts) ≡ true → n < next
-found_low n next [] below there = absurd cc
-found_low n next (x ∷ xs) below there =
-    by_test (x.number.0 == n) (λ e. here (eqb-true x.number.0 n e) below.0) (λ e. found_low n next xs below.1 (rw e at there))
-  where
-    here : x.number.0 ≡ n → x.number.0 < next → n < next
-    here is low = omega (arith, is, low)
-
-new_rows : (theirs : List UnsettledDelivery) (b : BookView) (n : ℕ) → IsOrdered b → n ≡ b.next_terminus → (rs : List ARow) → AllByRecursion (IsSoundRow b.termini b.next_row) rs → NoneFor theirs n rs
-new_rows theirs b n ordered new [] all = tt
-new_rows theirs b n ordered new (r ∷ rs) all = (λ bound. by r.outcome refl bound, new_rows theirs b n ordered new rs all.1)
-  where
-    high : (m : ℕ) → m ≡ n → m < b.next_terminus → ⊥
-    high m is low = omega (arith, is, new, low)
-
-    not_new : (c : Option TerminusNumber) → may_bind c b.termini ≡ true → is_for_by n c ≡ true → ⊥
-    not_new None may bound = clash (sym bound)
-    not_new (Some c) may bound = high c.0 (eqb-true c.0 n bound) (found_low c.0 b.next_terminus b.termini ordered.termini_below may)
-
-    by : (o : Option DeliveryState) → r.outcome ≡ o → is_for n r ≡ true → decision_of theirs r ≡ None
-    by (Some s) is bound = rw is refl
-    by None is bound = absurd (not_new r.consumer (all.0.consumer is) bound)
-
--- an attach that is taken
-
-first_some : {X : Type 0} (xs : List X) (b : Bool) → (has_some xs || b) ≡ false → xs ≡ []
-first_some [] b is = refl
-first_some (x ∷ xs) b is = absurd cc
-
-served_rows : (b : BookView) (x : Terminus) (a : AnAttach) → receives a.role ≡ true → attach_is_unserved b x a ≡ false → decisions (entries_of a.unsettled) (bound_rows b x) ≡ []
-served_rows b x a way served = by a.role way served
-  where
-    theirs : List UnsettledDelivery
-    theirs = entries_of a.unsettled
-
-    by : (r : Role) → receives r ≡ true → is_unserved r b x (not a.incomplete_unsettled) theirs ≡ false → decisions theirs (bound_rows b x) ≡ []
-    by Sender way served = absurd cc
-    by Receiver way served = first_some (decisions theirs (bound_rows b x)) (not (not a.incomplete_unsettled) && has_some (consumer_map theirs (bound_rows b x))) served
-
-pub none_decided : (t : List Entry) (e : Event) → IsSound (book_in t) → EventDecidesNone (booked t e) e
-none_decided t (event.Item from (item.Frame sasl channel (perf.Attach a) payload)) sound = by_conn (standing (found t e from.0)) refl
-  where
-    i : Item
-    i = item.Frame sasl channel (perf.Attach a) payload
-
-    e : Event
-    e = event.Item from i
-
     b : BookView
     b = book_in t
 
-    after : BookView
-    after = book_in (booked t e)
+    full : Bool
+    full = finds_full (journaled t) t e
 
-    theirs : List UnsettledDelivery
-    theirs = entries_of a.unsettled
+    answer : Answer
+    answer = answer_for t e
 
-    rows_before : (x : Terminus) → receives a.role ≡ true → (attach_is_unserved b x a ≡ false) ⊎ (x.number.0 ≡ b.next_terminus) → NoneFor theirs x.number.0 b.rows
-    rows_before x way (inl served) = of_none theirs x.number.0 b.rows (served_rows b x a way served)
-    rows_before x way (inr new) =
-        new_rows theirs b x.number.0 (sound_is_ordered b sound) new b.rows (recursion_from_All (IsSoundRow b.termini b.next_row) b.rows sound.rows)
+    keyed : resumed_key t e answer ≡ Some k
+    keyed = key_before t e k key
 
-    taken : (p : Conn) (own : ℕ) → standing (found t e from.0) ≡ Some p → answer_of (booked t e) from.0 p i ≡ Attach own → wants_durable a ≡ true → receives a.role ≡ true
-        → decisions theirs (rows_at after (terminus_of (wanted_key t from.0 a) after.termini)) ≡ []
-    taken p own here answers wants way =
-        let made : Makes t e from.0 a = makes t from sasl channel a payload p own here answers wants in
-        subst (λ (v : Option Terminus). decisions theirs (rows_at after v) ≡ []) (sym made.there)
-        (none_of theirs made.at.number.0 after.rows
-        (acts_spared theirs made.at.number.0 (event_acts (finds_full (journaled t) t e) b t e) b (event_admits (finds_full (journaled t) t e) b t from sasl channel a payload)
-        (rows_before made.at way made.serves)))
+    rows : List Decision
+    rows = map as_kept (decided_rows t (event_changes t e answer))
 
-    by_wish : (p : Conn) (own : ℕ) → standing (found t e from.0) ≡ Some p → answer_of (booked t e) from.0 p i ≡ Attach own → (w r : Bool) → wants_durable a ≡ w → receives a.role ≡ r
-        → DecidesNone after (Some a) (if w && r then Some (wanted_key (booked t e) from.0 a) else None)
-    by_wish p own here answers true true wants way = taken p own here answers wants way
-    by_wish p own here answers true false wants way = tt
-    by_wish p own here answers false r wants way = tt
+    told : List Decision
+    told = map_decides b t e answer
 
-    by_answer : (p : Conn) → standing (found t e from.0) ≡ Some p → (y : Answer) → answer_of (booked t e) from.0 p i ≡ y → DecidesNone after (Some a) (key_taken (booked t e) from.0 a y)
-    by_answer p here (Attach own) answers = by_wish p own here answers (wants_durable a) (receives a.role) refl refl
-    by_answer p here _ answers = tt
+    decided_of : Option AnAttach → ARow → Option DeliveryState
+    decided_of None row = None
+    decided_of (Some p) row = decided_by (entries_of p.unsettled) row
 
-    by_conn : (v : Option Conn) → standing (found t e from.0) ≡ v → DecidesNone after (Some a) (key_taken (booked t e) from.0 a (answer_by (booked t e) from.0 i v))
-    by_conn None here = tt
-    by_conn (Some p) here = by_answer p here (answer_of (booked t e) from.0 p i) refl
-none_decided t (event.Item from (item.Frame sasl channel body payload)) sound = tt
-none_decided t (event.Item from i) sound = tt
-none_decided t e sound = tt
+    unchanged : outcome_for row.number.0 rows ≡ None
+    unchanged =
+        undecided_of t row.number (event_changes t e answer)
+        (λ n d here name undecided.
+        (all_open (event_changes t e answer) d (attach_suspends t from sasl channel a payload k answer keyed)
+        ((lasting n d row.number here name).lasting row there (is_bound x.number.0 row.consumer waits), (undecided_is d undecided).0)).1)
+
+    mapped : outcome_for row.number.0 (rows ++ told) ≡ decided_by (entries_of a.unsettled) row
+    mapped =
+        first_for row.number.0 rows told unchanged
+        ∙ ap (λ (v : Option LinkKey). outcome_for row.number.0 (decided_for b (Some a) v)) keyed
+        ∙ map_decides_row b a k x row ordered.rows_rise at there waits
+
+    by : (o : Option DeliveryState) → row.outcome ≡ o
+        → (if is_open_row row then option_map journal_outcome (outcome_for row.number.0 (rows ++ told)) else None) ≡ option_map journal_outcome (decided_by (entries_of a.unsettled) row)
+    by None none =
+        ap (λ (q : Bool). if q then option_map journal_outcome (outcome_for row.number.0 (rows ++ told)) else None) (ap is_none none) ∙ ap (option_map journal_outcome) mapped
+    by (Some s) had =
+        ap (λ (q : Bool). if q then option_map journal_outcome (outcome_for row.number.0 (rows ++ told)) else None) (ap is_none had)
+        ∙ ap (λ (o : Option DeliveryState). option_map journal_outcome (outcome_given (told_of (entries_of a.unsettled) row) o)) (sym had)
+row_gets t (event.Item from (item.Frame sasl channel _ payload)) k other x row ordered lasting key came at there waits = absurd (none_not_some came)
+row_gets t (event.Item from _) k other x row ordered lasting key came at there waits = absurd (none_not_some came)
+row_gets t _ k other x row ordered lasting key came at there waits = absurd (none_not_some came)

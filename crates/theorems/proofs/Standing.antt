@@ -77,7 +77,7 @@ exact_key a b h =
     let user = same_text a.user b.user users.0 in
     λ i. record { role = role i; user = user i; container = container i; name = name i }
 
-key_itself : (k : LinkKey) → same_key k k ≡ true
+pub key_itself : (k : LinkKey) → same_key k k ≡ true
 key_itself k = ap is_eq (tied_itself keys_total k)
 
 -- what stays of a link

@@ -1,11 +1,7 @@
 -- Takes make no difference: without them, a trace whose outboxes were never full is what its events alone make.
 use Rattle.std.proofs.Common.{◌≡◌, ◌∙◌, sym, ap, refl, subst, ℕ, false, List, [], ◌∷◌}
 use Rattle.std.specs.Prelude.{Option, Some, None}
-use Rattle.amqp_model.specs.declared.perf.Attach.{Attach as AnAttach}
-use Rattle.amqp_model.specs.declared.perf.Perf.{Perf}
-use Rattle.amqp_model.specs.declared.perf.Perf.TheVariants as perf
 use Rattle.amqp_model.specs.declared.item.Item.{Item}
-use Rattle.amqp_model.specs.declared.item.Item.TheVariants as item
 use Rattle.amqp_conn.specs.declared.conn.Conn.{Conn}
 use Rattle.router_trace.specs.Trace.{Beginning}
 use Rattle.router_trace.specs.Configuration.{beginning}
@@ -18,12 +14,12 @@ use Rattle.state_sessions.specs.Windows.{windows_over}
 use Rattle.state_messages.specs.Messages.{with_bound}
 use Rattle.router_state.specs.Tables.{beats_over}
 use Rattle.reply_rows.specs.declared.answer.Answer.{Answer}
-use Rattle.reply_rows.specs.declared.answer.Answer.TheVariants.{Nothing, Attach}
+use Rattle.reply_rows.specs.declared.answer.Answer.TheVariants.{Nothing}
 use Rattle.reply_rows.specs.Rows.{down_reply}
 use Rattle.router_reply.specs.Replies.{ends, row_found, item_put, item_row, own_row, bound_for, item_bound, bound_by, replied_after}
 use Rattle.router_after.specs.After.{widened, followed}
 use Rattle.router_reply.specs.Acts.{journaled, booked, found_journal, full_at, answer_by, answer_to_event}
-use Rattle.router_reply.specs.Resuming.{key_taken, key_by, key_in, resumed_key, attach_in, rows_for, rows_taken, with_rows, resumed_by, resumed}
+use Rattle.router_reply.specs.Resuming.{resumed_key, attach_in, rows_for, rows_taken, with_rows, resumed_by, resumed}
 use Rattle.router_core.specs.Replies.{answered, handled}
 use Rattle.core_machine.specs.Moves.{took_one}
 use Rattle.router_core.specs.Moves.{Goes, outs}
@@ -32,7 +28,7 @@ use Rattle.theorems.specs.Takes.{untaken, events_of, NeverFull}
 use Rattle.router_core.proofs.Booking.{booked_keeps}
 use Rattle.theorems.proofs.Untaken.{untaken_goes, same_outs, same_journaled, same_beats, same_windows}
 use Rattle.theorems.proofs.UntakenPassed.{untaken_bound, untaken_rows, same_passed}
-use Rattle.theorems.proofs.UntakenRows.{same_put, same_bound_for, same_consumer_key}
+use Rattle.theorems.proofs.UntakenRows.{same_put, same_bound_for, same_resumed_key}
 use Rattle.theorems.proofs.UntakenActs.{plain_acts, plain_full_at, plain_answer_of, same_full, same_acts, same_answer}
 use Rattle.router_core.proofs.Following.{passed_on, each_keeps, all_keep}
 use Rattle.router_core.proofs.Resuming.{resumed_keeps}
@@ -101,7 +97,7 @@ same_item_row : (id : List ℕ) (t u : List Entry) (c : ℕ) (i : Item) (v : Opt
     → item_row id t u c i v ≡ plain_item_row id (untaken t) (untaken u) c i v
 same_item_row id t u c i None same = refl
 same_item_row id t u c i (Some p) same =
-    ap (item_put id t u c p i) (same_answer t c p i same.journal same.full) ∙ same_put id t u c p i (plain_answer_of (untaken t) c p i) same.row
+    ap (item_put id t u c p i) (same_answer t c p i same.journal same.full) ∙ same_put id t u c p i (plain_answer_of (untaken t) c p i) same.journal same.row
 
 same_item_bound : (t u : List Entry) (c : ℕ) (i : Item) (v : Option Conn) → FindsAlike t (event.Item (record { 0 = c }) i)
     → item_bound t u c i v ≡ plain_item_bound (untaken t) (untaken u) c i v
@@ -140,29 +136,10 @@ same_answer_to t (event.Tick ms) calm none same = refl
 same_answer_to t (event.Up c p) calm none same = refl
 same_answer_to t event.Start calm none same = refl
 
-same_key_taken : (t : List Entry) (c : ℕ) (a : AnAttach) (y : Answer) → key_taken t c a y ≡ key_taken (untaken t) c a y
-same_key_taken t c a (Attach own) = same_consumer_key t c a
-same_key_taken t c a _ = refl
-
-same_key_by : (t : List Entry) (c : ℕ) (body : Perf) (y : Answer) → key_by t c body y ≡ key_by (untaken t) c body y
-same_key_by t c (perf.Attach a) y = same_key_taken t c a y
-same_key_by t c _ y = refl
-
-same_key_in : (t : List Entry) (c : ℕ) (i : Item) (y : Answer) → key_in t c i y ≡ key_in (untaken t) c i y
-same_key_in t c (item.Frame sasl channel body payload) y = same_key_by t c body y
-same_key_in t c _ y = refl
-
-same_resumed_key : (t : List Entry) (e : Event) (y : Answer) → resumed_key t e y ≡ resumed_key (untaken t) e y
-same_resumed_key t (event.Item c i) y = same_key_in t c.0 i y
-same_resumed_key t (event.Down c) y = refl
-same_resumed_key t (event.Tick ms) y = refl
-same_resumed_key t (event.Up c p) y = refl
-same_resumed_key t event.Start y = refl
-
 same_resumed : (t u : List Entry) (e : Event) → Calm t → due t e ≡ [] → FindsAlike t e → untaken (resumed t e u) ≡ plain_resumed (untaken t) e (untaken u)
 same_resumed t u e calm none same =
     untaken_rows (resumed_key t e (answer_to_event t e)) (rows_taken t e (answer_to_event t e)) u
-    ∙ (λ j. with_rows (key j) (rows_for (same_journaled t j).book (attach_in e) (key j)) (untaken u))
+    ∙ (λ j. with_rows (key j) (rows_for (same.journal j).book (attach_in e) (key j)) (untaken u))
   where
     key : resumed_key t e (answer_to_event t e) ≡ resumed_key (untaken t) e (plain_answer_to (untaken t) e)
     key = ap (resumed_key t e) (same_answer_to t e calm none same) ∙ same_resumed_key t e (plain_answer_to (untaken t) e)

@@ -12,7 +12,7 @@ use Rattle.amqp_model.specs.declared.item.Item.TheVariants as item
 use Rattle.router_trace.specs.declared.binding.DeliveryName.{DeliveryName}
 use Rattle.router_trace.specs.declared.binding.Origin.{Origin}
 use Rattle.router_trace.specs.Trace.{Entry, Did, Out, Took, Bound, Booked, Began, IsOneRun}
-use Rattle.router_trace.specs.Deliveries.{Delivery, bindings, name_in, same_name, number_named, unless_called, delivery, sending, named, unless_over, either_origin, source, untold, unsettled, told, is_meant, last_of, origin_id, ended_by, after_put, after_event, channels_found}
+use Rattle.router_trace.specs.Deliveries.{Delivery, bindings, name_in, same_name, number_named, unless_called, delivery, sending, named, unless_over, either_origin, source, untold, unsettled, told, is_meant, last_of, origin_id, ended_by, after_put, after_event, channels_found, acts_found}
 use Rattle.amqp_session.specs.Serials.{distance}
 use Rattle.amqp_session.specs.Ranges.{in_range}
 use Rattle.theorems.specs.OneConsumer.{IsOrNone, WhileThere}
@@ -244,7 +244,7 @@ uncalled_under c own id name (Some d) none = by (same_name d.name name)
 entry_under : (c own id : ℕ) (e : Entry) (t : List Entry) (n : ℕ) → n ≤ bindings t → WhileThere (NotUnder c own id) (delivery t n)
     → WhileThere (NotUnder c own id) (delivery (e ∷ t) n)
 entry_under c own id (Did s) t n given none =
-    not_under c own id (after_event s.event (channels_found t) (named t) n) (event_left (WasUnder c own id) (was_left c own id) s.event (channels_found t) (named t) n) (delivery t n) none
+    not_under c own id (after_event s.event (channels_found t) (named t) (acts_found t) n) (event_left (WasUnder c own id) (was_left c own id) s.event (channels_found t) (named t) (acts_found t) n) (delivery t n) none
 entry_under c own id (Out d i) t n given none =
     not_under c own id (after_put (number_named t) i d n (sending t d)) (item_left (WasUnder c own id) (was_left c own id) (was_frames c own id) (number_named t) i d n (sending t d)) (delivery t n) none
 entry_under c own id (Took d k) t n given none = none

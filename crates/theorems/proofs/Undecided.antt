@@ -13,6 +13,7 @@ use Rattle.amqp_model.specs.declared.state.DeliveryState.{DeliveryState}
 use Rattle.amqp_model.specs.declared.state.DeliveryState.TheVariants as state
 use Rattle.amqp_model.specs.declared.item.Item.{Item}
 use Rattle.amqp_model.specs.declared.item.Item.TheVariants as item
+use Rattle.book_model.specs.declared.act.Act.{Act}
 use Rattle.router_trace.specs.declared.binding.DeliveryName.{DeliveryName}
 use Rattle.router_trace.specs.declared.binding.Origin.{Origin}
 use Rattle.router_trace.specs.declared.channel.PeerChannel.{PeerChannel}
@@ -21,7 +22,7 @@ use Rattle.router_trace.specs.declared.event.Event.TheVariants as event
 use Rattle.router_trace.specs.declared.handle.Attachment.{Attachment}
 use Rattle.router_trace.specs.Trace.{Entry, Did, Out, Step}
 use Rattle.router_trace.specs.Links.{is_lost}
-use Rattle.router_trace.specs.Deliveries.{Delivery, number_named, delivery, sending, named, source, untold, unsettled, failed, is_undecided, is_gone_with, after_origin, after_ends, ended, decided_at_end, suspended_at_end, closes, ended_by, put_in, after_put, after_frame, after_event, told, is_meant, origin_id, is_number, carried, tag_in, decided, is_on, is_settled_at, disposed, heard_in, heard, lost_with, channels_found, sender, forsaken, either_origin}
+use Rattle.router_trace.specs.Deliveries.{Delivery, number_named, delivery, sending, named, source, untold, unsettled, failed, is_undecided, is_gone_with, after_origin, after_ends, ended, decided_at_end, suspended_at_end, closes, ended_by, put_in, after_put, after_frame, after_event, told, is_meant, origin_id, is_number, carried, tag_in, decided, is_on, is_settled_at, disposed, outcome_or, outcome_named, given, heard_in, heard, lost_with, channels_found, acts_found, sender, forsaken, either_origin}
 use Rattle.theorems.proofs.Followed.{Left, Frames, item_left, event_left, Follows, item_follows, event_follows}
 use Rattle.theorems.proofs.Bindings.{of_what}
 use Rattle.theorems.proofs.Tests.{none_not_some}
@@ -174,18 +175,28 @@ disposed_closed : (r : Role) (x : Disposition) (c : ℕ) (v : Option PeerChannel
 disposed_closed Receiver x c v names n d e = either_closed (is_on d.link c v) (decided x names n d) d (decided_closed x names n d e) e
 disposed_closed Sender x c v names n d e = either_closed (is_settled_at x c v (source d)) (untold d) d e e
 
-heard_in_closed : (body : Perf) (c : ℕ) (v : Option PeerChannel) (names : ℕ → ℕ → Option ℕ) (n : ℕ) → Closes (heard_in body c v names n)
-heard_in_closed (perf.Disposition x) c v names n d e = disposed_closed x.role x c v (names d.link.channel) n d e
-heard_in_closed _ c v names n d e = e
+given_closed : (acts : List Act) → Closes (given acts)
+given_closed acts d e = by d.outcome (outcome_named acts d.name) e
+  where
+    by : (o v : Option DeliveryState) → (is_none o && not (d.presettled || d.suspended)) ≡ false → (is_none (outcome_or o v) && not (d.presettled || d.suspended)) ≡ false
+    by None None e = e
+    by None (Some s) e = refl
+    by (Some s) v e = refl
 
-heard_closed : (i : Item) (c : ℕ) (known : ℕ → Option PeerChannel) (names : ℕ → ℕ → Option ℕ) (n : ℕ) → Closes (heard i c known names n)
-heard_closed (item.Frame sasl channel body payload) c known names n d e = either_closed sasl d (heard_in body c (known channel) names n d) e (heard_in_closed body c (known channel) names n d e)
-heard_closed _ c known names n d e = e
+heard_in_closed : (body : Perf) (c : ℕ) (v : Option PeerChannel) (names : ℕ → ℕ → Option ℕ) (acts : List Act) (n : ℕ) → Closes (heard_in body c v names acts n)
+heard_in_closed (perf.Disposition x) c v names acts n d e = disposed_closed x.role x c v (names d.link.channel) n d e
+heard_in_closed (perf.Attach x) c v names acts n d e = given_closed acts d e
+heard_in_closed _ c v names acts n d e = e
 
-event_closed : (x : Event) (known : ℕ → ℕ → Option PeerChannel) (names : ℕ → ℕ → ℕ → Option ℕ) (n : ℕ) → Closes (after_event x known names n)
-event_closed (event.Item c i) known names n d e = heard_closed i c.0 (known c.0) (names c.0) n d e
-event_closed (event.Down c) known names n d e = ends_closed false (lost_with c.0) d e
-event_closed _ known names n d e = e
+heard_closed : (i : Item) (c : ℕ) (known : ℕ → Option PeerChannel) (names : ℕ → ℕ → Option ℕ) (acts : List Act) (n : ℕ) → Closes (heard i c known names acts n)
+heard_closed (item.Frame sasl channel body payload) c known names acts n d e =
+    either_closed sasl d (heard_in body c (known channel) names acts n d) e (heard_in_closed body c (known channel) names acts n d e)
+heard_closed _ c known names acts n d e = e
+
+event_closed : (x : Event) (known : ℕ → ℕ → Option PeerChannel) (names : ℕ → ℕ → ℕ → Option ℕ) (acts : List Act) (n : ℕ) → Closes (after_event x known names acts n)
+event_closed (event.Item c i) known names acts n d e = heard_closed i c.0 (known c.0) (names c.0) acts n d e
+event_closed (event.Down c) known names acts n d e = ends_closed false (lost_with c.0) d e
+event_closed _ known names acts n d e = e
 
 -- what a delivery was before an entry
 
@@ -205,14 +216,15 @@ lost_by x a = is_lost x a.conn.0
 same_test : (a b : ℕ) → (a == b) ≡ false → (b == a) ≡ false
 same_test a b h = grind (arith, nat_tests)
 
-event_spares : (x : Event) (known : ℕ → ℕ → Option PeerChannel) (names : ℕ → ℕ → ℕ → Option ℕ) (n : ℕ) (d : Delivery) → is_undecided (after_event x known names n d) ≡ true → lost_by x d.link ≡ false
-event_spares (event.Down c) known names n d h = same_test d.link.conn.0 c.0 (ends_spare false (lost_with c.0) d h)
-event_spares _ known names n d h = refl
+event_spares : (x : Event) (known : ℕ → ℕ → Option PeerChannel) (names : ℕ → ℕ → ℕ → Option ℕ) (acts : List Act) (n : ℕ) (d : Delivery) → is_undecided (after_event x known names acts n d) ≡ true
+    → lost_by x d.link ≡ false
+event_spares (event.Down c) known names acts n d h = same_test d.link.conn.0 c.0 (ends_spare false (lost_with c.0) d h)
+event_spares _ known names acts n d h = refl
 
-event_keeps : (x : Event) (known : ℕ → ℕ → Option PeerChannel) (names : ℕ → ℕ → ℕ → Option ℕ) (n : ℕ) (d : Delivery) (p : Origin) → source (after_event x known names n d) ≡ Some p
-    → lost_by x p.link ≡ false
-event_keeps (event.Down c) known names n d p h = same_test p.link.conn.0 c.0 (ends_keep false (lost_with c.0) d p h)
-event_keeps _ known names n d p h = refl
+event_keeps : (x : Event) (known : ℕ → ℕ → Option PeerChannel) (names : ℕ → ℕ → ℕ → Option ℕ) (acts : List Act) (n : ℕ) (d : Delivery) (p : Origin)
+    → source (after_event x known names acts n d) ≡ Some p → lost_by x p.link ≡ false
+event_keeps (event.Down c) known names acts n d p h = same_test p.link.conn.0 c.0 (ends_keep false (lost_with c.0) d p h)
+event_keeps _ known names acts n d p h = refl
 
 open_before : (f : Delivery → Delivery) → Closes f → (d e : Delivery) → e ≡ f d → is_undecided e ≡ true → is_undecided d ≡ true
 open_before f closes d e is open_now = by (is_undecided d) refl
@@ -223,15 +235,15 @@ open_before f closes d e is open_now = by (is_undecided d) refl
 
 pub was_did : (s : Step) (t : List Entry) (n : ℕ) (e : Delivery) → delivery (Did s ∷ t) n ≡ Some e → Was (lost_by s.event) t n e
 was_did s t n e now =
-    let was = of_what (after_event s.event (channels_found t) (named t) n) (delivery t n) e now
+    let was = of_what (after_event s.event (channels_found t) (named t) (acts_found t) n) (delivery t n) e now
     in record {
       before = was.0;
       there = was.1;
-      follows = subst (λ (f : Delivery). Follows was.0 f) (sym was.2) (event_follows s.event (channels_found t) (named t) n was.0);
-      undecided = open_before (after_event s.event (channels_found t) (named t) n) (event_closed s.event (channels_found t) (named t) n) was.0 e was.2;
-      comes = subst (λ (f : Delivery). Comes was.0 f) (sym was.2) (event_left Comes comes_left s.event (channels_found t) (named t) n was.0);
-      spares = λ h. event_spares s.event (channels_found t) (named t) n was.0 (sym (ap is_undecided was.2) ∙ h);
-      keeps = λ p h. event_keeps s.event (channels_found t) (named t) n was.0 p (sym (ap source was.2) ∙ h);
+      follows = subst (λ (f : Delivery). Follows was.0 f) (sym was.2) (event_follows s.event (channels_found t) (named t) (acts_found t) n was.0);
+      undecided = open_before (after_event s.event (channels_found t) (named t) (acts_found t) n) (event_closed s.event (channels_found t) (named t) (acts_found t) n) was.0 e was.2;
+      comes = subst (λ (f : Delivery). Comes was.0 f) (sym was.2) (event_left Comes comes_left s.event (channels_found t) (named t) (acts_found t) n was.0);
+      spares = λ h. event_spares s.event (channels_found t) (named t) (acts_found t) n was.0 (sym (ap is_undecided was.2) ∙ h);
+      keeps = λ p h. event_keeps s.event (channels_found t) (named t) (acts_found t) n was.0 p (sym (ap source was.2) ∙ h);
     }
 
 pub was_out : (c : ℕ) (i : Item) (t : List Entry) (n : ℕ) (e : Delivery) → delivery (Out c i ∷ t) n ≡ Some e → Was (ended_by i c) t n e

@@ -44,6 +44,7 @@ use Rattle.reply_rows.specs.declared.answer.Answer.{Answer}
 use Rattle.reply_rows.specs.declared.answer.Answer.TheVariants.{Nothing, Attach, Detach, Taken}
 use Rattle.reply_rows.specs.Booking.{wants_durable, answer_at}
 use Rattle.router_reply.specs.Admitting.{without_acts, terminus_for, admission_of, admitted_to, whole_admission, part_admission, taken_admission, unless_ends, event_admission, admits}
+use Rattle.router_reply.specs.Asking.{attach_in, decided_for, map_decides}
 use Rattle.router_reply.specs.Deciding.{lost, stolen_from, stolen_for, ended_by, listed, event_changes, as_kept, decided, settled_on, sent_from, closed_terminus, resumed_terminus, forgotten_by, forgotten_in, forgotten, made_for, terminus_by, terminus_in, terminus_of_event}
 use Rattle.router_reply.specs.Acts.{Journaled, live_answer, event_answer, answer_acts, planned_acts, admitted_acts, or_admits, event_acts, finds_full, journaled, book_in, acts_of, before_acts, found_journal, full_at, answer_of}
 use Rattle.theorems.specs.Takes.{untaken}
@@ -51,7 +52,7 @@ use Rattle.theorems.proofs.Plain.{plain, Calm, stood_found}
 use Rattle.theorems.proofs.Untaken.{same_theirs, same_journaled}
 use Rattle.theorems.proofs.UntakenDeliveries.{same_bindings, same_delivery}
 use Rattle.theorems.proofs.UntakenLinks.{same_key_at, same_link, same_link_place, same_holder}
-use Rattle.theorems.proofs.UntakenRows.{same_answer_at, same_consumer_at, same_claimed_id}
+use Rattle.theorems.proofs.UntakenRows.{same_answer_at, same_consumer_at, same_claimed_id, same_resumed_key}
 
 -- What an event that ends no connection does to the book, by what events alone leave of its connection: the changes of deliveries that it brings,
 -- the rows that it decides, the answer to its item, what is planned, and what is admitted.
@@ -60,8 +61,8 @@ plain_changes x (event.Item c i) answer = listed (heard_change c.0 (session_on x
 plain_changes x (event.Down c) answer = lost c.0 ∷ []
 plain_changes x _ answer = []
 
-abbrev pub plain_decided : List Entry → Event → Answer → List Decision
-plain_decided x e answer = map as_kept (decided_rows x (plain_changes x e answer))
+abbrev pub plain_decided : BookView → List Entry → Event → Answer → List Decision
+plain_decided b x e answer = map as_kept (decided_rows x (plain_changes x e answer)) ++ map_decides b x e answer
 
 abbrev pub plain_forgotten : BookView → List Entry → Event → Answer → List RowNumber
 plain_forgotten b x (event.Item c i) answer = forgotten_in b x c.0 (session_on x c.0 (channel_of i)) i answer
@@ -72,7 +73,7 @@ plain_event_answer full b x (event.Item c i) = live_answer full b x c.0 i (plain
 plain_event_answer full b x _ = Nothing
 
 abbrev pub plain_answer_acts : BookView → List Entry → Event → Answer → List Act
-plain_answer_acts b x e answer = settled_acts b (plain_decided x e answer) (plain_forgotten b x e answer) (terminus_of_event b x e answer)
+plain_answer_acts b x e answer = settled_acts b (plain_decided b x e answer) (plain_forgotten b x e answer) (terminus_of_event b x e answer)
 
 abbrev pub plain_planned : Bool → BookView → List Entry → Event → List Act
 plain_planned full b x event.Start = start_acts b
@@ -137,10 +138,13 @@ same_changes t event.Start a = refl
 same_decided_rows : (t : List Entry) (xs : List Change) → decided_rows t xs ≡ decided_rows (untaken t) xs
 same_decided_rows t xs = λ j. gathered_below (same_bindings t j + 1) (λ n. decision_of xs (same_delivery t n j))
 
-same_decided : (t : List Entry) (e : Event) (a : Answer) → due t e ≡ [] → decided t e a ≡ plain_decided (untaken t) e a
-same_decided t e a none =
+same_changed : (t : List Entry) (e : Event) (a : Answer) → due t e ≡ [] → map as_kept (decided_rows t (event_changes t e a)) ≡ map as_kept (decided_rows (untaken t) (plain_changes (untaken t) e a))
+same_changed t e a none =
     ap (λ (xs : List Change). map as_kept (decided_rows t xs)) (changed_plainly t e a none ∙ same_changes t e a)
     ∙ ap (map as_kept) (same_decided_rows t (plain_changes (untaken t) e a))
+
+same_decided : (b : BookView) (t : List Entry) (e : Event) (a : Answer) → due t e ≡ [] → decided b t e a ≡ plain_decided b (untaken t) e a
+same_decided b t e a none = λ j. same_changed t e a none j ++ decided_for b (attach_in e) (same_resumed_key t e a j)
 
 same_rows_from : (t : List Entry) (c o first last : ℕ) → rows_from t c o first last ≡ rows_from (untaken t) c o first last
 same_rows_from t c o first last = λ j. gathered_below (same_bindings t j + 1) (λ n. row_from c o first last (same_delivery t n j))
@@ -216,7 +220,7 @@ same_event_answer full b t (event.Tick ms) calm none = refl
 same_event_answer full b t event.Start calm none = refl
 
 same_answer_acts : (b : BookView) (t : List Entry) (e : Event) (a : Answer) → due t e ≡ [] → answer_acts b t e a ≡ plain_answer_acts b (untaken t) e a
-same_answer_acts b t e a none = λ j. settled_acts b (same_decided t e a none j) (same_forgotten b t e a none j) (same_terminus b t e a j)
+same_answer_acts b t e a none = λ j. settled_acts b (same_decided b t e a none j) (same_forgotten b t e a none j) (same_terminus b t e a j)
 
 same_told_acts : (full : Bool) (b : BookView) (t : List Entry) (e : Event) → Calm t → due t e ≡ []
     → answer_acts b t e (event_answer full b t e) ≡ plain_answer_acts b (untaken t) e (plain_event_answer full b (untaken t) e)

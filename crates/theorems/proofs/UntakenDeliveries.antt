@@ -7,7 +7,7 @@ use Rattle.router_trace.specs.declared.binding.Origin.{Origin}
 use Rattle.router_trace.specs.declared.handle.Attachment.{Attachment}
 use Rattle.router_trace.specs.Trace.{Entry, Did, Out, Took, Bound, Booked, Began}
 use Rattle.router_trace.specs.Links.{is_lost, has_number, attachments, newest_by, numbered}
-use Rattle.router_trace.specs.Deliveries.{Delivery, none_if_ended, ended_first, channels_found, bindings, counters, name_of, name_in, same_name, number_named, unless_called, delivery, bound, called, unless_over, after_event, after_put, sending_by, sending, named_by, named, next_id_by, next_id, stands_on}
+use Rattle.router_trace.specs.Deliveries.{Delivery, none_if_ended, ended_first, acts_found, channels_found, bindings, counters, name_of, name_in, same_name, number_named, unless_called, delivery, bound, called, unless_over, after_event, after_put, sending_by, sending, named_by, named, next_id_by, next_id, stands_on}
 use Rattle.router_trace.specs.DeliveryFrames.{next_frame, largest_out, rest_of, first_transfer, later_transfer}
 use Rattle.router_trace.specs.Claims.{Claim, bind_claim, claim_at, claim_after, claims}
 use Rattle.router_trace.specs.Numbers.{Placed, first_below, first_placed}
@@ -84,13 +84,22 @@ same_ended (Bound b ∷ t) = refl
 same_ended (Booked acts full ∷ t) = refl
 same_ended (Began g ∷ t) = refl
 
+same_acts_found : (t : List Entry) → acts_found t ≡ acts_found (untaken t)
+same_acts_found [] = refl
+same_acts_found (Did s ∷ t) = refl
+same_acts_found (Out d i ∷ t) = refl
+same_acts_found (Took d n ∷ t) = same_acts_found t
+same_acts_found (Bound b ∷ t) = refl
+same_acts_found (Booked acts full ∷ t) = refl
+same_acts_found (Began g ∷ t) = refl
+
 same_channels : (t : List Entry) (c p : ℕ) → channels_found t c p ≡ channels_found (untaken t) c p
 same_channels t c p = λ j. none_if_ended (same_ended t j) c (same_theirs t c p j)
 
 pub same_delivery : (t : List Entry) (n : ℕ) → delivery t n ≡ delivery (untaken t) n
 same_delivery [] n = refl
 same_delivery (Did s ∷ t) n =
-    λ j. option_and_then (λ d. unless_over (after_event s.event (λ c p. same_channels t c p j) (λ c o id. same_named t c o id j) n d)) (same_delivery t n j)
+    λ j. option_and_then (λ d. unless_over (after_event s.event (λ c p. same_channels t c p j) (λ c o id. same_named t c o id j) (same_acts_found t j) n d)) (same_delivery t n j)
 same_delivery (Out c i ∷ t) n = λ j. option_and_then (λ d. unless_over (after_put (λ name. same_numbers t name j) i c n (λ o h. same_sending t c o h j) d)) (same_delivery t n j)
 same_delivery (Took c k ∷ t) n = same_delivery t n
 same_delivery (Bound b ∷ t) n = λ j. if same_bindings t j + 1 == n then Some (bound (same_name_in t b j) b) else unless_called (same_name_in t b j) (same_delivery t n j)

@@ -23,6 +23,8 @@ use Rattle.router_trace.specs.declared.binding.Origin.{Origin}
 use Rattle.router_trace.specs.declared.condition.Condition.{Condition}
 use Rattle.router_trace.specs.declared.condition.Condition.TheVariants.{NotAllowed, ResourceLimitExceeded, MessageSizeExceeded}
 use Rattle.router_trace.specs.declared.handle.Attachment.{Attachment}
+use Rattle.router_trace.specs.declared.event.Event.{Event}
+use Rattle.router_trace.specs.declared.event.Event.TheVariants as event
 use Rattle.router_trace.specs.Trace.{Entry, Put, goes, puts, each_to}
 use Rattle.router_trace.specs.Configuration.{is_multicast}
 use Rattle.router_trace.specs.LinkFrames.{plain_answer, answer_to, detach_item}
@@ -38,10 +40,11 @@ use Rattle.reply_rows.specs.Rows.{Finds, said, item_reply}
 use Rattle.reply_rows.specs.Finding.{finds}
 use Rattle.reply_rows.specs.Booking.{wants_durable, wanted_address, new_terminus, has_room, durable_refusal, book_refusal, booked_attach, stands_from, repeats, booked_transfer, booked, answer_at}
 use Rattle.reply_transfers.specs.Transfers.{claimed_id, settled_answers, from_link, origin_of, lasts_on, may_pass, consumer_for, fresh_bound, whole_bound, let_go, unless_many, ignored_put, released_by, released, unbound_put, whole_put, part_put, part_bound}
-use Rattle.router_reply.specs.Resuming.{receives, consumer_key, map_for}
+use Rattle.router_reply.specs.Acts.{found_journal}
+use Rattle.router_reply.specs.Resuming.{receives, consumer_key, key_taken, key_by, key_in, resumed_key, map_for}
 use Rattle.router_reply.specs.Replies.{map_told, stolen_by, attach_answer, taken_after, taken, refused, row_found, bound_for, links_put, item_put}
 use Rattle.theorems.specs.Takes.{untaken}
-use Rattle.theorems.proofs.Untaken.{untaken_goes, same_journaled, same_place, same_free}
+use Rattle.theorems.proofs.Untaken.{untaken_goes, same_place, same_free}
 use Rattle.theorems.proofs.UntakenDeliveries.{same_named, same_delivery, same_claims, same_numbered}
 use Rattle.theorems.proofs.UntakenGrants.{same_distribution, same_choice}
 use Rattle.theorems.proofs.UntakenLinks.{same_key_at, same_largest, same_free_handle, same_link, same_link_place, same_holder}
@@ -109,8 +112,27 @@ same_taken t c own ours a =
 pub same_consumer_key : (t : List Entry) (c : ℕ) (a : AnAttach) → consumer_key t c a ≡ consumer_key (untaken t) c a
 same_consumer_key t c a = λ j. if wants_durable a && receives a.role then Some (same_key_at t c (plain_answer a 0) j) else None
 
-same_map : (t : List Entry) (c own : ℕ) (a : AnAttach) → map_told t c a (Attach own) ≡ map_told (untaken t) c a (Attach own)
-same_map t c own a = λ j. map_for (same_journaled t j).book (Some a) (same_consumer_key t c a j)
+same_key_taken : (t : List Entry) (c : ℕ) (a : AnAttach) (y : Answer) → key_taken t c a y ≡ key_taken (untaken t) c a y
+same_key_taken t c a (Attach own) = same_consumer_key t c a
+same_key_taken t c a _ = refl
+
+same_key_by : (t : List Entry) (c : ℕ) (body : Perf) (y : Answer) → key_by t c body y ≡ key_by (untaken t) c body y
+same_key_by t c (perf.Attach a) y = same_key_taken t c a y
+same_key_by t c _ y = refl
+
+same_key_in : (t : List Entry) (c : ℕ) (i : Item) (y : Answer) → key_in t c i y ≡ key_in (untaken t) c i y
+same_key_in t c (item.Frame sasl channel body payload) y = same_key_by t c body y
+same_key_in t c _ y = refl
+
+pub same_resumed_key : (t : List Entry) (e : Event) (y : Answer) → resumed_key t e y ≡ resumed_key (untaken t) e y
+same_resumed_key t (event.Item c i) y = same_key_in t c.0 i y
+same_resumed_key t (event.Down c) y = refl
+same_resumed_key t (event.Tick ms) y = refl
+same_resumed_key t (event.Up c p) y = refl
+same_resumed_key t event.Start y = refl
+
+same_map : (t : List Entry) (c own : ℕ) (a : AnAttach) → found_journal t ≡ found_journal (untaken t) → map_told t c a (Attach own) ≡ map_told (untaken t) c a (Attach own)
+same_map t c own a journal = λ j. map_for (journal j).book (Some a) (same_consumer_key t c a j)
 
 -- a whole delivery
 
@@ -215,13 +237,13 @@ same_open_id t c own id = same_open t c own id (named t c own id) ∙ ap (names_
 
 -- an item's row
 
-same_links : (t u : List Entry) (c : ℕ) (i : Item) (a : Answer) → row_found t ≡ row_found (untaken t) → links_put t u c i a ≡ links_put (untaken t) (untaken u) c i a
-same_links t u c (item.Frame sasl channel body payload) a rows = by_perf body a
+same_links : (t u : List Entry) (c : ℕ) (i : Item) (a : Answer) → found_journal t ≡ found_journal (untaken t) → row_found t ≡ row_found (untaken t) → links_put t u c i a ≡ links_put (untaken t) (untaken u) c i a
+same_links t u c (item.Frame sasl channel body payload) a journal rows = by_perf body a
   where
     by_attach : (x : AnAttach) (a : Answer)
         → links_put t u c (item.Frame sasl channel (perf.Attach x) payload) a ≡ links_put (untaken t) (untaken u) c (item.Frame sasl channel (perf.Attach x) payload) a
     by_attach x (Attach own) =
-        (λ j. taken u c own (same_map t c own x j) x) ∙ same_taken u c own (map_told (untaken t) c x (Attach own)) x
+        (λ j. taken u c own (same_map t c own x journal j) x) ∙ same_taken u c own (map_told (untaken t) c x (Attach own)) x
     by_attach x (Refuse own handle e) = ap (λ (n : ℕ). each_to c (refused n own handle e x)) (same_largest u c)
     by_attach x _ = refl
 
@@ -244,13 +266,13 @@ same_links t u c (item.Frame sasl channel body payload) a rows = by_perf body a
     by_perf (perf.Transfer x) a = by_transfer x a
     by_perf (perf.Disposition x) a = by_disposition x a
     by_perf _ a = refl
-same_links t u c _ a rows = refl
+same_links t u c _ a journal rows = refl
 
-pub same_put : (id : List ℕ) (t u : List Entry) (c : ℕ) (p : Conn) (i : Item) (a : Answer) → row_found t ≡ row_found (untaken t)
+pub same_put : (id : List ℕ) (t u : List Entry) (c : ℕ) (p : Conn) (i : Item) (a : Answer) → found_journal t ≡ found_journal (untaken t) → row_found t ≡ row_found (untaken t)
     → item_put id t u c p i a ≡ item_put id (untaken t) (untaken u) c p i a
-same_put id t u c p i a rows =
+same_put id t u c p i a journal rows =
     ap (λ (ps : List Put). each_to c (said id p a) ++ ps)
-    (same_links t (puts c (said id p a) u) c i a rows ∙ ap (λ (v : List Entry). links_put (untaken t) v c i a) (untaken_goes (each_to c (said id p a)) u))
+    (same_links t (puts c (said id p a) u) c i a journal rows ∙ ap (λ (v : List Entry). links_put (untaken t) v c i a) (untaken_goes (each_to c (said id p a)) u))
 
 -- the message that it binds
 

@@ -1,9 +1,10 @@
 -- Messages received (AMQP 1.0 part 2, sections 2.6.14 and 2.7.5): a producer's delivery is complete with the frame that says that no more
 -- are to come.
-use Rattle.std.specs.Prelude.{◌≡◌, ℕ, ◌+◌, Bool, true, false, is_some, List, [], ◌∷◌, ◌++◌, Option, Some, None, unwrap_or}
+use Rattle.std.specs.Prelude.{◌≡◌, ℕ, ◌+◌, Bool, true, false, is_some, List, [], ◌∷◌, ◌++◌, Option, Some, None, unwrap_or, option_map}
 use Rattle.amqp_model.specs.declared.perf.Perf.TheVariants as perf
 use Rattle.amqp_model.specs.declared.perf.Transfer.{Transfer}
 use Rattle.amqp_model.specs.declared.item.Item.TheVariants as item
+use Rattle.amqp_model.specs.declared.state.DeliveryState.{DeliveryState}
 use Rattle.amqp_link.specs.declared.part.Delivery.{Delivery as Told}
 use Rattle.amqp_link.specs.Deliveries.{frame, bytes, delivery}
 use Rattle.amqp_link.specs.Receiving.{Received, middle}
@@ -16,18 +17,19 @@ use Rattle.router_trace.specs.declared.binding.Binding.{Binding}
 use Rattle.router_trace.specs.declared.binding.Origin.{Origin}
 use Rattle.router_trace.specs.declared.channel.PeerChannel.TheVariants.{Mapped}
 use Rattle.router_trace.specs.declared.event.ConnectionId.{ConnectionId}
+use Rattle.journal_store.specs.Acting.{journal_outcome}
 use Rattle.router_trace.specs.declared.event.Event.TheVariants as event
 use Rattle.router_trace.specs.Trace.{Trace, Did, Out, Took, Bound, Booked, Began, Step}
 use Rattle.router_trace.specs.declared.binding.DeliveryName.TheVariants.{Row}
 use Rattle.router_trace.specs.declared.binding.TakenUp.{TakenUp}
-use Rattle.router_trace.specs.Deliveries.{Delivery, delivery as delivery_in, called, outcome_as, origin_in, told_in, early_in}
+use Rattle.router_trace.specs.Deliveries.{Delivery, delivery as delivery_in, acts_found, called, outcome_among, outcome_as, origin_in, told_in, early_in}
 use Rattle.router_trace.specs.Sessions.{theirs}
 use Rattle.router_trace.specs.Links.{Link, receives, link, link_place, on}
 use Rattle.router_trace.specs.Settling.{is_claimed_on}
 use Rattle.state_messages.specs.Asking.{consumer_with}
 use Rattle.state_messages.specs.Messages.{consumer_of, lasts, payload_as}
 use Rattle.reply_transfers.specs.Transfers.{claimed_id, from_link, lasts_on}
-use Rattle.router_reply.specs.Acts.{book_in}
+use Rattle.router_reply.specs.Acts.{book_found}
 use Rattle.router_reply.specs.Replies.{row_found}
 use Rattle.theorems.specs.OneConsumer.{IsOfMessage}
 
@@ -108,9 +110,19 @@ pub record BindsMessage (t : Trace) (b : Binding) : Type 0 where
   pub has_row : HasRowOn (lasts_on (Some producer)) b.origin b.row
   pub lasting : b.lasting ≡ lasts t b.consumer
 
--- A row is bound again when a consumer's durable link takes it up: the book has it for the terminus of that link. It is
--- bound with its message, unless it is brought with an outcome (`BringsItsOutcome`). Its producer's delivery is that of
--- the delivery which it had until then, whether that was told, or settled early, or neither.
+-- the trace that the last event found
+abbrev pub last_found : Trace → Trace
+last_found [] = []
+last_found (Did s ∷ t) = t
+last_found (Out c i ∷ t) = last_found t
+last_found (Took c n ∷ t) = last_found t
+last_found (Bound b ∷ t) = last_found t
+last_found (Booked acts full ∷ t) = last_found t
+last_found (Began g ∷ t) = []
+
+-- A row is bound again when a consumer's durable link takes it up: the book that the attach found has it for the terminus
+-- of that link. It is bound with its message, unless it is brought with an outcome (`BringsItsOutcome`). Its producer's
+-- delivery is that of the delivery which it had until then, whether that was told, or settled early, or neither.
 pub record TakesUp (t : Trace) (b : Binding) : Type 0 where
   pub brought : TakenUp
   pub taken : b.taken_up ≡ Some brought
@@ -118,12 +130,12 @@ pub record TakesUp (t : Trace) (b : Binding) : Type 0 where
   pub number : b.row ≡ Some row.number
   pub earlier : List ARow
   pub later : List ARow
-  pub kept : (book_in t).rows ≡ earlier ++ row ∷ later
+  pub kept : (book_found (last_found t)).rows ≡ earlier ++ row ∷ later
   pub format : b.format ≡ row.format
   pub payload : b.payload ≡ payload_as brought.how row.payload
   pub key : LinkKey
   pub terminus : Terminus
-  pub of_key : terminus_of key (book_in t).termini ≡ Some terminus
+  pub of_key : terminus_of key (book_found (last_found t)).termini ≡ Some terminus
   pub waits : is_for terminus.number.0 row ≡ true
   pub attached : consumer_with t key ≡ Some b.consumer
   pub origin : b.origin ≡ origin_in (called t (Row row.number))
@@ -131,9 +143,16 @@ pub record TakesUp (t : Trace) (b : Binding) : Type 0 where
   pub early : brought.early ≡ early_in (called t (Row row.number))
   pub lasting : b.lasting ≡ lasts t b.consumer
 
--- The outcome that a row which is taken up brings is the one that the book has of it; it brings none if it is undecided.
+-- The outcome that a row which is taken up brings is the one that the book has of it that the attach found. If it is
+-- undecided there it is the one that the acts of the attach give it, as the journal keeps it, and none if they give none.
+abbrev pub IsOutcomeThen : Option DeliveryState → Option DeliveryState → Option DeliveryState → Type 0
+IsOutcomeThen (Some outcome) given brought = brought ≡ Some outcome
+IsOutcomeThen None given brought = option_map journal_outcome brought ≡ given
+
 abbrev pub BringsItsOutcome : Trace → Binding → Type 0
-BringsItsOutcome t b = (takes : TakesUp t b) → outcome_as takes.brought.how ≡ takes.row.outcome
+BringsItsOutcome t b =
+    (takes : TakesUp t b)
+    → IsOutcomeThen takes.row.outcome (outcome_among (acts_found (last_found t)) takes.row.number) (outcome_as takes.brought.how)
 
 -- What is bound is a message, or a row that is taken up again.
 abbrev pub BindsAs : Bool → Trace → Binding → Type 0

@@ -1,6 +1,7 @@
 -- What decided a delivery (AMQP 1.0 part 2, sections 2.6.12 and 2.7.6; the outcomes in part 3, section 3.4): an entry of the trace, which
 -- gives the outcome. All of this holds of any trace.
 use Rattle.std.specs.Prelude.{◌≡◌, ℕ, ◌+◌, Bool, true, false, List, ◌∷◌, ◌++◌, Option, Some, None}
+use Rattle.amqp_model.specs.declared.perf.Attach.{Attach}
 use Rattle.amqp_model.specs.declared.perf.Disposition.{Disposition}
 use Rattle.amqp_model.specs.declared.perf.Perf.TheVariants as perf
 use Rattle.amqp_model.specs.declared.perf.Role.TheVariants.{Receiver}
@@ -10,13 +11,15 @@ use Rattle.amqp_model.specs.declared.state.DeliveryState.TheVariants as state
 use Rattle.amqp_model.specs.declared.item.Item.{Item}
 use Rattle.amqp_model.specs.declared.item.Item.TheVariants as item
 use Rattle.amqp_session.specs.Ranges.{in_range}
+use Rattle.book_model.specs.declared.row.RowNumber.{RowNumber}
+use Rattle.router_trace.specs.declared.binding.DeliveryName.TheVariants.{Row}
 use Rattle.router_trace.specs.declared.event.ConnectionId.{ConnectionId}
 use Rattle.router_trace.specs.declared.event.Event.TheVariants as event
 use Rattle.router_trace.specs.declared.channel.PeerChannel.TheVariants.{Mapped}
 use Rattle.router_trace.specs.declared.binding.Binding.{Binding}
 use Rattle.router_trace.specs.Trace.{Trace, Entry, Did, Out, Bound, Step, IsOneRun}
 use Rattle.router_trace.specs.Links.{ends_handle}
-use Rattle.router_trace.specs.Deliveries.{Delivery, bindings, brought, outcome_as, channels_found, number_named, delivery, named, terminal, decision, failed, closes, last_of, tag_in, carried, sending}
+use Rattle.router_trace.specs.Deliveries.{Delivery, bindings, brought, outcome_as, acts_found, outcome_among, channels_found, number_named, delivery, named, terminal, decision, failed, closes, last_of, tag_in, carried, sending}
 
 -- Its consumer gave it: a disposition was received, as a receiver's, on the link's session; the delivery's id is in its range, and
 -- names this delivery; the outcome is its state if that is terminal, and modified with delivery-failed if it settles without one.
@@ -36,6 +39,21 @@ pub record GivenByConsumer (entry : Entry) (t : Trace) (n : ℕ) (d : Delivery) 
   pub in_its_range : in_range disposition.first (last_of disposition) id ≡ true
   pub id_names_it : named t d.link.conn.0 d.link.channel id ≡ Some n
   pub gives : decision disposition.settled (terminal disposition.state) ≡ Some outcome
+  pub undecided : d.outcome ≡ None
+
+-- It was given with an attach: one was received, and its acts decide the delivery's row (2.6.13), as the map of the attach says, or since the delivery's link
+-- ends by the same event. The delivery may have been suspended since its link was lost.
+pub record GivenByAttach (entry : Entry) (t : Trace) (d : Delivery) (outcome : DeliveryState) : Type 0 where
+  pub step : Step
+  pub conn : ConnectionId
+  pub channel : ℕ
+  pub attach : Attach
+  pub payload : List ℕ
+  pub row : RowNumber
+  pub entry_is : entry ≡ Did step
+  pub came : step.event ≡ event.Item conn (item.Frame false channel (perf.Attach attach) payload)
+  pub name : d.name ≡ Row row
+  pub gives : outcome_among (acts_found t) row ≡ Some outcome
   pub undecided : d.outcome ≡ None
 
 -- The consumer's link ended, while it was undecided: the connection was lost, or a detach of the link, an end of its session or a close was
@@ -87,6 +105,7 @@ pub record BroughtBack (entry : Entry) (t : Trace) (n : ℕ) (outcome : Delivery
 -- an entry after a trace decides the delivery with a number, as it was in the trace
 pub data Decides (entry : Entry) (t : Trace) (n : ℕ) (d : Delivery) (outcome : DeliveryState) : Type 0 where
   given_by_consumer : GivenByConsumer entry t n d outcome → Decides entry t n d outcome
+  given_by_attach : GivenByAttach entry t d outcome → Decides entry t n d outcome
   link_lost : LinkLost entry d → d.outcome ≡ None → outcome ≡ failed → Decides entry t n d outcome
   link_ended : LinkEnded entry d → d.outcome ≡ None → outcome ≡ failed → Decides entry t n d outcome
   sent_settled : SentSettled entry t n d → outcome ≡ state.Accepted → Decides entry t n d outcome

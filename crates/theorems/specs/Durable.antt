@@ -2,3 +2,4 @@
 pub use Rattle.theorems.specs.Keeping.{IsKeptFirst}
 pub use Rattle.theorems.specs.Admitted.{RowIsAdmitted, EachRowIsBoundOnce, EachNewRowIsBound}
 pub use Rattle.theorems.specs.Kept.{OutcomeIsKept, EachOutcomeIsKept, EachRowIsDecidedOnce, RowsAreDecidedOnce}
+pub use Rattle.theorems.specs.Accepting.{RowsAreAcceptedByConsumers, AcceptedIsTrue}

@@ -16,6 +16,7 @@ pub mod Came
 pub mod Decided
 pub mod Told
 pub mod Kept
+pub mod Accepting
 pub mod Keeping
 pub mod Admitted
 pub mod Order

@@ -4,7 +4,7 @@
 mod theorems;
 
 pub use theorems::{
-    a_delivery_has_one_consumer, a_router_goes_on, a_stop_leaves_a_prefix,
+    a_delivery_has_one_consumer, a_router_goes_on, a_stop_leaves_a_prefix, accepted_is_told_truly,
     connections_are_answered_alone, connections_keep_order, durable_links_are_kept_first,
     durable_messages_are_kept_first, durable_outcomes_are_kept_first, frames_carry_what_was_bound,
     messages_are_bound_once, no_delivery_starts_beyond_credit, outcomes_are_as_given,

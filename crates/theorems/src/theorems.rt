@@ -9,7 +9,7 @@ ghost use Rattle.theorems.specs.Theorem.{AStopLeavesAPrefix, ARouterGoesOn};
 ghost use Rattle.theorems.specs.Theorem.{NoDeliveryStartsBeyondCredit};
 ghost use Rattle.theorems.specs.Theorem.{ADeliveryHasOneConsumer, FramesCarryWhatWasBound, MessagesAreBoundOnce};
 ghost use Rattle.theorems.specs.Theorem.{OutcomesAreAsGiven, OutcomesAreToldOnce, DurableOutcomesAreKeptFirst};
-ghost use Rattle.theorems.specs.Theorem.{TheLockKeepsThem};
+ghost use Rattle.theorems.specs.Theorem.{AcceptedIsToldTruly, TheLockKeepsThem};
 ghost use Rattle.theorems.specs.Theorem.{DurableLinksAreKeptFirst, DurableMessagesAreKeptFirst};
 ghost use Rattle.theorems.specs.Theorem.{ConnectionsKeepOrder, WindowsAreKept};
 ghost use Rattle.theorems.specs.Theorem.{ScriptsKeepOrder, ScriptsKeepWindowsAndCredit};
@@ -77,16 +77,17 @@ pub fn frames_carry_what_was_bound()
 /// In every trace of the router a message is bound when it is complete: the last frame of its delivery has just been
 /// received. What is bound is what its frames carried, and it is bound once, with the row that the acts of that event
 /// admit; on a durable link it has one, unless its producer has settled it. Only a row that a consumer's durable link
-/// takes up again is bound once more, to that link: the book has it for that link, and it is bound as the book has it,
-/// with its outcome if it is decided (where the router was opened on a sound book, or after other runs). So each
-/// delivery is of such a message, or of such a row (AMQP 1.0 part 2, sections 2.6.13, 2.6.14 and 2.7.5). Lists of
-/// events have such traces.
+/// takes up again is bound once more, to that link: the attach found it in the book for that link, and it is bound as
+/// it stood there, with its outcome if it is decided, or the one that the acts of the attach give it (where the router
+/// was opened on a sound book, or after other runs). So each delivery is of such a message, or of such a row (AMQP 1.0
+/// part 2, sections 2.6.13, 2.6.14 and 2.7.5). Lists of events have such traces.
 pub fn messages_are_bound_once()
     ensures { MessagesAreBoundOnce }
 {}
 
-/// Each outcome is as it was given: by a disposition of the delivery's consumer, by the end of its link (it is then
-/// modified, with delivery-failed), or, if the message was settled before, by its last frame. The end of a durable
+/// Each outcome is as it was given: by a disposition of the delivery's consumer, by the acts of an attach, which decide
+/// its row, by the end of its link (it is then modified, with delivery-failed), or, if the message was settled before,
+/// by its last frame. The end of a durable
 /// link decides a delivery with a row only if it is a detach that closes the link (AMQP 1.0 part 2, sections 2.6.12
 /// and 2.7.6).
 pub fn outcomes_are_as_given()
@@ -110,6 +111,13 @@ pub fn outcomes_are_told_once()
 /// whatever happens (AMQP 1.0 part 2, section 2.6.12, and part 3, section 3.4). Lists of events have such traces.
 pub fn durable_outcomes_are_kept_first()
     ensures { DurableOutcomesAreKeptFirst }
+{}
+
+/// Over every list of runs, each ended by a stop anywhere: a row of the book that is decided as accepted was accepted by its consumer, with a
+/// disposition, or with the map of the attach by which its link came back; and a producer is told accepted, of a delivery with a row, only after
+/// that. It may have been in an earlier run, whose end was lost to all but the book (AMQP 1.0 part 2, sections 2.6.12 and 2.6.13).
+pub fn accepted_is_told_truly()
+    ensures { AcceptedIsToldTruly }
 {}
 
 /// A router under the lock, whatever its threads do, has a history since its very opening, which is a trace: on no link does it

@@ -1,5 +1,7 @@
 use Rattle.std.proofs.Common.{◌∙◌, ap, subst, List, ◌++◌, append_assoc}
 use Rattle.router_trace.specs.Trace.{Beginning}
+use Rattle.router_reply.specs.Acts.{book_in}
+use Rattle.router_core.specs.Handling.{kept_book}
 use Rattle.core_machine.specs.Opened.{IsOpened}
 use Rattle.core_player.specs.declared.script.Step.{Step}
 use Rattle.core_player.specs.declared.line.Line.{Line}
@@ -39,7 +41,7 @@ returns-in-Ok-clause-lives g c =
       c.in_ok-begun.ensures.left,
       λ past t lives opens left may.
           one_more twin.seen twin.may_leave twin.failures c.args.config.now.router_id (opening_of c.args.config.now c.in_ok-core.core) past t lives
-          (opens_to_one contents _ _ opened.book opens) c.in_ok-core.core c.in-Ok.played.core left opened.named opened.opened c.in-Ok.ensures.lived (subst (λ (k : _). twin.may_leave k left) c.into_twin.ensures may),
+          (opens_to_one contents (kept_book c.in_ok-core.core) (book_in t) opened.book opens) c.in_ok-core.core c.in-Ok.played.core left opened.named opened.opened c.in-Ok.ensures.lived (subst (λ (k : _). twin.may_leave k left) c.into_twin.ensures may),
     )
 
 pub returns-in-Ok-clause-more : goal.returns-in-Ok-clause-more

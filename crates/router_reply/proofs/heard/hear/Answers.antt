@@ -4,7 +4,7 @@ use Rattle.std.specs.Prelude.{not}
 use Rattle.router_trace.specs.declared.event.Event.{Event}
 use Rattle.router_trace.specs.Trace.{did}
 use Rattle.router_trace.specs.Connection.{phase_found}
-use Rattle.router_trace.specs.Deliveries.{ended_first}
+use Rattle.router_trace.specs.Deliveries.{acts_found, ended_first, giving_of}
 use Rattle.router_trace.specs.Refusing.{refuses}
 use Rattle.router_state.specs.Tables.{TablesFit, TablesAt}
 use Rattle.router_reply.specs.Heard.{IsHeard}
@@ -21,8 +21,9 @@ returns-in-Up-clause-heard c = on_ok_weaker c.up.result
 
 pub returns-in-Up-clause-fits : goal.returns-in-Up-clause-fits
 returns-in-Up-clause-fits c = on_ok_weaker c.up.result
-    (λ is t. subst (λ (e : Event). TablesAt c.args.state.now t e c.args.ends.now → ended_first t ≡ c.args.ends.now → refuses t e ≡ false → TablesFit c.up.new.self (did e ∷ t)) (sym c.in-Up.is)
-    (λ at first free. is t c.args.ends.now at (not_false _ free)))
+    (λ is t. subst (λ (e : Event). TablesAt c.args.state.now t e c.args.ends.now → ended_first t ≡ c.args.ends.now → refuses t e ≡ false
+    → giving_of e c.args.acts.now ≡ giving_of e (acts_found t) → TablesFit c.up.new.self (did e ∷ t)) (sym c.in-Up.is)
+    (λ at first free gives. is t c.args.ends.now at (not_false _ free)))
     c.up.ensures
 
 pub returns-in-Item-clause-heard : goal.returns-in-Item-clause-heard
@@ -32,7 +33,8 @@ returns-in-Item-clause-heard c = on_ok_weaker c.hear_item.result
 
 pub returns-in-Item-clause-fits : goal.returns-in-Item-clause-fits
 returns-in-Item-clause-fits c = on_ok_weaker c.hear_item.result
-    (λ is t. subst (λ (e : Event). TablesAt c.args.state.now t e c.args.ends.now → ended_first t ≡ c.args.ends.now → refuses t e ≡ false → TablesFit c.hear_item.new.state (did e ∷ t)) (sym c.in-Item.is) (λ at first free. is t at first))
+    (λ is t. subst (λ (e : Event). TablesAt c.args.state.now t e c.args.ends.now → ended_first t ≡ c.args.ends.now → refuses t e ≡ false
+    → giving_of e c.args.acts.now ≡ giving_of e (acts_found t) → TablesFit c.hear_item.new.state (did e ∷ t)) (sym c.in-Item.is) (λ at first free gives. is t at first gives))
     c.hear_item.ensures.fits
 
 pub returns-in-Down-clause-heard : goal.returns-in-Down-clause-heard
@@ -42,8 +44,9 @@ returns-in-Down-clause-heard c = on_ok_weaker c.down.result
 
 pub returns-in-Down-clause-fits : goal.returns-in-Down-clause-fits
 returns-in-Down-clause-fits c = on_ok_weaker c.down.result
-    (λ is t. subst (λ (e : Event). TablesAt c.args.state.now t e c.args.ends.now → ended_first t ≡ c.args.ends.now → refuses t e ≡ false → TablesFit c.down.new.self (did e ∷ t)) (sym c.in-Down.is)
-    (λ at first free. is t c.args.ends.now at))
+    (λ is t. subst (λ (e : Event). TablesAt c.args.state.now t e c.args.ends.now → ended_first t ≡ c.args.ends.now → refuses t e ≡ false
+    → giving_of e c.args.acts.now ≡ giving_of e (acts_found t) → TablesFit c.down.new.self (did e ∷ t)) (sym c.in-Down.is)
+    (λ at first free gives. is t c.args.ends.now at))
     c.down.ensures
 
 pub returns-in-Tick-clause-heard : goal.returns-in-Tick-clause-heard
@@ -53,10 +56,12 @@ returns-in-Tick-clause-heard c = on_ok_weaker c.hear_tick.result
 
 pub returns-in-Tick-clause-fits : goal.returns-in-Tick-clause-fits
 returns-in-Tick-clause-fits c = on_ok_weaker c.hear_tick.result
-    (λ is t. subst (λ (e : Event). TablesAt c.args.state.now t e c.args.ends.now → ended_first t ≡ c.args.ends.now → refuses t e ≡ false → TablesFit c.hear_tick.new.state (did e ∷ t)) (sym c.in-Tick.is) (λ at first free. is t c.args.ends.now at))
+    (λ is t. subst (λ (e : Event). TablesAt c.args.state.now t e c.args.ends.now → ended_first t ≡ c.args.ends.now → refuses t e ≡ false
+    → giving_of e c.args.acts.now ≡ giving_of e (acts_found t) → TablesFit c.hear_tick.new.state (did e ∷ t)) (sym c.in-Tick.is) (λ at first free gives. is t c.args.ends.now at))
     c.hear_tick.ensures.fits
 
 pub returns-in-Start-clause-fits : goal.returns-in-Start-clause-fits
 returns-in-Start-clause-fits c = λ t.
-    subst (λ (e : Event). TablesAt c.args.state.now t e c.args.ends.now → ended_first t ≡ c.args.ends.now → refuses t e ≡ false → TablesFit c.start.new.self (did e ∷ t)) (sym c.in-Start.is)
-    (λ at first free. c.start.ensures t c.args.ends.now at)
+    subst (λ (e : Event). TablesAt c.args.state.now t e c.args.ends.now → ended_first t ≡ c.args.ends.now → refuses t e ≡ false
+    → giving_of e c.args.acts.now ≡ giving_of e (acts_found t) → TablesFit c.start.new.self (did e ∷ t)) (sym c.in-Start.is)
+    (λ at first free gives. c.start.ensures t c.args.ends.now at)

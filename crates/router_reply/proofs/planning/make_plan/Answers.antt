@@ -1,13 +1,15 @@
-use Rattle.std.proofs.Common.{◌∙◌, ap}
+use Rattle.std.proofs.Common.{◌∙◌, ap, subst}
 use Rattle.std.proofs.lemmas.Result.{IfOk-weaker}
+use Rattle.reply_rows.specs.declared.answer.Answer.{Answer}
 use Rattle.router_reply.specs.Deciding.{decided, forgotten, terminus_of_event}
+use Rattle.router_reply.specs.Resuming.{Resumes}
 use Rattle.router_reply.proofs.planning.make_plan.Goals as goal
 
 pub returns-clause-answer : goal.returns-clause-answer
 returns-clause-answer c = IfOk-weaker c.planned.result _ _ (λ p is t at found. is ∙ c.in_ok-answer.ensures t _ at found) c.planned.ensures.answer
 
 pub returns-clause-decided : goal.returns-clause-decided
-returns-clause-decided c = IfOk-weaker c.planned.result _ _ (λ p is t at found. is t at ∙ ap (decided t c.args.event.now) (c.in_ok-answer.ensures t _ at found)) c.planned.ensures.decided
+returns-clause-decided c = IfOk-weaker c.planned.result _ _ (λ p is t at found. is t at ∙ ap (decided c.args.book.now t c.args.event.now) (c.in_ok-answer.ensures t _ at found)) c.planned.ensures.decided
 
 pub returns-clause-forgotten : goal.returns-clause-forgotten
 returns-clause-forgotten c =
@@ -16,3 +18,8 @@ returns-clause-forgotten c =
 pub returns-clause-terminus : goal.returns-clause-terminus
 returns-clause-terminus c =
     IfOk-weaker c.planned.result _ _ (λ p is t at found. is t at ∙ ap (terminus_of_event c.args.book.now t c.args.event.now) (c.in_ok-answer.ensures t _ at found)) c.planned.ensures.terminus
+
+pub returns-clause-resumed : goal.returns-clause-resumed
+returns-clause-resumed c =
+    IfOk-weaker c.planned.result _ _
+    (λ p is t at found. subst (λ (a : Answer). Resumes c.args.book.now t c.args.event.now a p.resumption) (c.in_ok-answer.ensures t _ at found) (is t at)) c.planned.ensures.resumed

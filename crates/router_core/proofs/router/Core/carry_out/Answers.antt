@@ -1,6 +1,7 @@
-use Rattle.std.proofs.Common.{◌≡◌, ◌∙◌, sym, ap, subst, ℕ, ◌+◌, List}
-use Rattle.std.specs.Prelude.{◌⊎◌}
+use Rattle.std.proofs.Common.{◌≡◌, ◌∙◌, sym, ap, subst, ℕ, ◌+◌, List, []}
+use Rattle.std.specs.Prelude.{◌⊎◌, Option, Some, None, IfNone}
 use Rattle.disk_core.specs.Disk.{LeavesOnly}
+use Rattle.book_model.specs.declared.act.Act.{Act}
 use Rattle.book_model.specs.Book.{effects}
 use Rattle.twin_journal.specs.Journal.{batch_count}
 use Rattle.journal_store.specs.declared.store.Store.{Store}
@@ -31,13 +32,21 @@ returns-clause-fits g c = λ t f taken.
     journals_after c.prepare.new.self c.write.new.self t e c.in-Ok.field-0.acts.items (journals_stored core c.prepare.new.self t (ap store_of c.prepare.ensures.rest) f.journal) acts
     c.in-Ok-write.ensures.book c.in-Ok-write.ensures.count c.in-Ok-write.ensures.suits in
     let tables : TablesFit (state_of c.answer.new.self) (handled (id_of core) t (step_of e)) =
-    subst (λ (id : List ℕ). TablesFit (state_of c.answer.new.self) (answered id (booked t e) (step_of e))) same (c.in-Ok-answer.ensures.tables (booked t e) ready row journal.book) in
+    subst (λ (id : List ℕ). TablesFit (state_of c.answer.new.self) (answered id (booked t e) (step_of e))) same (c.in-Ok-answer.ensures.tables (booked t e) ready row) in
     fits_handled c.answer.new.self (id_of core) t e taken.taken tables c.in-Ok-answer.ensures.started (journals_stored c.write.new.self c.answer.new.self (booked t e) c.answer.ensures.store journal)
 
 pub returns-clause-written : goal.returns-clause-written
 returns-clause-written g c = λ t f taken.
     some_weaker _ _ c.in-Ok-write.journal
     (λ batch is. (is.0 ∙ ap (λ (s : Store _). batch_count (journal_of s) + 1) (ap store_of c.prepare.ensures.rest), is.1 ∙ c.in-Ok.ensures.acts t f taken)) c.in-Ok-write.ensures.written
+
+acts_none : {X : Type 0} (o : Option X) (xs ys : List Act) → xs ≡ ys → IfNone o (xs ≡ []) → IfNone o (ys ≡ [])
+acts_none None xs ys same is = sym same ∙ is
+acts_none (Some x) xs ys same is = tt
+
+pub returns-clause-silent : goal.returns-clause-silent
+returns-clause-silent g c = λ t f taken.
+    acts_none c.in-Ok-write.journal c.in-Ok.field-0.acts.items (acts_of t c.args.event) (c.in-Ok.ensures.acts t f taken) c.in-Ok-write.ensures.silent
 
 pub returns-clause-any_moment : goal.returns-clause-any_moment
 returns-clause-any_moment g c = λ t f taken stands.

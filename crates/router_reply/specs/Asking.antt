@@ -1,0 +1,78 @@
+-- The durable link of a consumer for which an attach asks (AMQP 1.0 part 2, section 2.6.13), and the rows of its terminus: those that wait for the consumer.
+use Rattle.std.specs.Prelude.{ℕ, ◌&&◌, Bool, true, false, if◌then◌else◌, List, [], Option, Some, None}
+use Rattle.amqp_model.specs.declared.perf.Attach.{Attach as AnAttach}
+use Rattle.amqp_model.specs.declared.perf.Perf.{Perf}
+use Rattle.amqp_model.specs.declared.perf.Perf.TheVariants as perf
+use Rattle.amqp_model.specs.declared.perf.Role.{Role}
+use Rattle.amqp_model.specs.declared.perf.Role.TheVariants.{Sender, Receiver}
+use Rattle.amqp_model.specs.declared.item.Item.{Item}
+use Rattle.amqp_model.specs.declared.item.Item.TheVariants as item
+use Rattle.amqp_model.specs.Parts.{attach_of}
+use Rattle.book_model.specs.Book.{BookView, terminus_of}
+use Rattle.book_model.specs.declared.act.Decision.{Decision}
+use Rattle.book_model.specs.declared.row.Row.{Row}
+use Rattle.book_model.specs.declared.terminus.LinkKey.{LinkKey}
+use Rattle.book_model.specs.declared.terminus.Terminus.{Terminus}
+use Rattle.router_trace.specs.declared.event.Event.{Event}
+use Rattle.router_trace.specs.declared.event.Event.TheVariants as event
+use Rattle.router_trace.specs.Trace.{Trace}
+use Rattle.resume_core.specs.Resuming.{entries_of, decisions}
+use Rattle.reply_rows.specs.Booking.{wanted_key, wants_durable, bound_rows}
+use Rattle.reply_rows.specs.declared.answer.Answer.{Answer}
+use Rattle.reply_rows.specs.declared.answer.Answer.TheVariants.{Attach}
+
+-- The key of the consumer's durable link that an attach asks for; none if it asks for another.
+abbrev pub receives : Role → Bool
+receives Sender = false
+receives Receiver = true
+
+abbrev pub consumer_key : Trace → ℕ → AnAttach → Option LinkKey
+consumer_key t c a = if wants_durable a && receives a.role then Some (wanted_key t c a) else None
+
+-- that of an event's attach, if its answer takes the link
+abbrev pub key_taken : Trace → ℕ → AnAttach → Answer → Option LinkKey
+key_taken t c a (Attach own) = consumer_key t c a
+key_taken t c a _ = None
+
+abbrev pub key_by : Trace → ℕ → Perf → Answer → Option LinkKey
+key_by t c (perf.Attach a) answer = key_taken t c a answer
+key_by t c _ answer = None
+
+abbrev pub key_in : Trace → ℕ → Item → Answer → Option LinkKey
+key_in t c (item.Frame sasl channel body payload) answer = key_by t c body answer
+key_in t c _ answer = None
+
+abbrev pub resumed_key : Trace → Event → Answer → Option LinkKey
+resumed_key t (event.Item c i) answer = key_in t c.0 i answer
+resumed_key t _ answer = None
+
+-- the attach that an event brings, if it brings one
+abbrev pub attach_within : Item → Option AnAttach
+attach_within (item.Frame sasl channel body payload) = attach_of body
+attach_within _ = None
+
+abbrev pub attach_in : Event → Option AnAttach
+attach_in (event.Item c i) = attach_within i
+attach_in _ = None
+
+-- the rows that are bound to a terminus, and to that with a key
+abbrev pub rows_at : BookView → Option Terminus → List Row
+rows_at b None = []
+rows_at b (Some x) = bound_rows b x
+
+abbrev pub rows_with : BookView → LinkKey → List Row
+rows_with b k = rows_at b (terminus_of k b.termini)
+
+-- What the map of an attach decides of these rows: those that are undecided, and for which it has a terminal state.
+abbrev pub decided_by : Option AnAttach → List Row → List Decision
+decided_by None rows = []
+decided_by (Some a) rows = decisions (entries_of a.unsettled) rows
+
+-- the same of the link with a key, if there is one
+abbrev pub decided_for : BookView → Option AnAttach → Option LinkKey → List Decision
+decided_for b a None = []
+decided_for b a (Some k) = decided_by a (rows_with b k)
+
+-- what the map of an event's attach decides
+abbrev pub map_decides : BookView → Trace → Event → Answer → List Decision
+map_decides b t e answer = decided_for b (attach_in e) (resumed_key t e answer)
