@@ -22,7 +22,7 @@ use Rattle.router_trace.specs.Links.{address_by, key_at, link, link_place, free_
 use Rattle.router_trace.specs.Settling.{middle_on, uses_tag}
 use Rattle.router_trace.specs.declared.condition.Condition.{Condition}
 use Rattle.router_trace.specs.declared.condition.Condition.TheVariants.{NotAllowed, NotImplemented, ResourceLimitExceeded}
-use Rattle.resume_core.specs.Resuming.{entries_of, producer_map, consumer_map}
+use Rattle.resume_core.specs.Resuming.{entries_of, consumer_map}
 use Rattle.reply_rows.specs.Finding.{finds}
 use Rattle.reply_rows.specs.Rows.{item_reply}
 use Rattle.reply_rows.specs.declared.answer.Answer.{Answer}
@@ -59,11 +59,10 @@ rows_of b x = filter (is_of x.number.0) b.rows
 abbrev pub bound_rows : BookView → Terminus → List Row
 bound_rows b x = filter (is_for x.number.0) (rows_of b x)
 
--- Not all that an attach may ask for is served yet (AMQP 1.0 part 2, section 2.6.13): that a producer's link resumes
--- deliveries, as it would if one is unsettled after its attach; and a consumer's map that is incomplete, if the router's map
--- has entries.
+-- Not all that an attach may ask for is served yet (AMQP 1.0 part 2, section 2.6.13): a consumer's map that is incomplete, if
+-- the router's map has entries.
 abbrev pub is_unserved : Role → BookView → Terminus → Bool → List UnsettledDelivery → Bool
-is_unserved Sender b x complete theirs = has_some (producer_map complete theirs (rows_of b x))
+is_unserved Sender b x complete theirs = false
 is_unserved Receiver b x complete theirs = not complete && has_some (consumer_map theirs (bound_rows b x))
 
 abbrev pub attach_is_unserved : BookView → Terminus → AnAttach → Bool

@@ -13,7 +13,7 @@ use crate::link_rows::LINK_TEXT;
 use amqp_model::{Attach, DeliveryTag, Role, Text, Transfer};
 use book_core::Book;
 use book_model::{LinkKey, LinkRole, Terminus};
-use resume_core::{consumer_plan, producer_plan};
+use resume_core::consumer_plan;
 use router_state::State;
 use router_trace::{Condition, is_durable};
 use state_links::address_by;
@@ -105,16 +105,13 @@ fn unserved_refusal(
 ) -> Result<Option<Condition>, AllocError>
     ensures { IfOk result (λ refusal. refusal ≡ unless_unserved (attach_is_unserved book.now terminus.now attach.now)) }
 {
-    let rows = book.rows_of(terminus.number);
     let unsettled = attach.unsettled.as_ref();
     let complete = !attach.incomplete_unsettled;
     match attach.role {
-        Role::Sender => {
-            let plan = producer_plan(alloc, rows, unsettled, complete)?;
-            Ok(unless_unserved(has_some(&plan.map)))
-        }
+        Role::Sender => Ok(None),
         Role::Receiver if complete => Ok(None),
         Role::Receiver => {
+            let rows = book.rows_of(terminus.number);
             let plan = consumer_plan(alloc, terminus.number, rows, unsettled, complete)?;
             Ok(unless_unserved(has_some(&plan.map)))
         }

@@ -25,7 +25,7 @@ use Rattle.reply_rows.specs.declared.answer.Answer.{Answer}
 use Rattle.reply_rows.specs.declared.answer.Answer.TheVariants.{Nothing, Attach}
 use Rattle.router_reply.specs.declared.resuming.Resumption.{Resumption}
 use Rattle.router_reply.specs.Acts.{acts_of, booked, book_found, book_in, answer_to_event}
-use Rattle.router_reply.specs.Resuming.{Resumes, key_taken, key_by, key_in, resumed_key, attach_in, map_for, rows_for, rows_taken, key_resumed, map_resumed, rows_resumed, told_map, bound_to, bound_if, with_rows, resumed_by, resumed}
+use Rattle.router_reply.specs.Resuming.{Resumes, key_taken, key_by, key_in, taken_key, if_receives, resumed_key, attach_in, map_for, rows_for, rows_taken, key_resumed, map_resumed, rows_resumed, told_map, bound_to, bound_if, with_rows, resumed_by, resumed}
 
 pub rows_keep : (P : List Entry → Type 0) → ((b : Binding) (t : List Entry) → P t → P (Bound b ∷ t)) → (at : Attachment) (rs : List Sending) (u : List Entry) → P u → P (bound_to at rs u)
 rows_keep P step at [] u was = was
@@ -81,16 +81,17 @@ in_booked : (acts : List Act) (full : List ℕ) (t : List Entry) (c : ℕ) (i : 
 in_booked acts full t c (item.Frame sasl channel body payload) a = by_booked acts full t c body a
 in_booked acts full t c _ a = refl
 
-key_booked : (acts : List Act) (full : List ℕ) (t : List Entry) (e : Event) (a : Answer) → resumed_key (Booked acts full ∷ t) e a ≡ resumed_key t e a
+key_booked : (acts : List Act) (full : List ℕ) (t : List Entry) (e : Event) (a : Answer) → taken_key (Booked acts full ∷ t) e a ≡ taken_key t e a
 key_booked acts full t (event.Item c i) a = in_booked acts full t c.0 i a
 key_booked acts full t _ a = refl
 
 pub resumes_booked : (b : BookView) (t : List Entry) (e : Event) (a : Answer) (x : Option Resumption) → b ≡ book_in t → Resumes b t e a x → Resumes (book_found (booked t e)) (booked t e) e a x
 resumes_booked b t e a x book r =
-    let same : resumed_key t e a ≡ resumed_key (booked t e) e a = sym (key_booked (acts_of t e) (due t e) t e a) in
+    let taken : taken_key t e a ≡ taken_key (booked t e) e a = sym (key_booked (acts_of t e) (due t e) t e a) in
+    let same : resumed_key t e a ≡ resumed_key (booked t e) e a = ap (if_receives (attach_in e)) taken in
     record {
       key = r.key ∙ same;
-      map = r.map ∙ ap (λ (w : BookView). map_for w (attach_in e) (resumed_key t e a)) book ∙ ap (map_for (book_in t) (attach_in e)) same;
+      map = r.map ∙ ap (λ (w : BookView). map_for w (attach_in e) (taken_key t e a)) book ∙ ap (map_for (book_in t) (attach_in e)) taken;
       rows = r.rows ∙ ap (λ (w : BookView). rows_for w (attach_in e) (resumed_key t e a)) book ∙ ap (rows_for (book_in t) (attach_in e)) same;
     }
 

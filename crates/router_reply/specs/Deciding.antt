@@ -36,7 +36,8 @@ use Rattle.state_deliveries.specs.Hearing.{heard_change}
 use Rattle.reply_rows.specs.Booking.{wanted_key, wanted_address, wants_durable, new_terminus}
 use Rattle.reply_rows.specs.declared.answer.Answer.{Answer}
 use Rattle.reply_rows.specs.declared.answer.Answer.TheVariants.{Close, CloseWith, End, Attach, Detach}
-use Rattle.router_reply.specs.Asking.{map_decides}
+use Rattle.router_reply.specs.Asking.{map_decides, map_forgets}
+use Rattle.router_reply.specs.Joining.{settled_by_transfer}
 
 -- The changes of the deliveries that an event brings: those by its item, by the ends for full outboxes, and by the links that the answer ends.
 abbrev pub lost : ℕ → Change
@@ -83,8 +84,8 @@ as_kept d = record d { outcome = kept_outcome d.outcome }
 abbrev pub decided : BookView → Trace → Event → Answer → List Decision
 decided b t e answer = map as_kept (decided_rows t (event_changes t e answer)) ++ map_decides b t e answer
 
--- The rows that it forgets: those that their producer settles by a disposition; those of a producer that closes its link for good; and those of one that
--- takes its link up again, which has settled them all, since nothing is unsettled on the link then.
+-- The rows that it forgets: those that their producer settles, by a disposition or by a transfer that resumes one; those of a producer that closes its link
+-- for good; and those that the map of a producer's attach lacks.
 abbrev pub settled_on : Trace → ℕ → Option ℕ → Role → ADisposition → List RowNumber
 settled_on t c (Some own) Sender x = if x.settled then rows_from t c own x.first (last_of x) else []
 settled_on t c _ _ x = []
@@ -102,13 +103,8 @@ abbrev pub closed_terminus : BookView → Trace → ℕ → Answer → Option Te
 closed_terminus b t c (Detach own handle true None) = option_and_then (λ key. terminus_of key b.termini) (durable_key (link t c own handle))
 closed_terminus b t c _ = None
 
--- the terminus of a durable link that is taken up again
-abbrev pub resumed_terminus : BookView → Trace → ℕ → AnAttach → Answer → Option Terminus
-resumed_terminus b t c a (Attach own) = if wants_durable a then terminus_of (wanted_key t c a) b.termini else None
-resumed_terminus b t c a _ = None
-
 abbrev pub forgotten_by : BookView → Trace → ℕ → Option ℕ → Perf → Answer → List RowNumber
-forgotten_by b t c own (perf.Attach a) answer = sent_from b (resumed_terminus b t c a answer)
+forgotten_by b t c own (perf.Transfer x) answer = settled_by_transfer b t c x answer
 forgotten_by b t c own (perf.Disposition x) answer = settled_on t c own x.role x
 forgotten_by b t c own (perf.Detach x) answer = sent_from b (closed_terminus b t c answer)
 forgotten_by b t c own _ answer = []
@@ -118,9 +114,12 @@ forgotten_in b t c own (item.Frame true channel body payload) answer = []
 forgotten_in b t c own (item.Frame false channel body payload) answer = forgotten_by b t c own body answer
 forgotten_in b t c own _ answer = []
 
+abbrev pub item_forgets : BookView → Trace → Event → Answer → List RowNumber
+item_forgets b t (event.Item c i) answer = forgotten_in b t c.0 (session_found t c i) i answer
+item_forgets b t _ answer = []
+
 abbrev pub forgotten : BookView → Trace → Event → Answer → List RowNumber
-forgotten b t (event.Item c i) answer = forgotten_in b t c.0 (session_found t c i) i answer
-forgotten b t _ answer = []
+forgotten b t e answer = item_forgets b t e answer ++ map_forgets b t e answer
 
 -- The terminus that it makes, for a durable link that is taken, or drops, of one that its peer closes.
 abbrev pub made_for : BookView → LinkKey → AnAttach → Option TerminusAct

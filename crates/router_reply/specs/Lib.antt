@@ -3,6 +3,7 @@ pub mod Admitting
 pub mod Asking
 pub mod Deciding
 pub mod Heard
+pub mod Joining
 pub mod Replies
 pub mod Resuming
 pub use Rattle.router_trace.specs.Trace

@@ -9,13 +9,14 @@ ghost use Rattle.router_trace.specs.Sessions.{session_on};
 ghost use Rattle.state_links.specs.Fits.{channel_of};
 ghost use Rattle.state_deliveries.specs.Deciding.{decided_rows};
 ghost use Rattle.state_deliveries.specs.Hearing.{heard_change};
-ghost use Rattle.router_reply.specs.Deciding.{lost, listed, stolen_from, stolen_in, stolen_for, ended_by, event_changes, as_kept, settled_on, sent_by, sent_from, closed_terminus, resumed_terminus, forgotten_by, forgotten_in, forgotten};
+ghost use Rattle.router_reply.specs.Deciding.{lost, listed, stolen_from, stolen_in, stolen_for, ended_by, event_changes, as_kept, settled_on, sent_by, sent_from, closed_terminus, forgotten_by, forgotten_in, item_forgets};
 
-use amqp_model::{Attach, Disposition, Item, Perf, Role};
+use crate::joining::settled_by_transfer;
+use amqp_model::{Disposition, Item, Perf, Role};
 use book_core::Book;
 use book_model::{Decision, LinkRole, RowNumber, Terminus, TerminusNumber};
 use reply_frames::kept_outcome;
-use reply_rows::{Answer, wanted_key, wants_durable};
+use reply_rows::{Answer, wanted_key};
 use router_state::{State, none_if_ended};
 use router_trace::{Attachment, Event};
 use state_deliveries::{Change, Gone};
@@ -223,8 +224,8 @@ pub fn decided(
     Ok(rows)
 }
 
-/// Adds decisions to a list.
-fn add_all(list: &mut Vec<Decision>, more: Vec<Decision>) -> Result<(), AllocError>
+/// Adds to a list, one after another.
+fn add_all<T: Drop>(list: &mut Vec<T>, more: Vec<T>) -> Result<(), AllocError>
     ensures { OnOk result (list.new.items ≡ list.old.items ++ more.items) }
 {
     let mut more = more;
@@ -332,27 +333,6 @@ pub fn closed_terminus<'a>(
     }
 }
 
-/// The terminus of a durable link that is taken up again, by the answer to the attach.
-fn resumed_terminus<'a>(
-    state: &State,
-    book: &'a Book,
-    conn: u64,
-    attach: &Attach,
-    answer: &Answer,
-) -> Result<Option<&'a Terminus>, AllocError>
-    ensures { IfOk result (λ terminus. (t : List Entry) → TablesFind state.now t → option_map (λ x. x.now) terminus ≡ resumed_terminus book.now t conn attach.now answer.now) }
-{
-    match answer {
-        Answer::Attach { own: _own } if wants_durable(attach) => {
-            let key = wanted_key(state, conn, attach)?;
-            let terminus = book.terminus_of(&key);
-            drop(key);
-            Ok(terminus)
-        }
-        _ => Ok(None),
-    }
-}
-
 /// The rows that a performative forgets.
 fn forgotten_by(
     state: &State,
@@ -365,10 +345,7 @@ fn forgotten_by(
     ensures { IfOk result (λ rows. (t : List Entry) → TablesFind state.now t → rows.items ≡ forgotten_by book.now t conn own perf.now answer.now) }
 {
     match perf {
-        Perf::Attach(attach) => {
-            let terminus = resumed_terminus(state, book, conn, attach.as_ref(), answer)?;
-            sent_from(state.alloc(), book, terminus)
-        }
+        Perf::Transfer(transfer) => settled_by_transfer(state, book, conn, transfer, answer),
         Perf::Disposition(disposition) => settled_on(state, conn, own, disposition),
         Perf::Detach(_) => {
             let terminus = closed_terminus(state, book, conn, answer);
@@ -400,7 +377,27 @@ fn forgotten_in(
     }
 }
 
-/// The rows that an event forgets: those that their producer settles by a disposition, and those of a producer that closes its link.
+/// The rows that an event forgets, but for those that the map of its attach lacks.
+fn item_forgets(
+    state: &State,
+    book: &Book,
+    ends: &[u64],
+    event: &Event,
+    answer: &Answer,
+) -> Result<Vec<RowNumber>, AllocError>
+    ensures { IfOk result (λ rows. (t : List Entry) → TablesFind state.now t → ends.now ≡ due t event.now → rows.items ≡ item_forgets book.now t event.now answer.now) }
+{
+    match event {
+        Event::Item(conn, item) => {
+            let own = session_found(state, ends, conn.0, item);
+            forgotten_in(state, book, conn.0, own, item, answer)
+        }
+        _ => Ok(Vec::new(state.alloc())),
+    }
+}
+
+/// The rows that an event forgets: those that their producer settles by a disposition or a resumed transfer, those of a producer that
+/// closes its link, and `by_map`, those that the map of a producer's attach lacks.
 ///
 /// # Errors
 ///
@@ -411,14 +408,15 @@ pub fn forgotten(
     ends: &[u64],
     event: &Event,
     answer: &Answer,
+    by_map: Vec<RowNumber>,
 ) -> Result<Vec<RowNumber>, AllocError>
-    ensures { IfOk result (λ rows. (t : List Entry) → TablesFind state.now t → ends.now ≡ due t event.now → rows.items ≡ forgotten book.now t event.now answer.now) }
+    ensures { IfOk result (λ rows. (t : List Entry) → TablesFind state.now t → ends.now ≡ due t event.now
+        → rows.items ≡ item_forgets book.now t event.now answer.now ++ by_map.items) }
 {
-    match event {
-        Event::Item(conn, item) => {
-            let own = session_found(state, ends, conn.0, item);
-            forgotten_in(state, book, conn.0, own, item, answer)
-        }
-        _ => Ok(Vec::new(state.alloc())),
-    }
+    let Ok(mut rows) = item_forgets(state, book, ends, event, answer) else {
+        drop(by_map);
+        return Err(AllocError);
+    };
+    add_all(&mut rows, by_map)?;
+    Ok(rows)
 }

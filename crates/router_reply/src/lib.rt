@@ -7,6 +7,7 @@ mod closing;
 mod deciding;
 mod events;
 mod heard;
+mod joining;
 mod planning;
 mod resuming;
 
@@ -14,4 +15,4 @@ pub use admitting::{admission_for, row_in};
 pub use events::reply;
 pub use heard::{Heard, hear};
 pub use planning::{Plan, make_plan};
-pub use resuming::{Resumption, take_up, told_map};
+pub use resuming::{ConsumerResumption, ProducerResumption, Resumption, take_up, told_map};

@@ -11,7 +11,7 @@ ghost use Rattle.router_reply.specs.Resuming.{Resumes};
 ghost use Rattle.router_reply.specs.Deciding.{decided, forgotten, made_for, made_by, terminus_by, terminus_of_event};
 
 use crate::deciding::{closed_terminus, decided, forgotten};
-use crate::resuming::{Resumption, planned_decisions, resumption_of};
+use crate::resuming::{Resumption, planned_decisions, planned_forgotten, resumption_of};
 use amqp_conn::Conn;
 use amqp_model::{Attach, Item, Perf, Text};
 use book_core::Book;
@@ -36,7 +36,7 @@ pub struct Plan {
     pub forgotten: Vec<RowNumber>,
     /// The terminus that it makes or drops.
     pub terminus: Option<TerminusAct>,
-    /// What it takes up again; what the map of its attach decides is among the rows that it decides.
+    /// What it takes up again; what the map of its attach decides and forgets is among the rows that it decides and forgets.
     pub resumption: Option<Resumption>,
 }
 
@@ -254,7 +254,8 @@ fn planned(
     let mut resumption = resumption_of(state, book, event, &answer)?;
     let by_map = planned_decisions(state.alloc(), &mut resumption);
     let decided = decided(state, ends, event, &answer, by_map)?;
-    let forgotten = forgotten(state, book, ends, event, &answer)?;
+    let lacking = planned_forgotten(state.alloc(), &mut resumption);
+    let forgotten = forgotten(state, book, ends, event, &answer, lacking)?;
     let terminus = terminus_of_event(state, book, event, &answer)?;
     Ok(Plan {
         answer,

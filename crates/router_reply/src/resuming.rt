@@ -1,25 +1,45 @@
-//! What a consumer's durable link takes up again when it is attached: rows of its terminus, each sent as the map of the
-//! attach says (AMQP 1.0 part 2, section 2.6.13).
-ghost use Rattle.std.specs.Prelude.{◌≡◌, ◌∷◌, List, IfOk, OnOk};
+//! What a durable link takes up again when it is attached, as the map of the attach says (AMQP 1.0 part 2, section 2.6.13): what is
+//! forgotten or decided of the rows of its terminus, the router's map of them, and how a consumer's are sent.
+ghost use Rattle.std.specs.Prelude.{◌≡◌, ◌∷◌, not, List, Some, IfOk, OnOk};
 ghost use Rattle.std.specs.Option.{option_copied};
 ghost use Rattle.router_trace.specs.Trace.{Bound, Entry};
 ghost use Rattle.router_state.specs.Tables.{TablesFind, TablesFit};
 ghost use Rattle.state_messages.specs.Messages.{taken_up_by};
-ghost use Rattle.router_reply.specs.Resuming.{receives, consumer_key, key_taken, key_by, key_in, resumed_key, attach_within, attach_in, rows_with, decided_by, decided_for, map_decides, sent_by, map_by, rows_for, map_for, bound_to, bound_if, with_rows, key_resumed, decisions_resumed, map_resumed, rows_resumed};
+ghost use Rattle.book_model.specs.Book.{terminus_of};
+ghost use Rattle.resume_core.specs.Resuming.{entries_of, forgotten_rows, producer_map, decisions, consumer_map, sendings};
+ghost use Rattle.router_reply.specs.Resuming.{asked_key, key_taken, key_by, key_in, taken_key, attach_within, attach_in, receives, if_receives, resumed_key, rows_with, decided_by, decided_for, map_decides, forgotten_with, forgotten_for, map_forgets, all_rows, sent_by, map_by, rows_for, map_for, bound_to, bound_if, with_rows, key_resumed, forgotten_resumed, decisions_resumed, map_resumed, rows_resumed};
 
 use amqp_model::{Attach, Item, Perf, Role, UnsettledDelivery};
 use book_core::Book;
-use book_model::{Decision, LinkKey};
+use book_model::{Decision, LinkKey, RowNumber};
 use reply_rows::{Answer, wanted_key, wants_durable};
-use resume_core::{ConsumerPlan, Sending, consumer_plan};
+use resume_core::{ConsumerPlan, ProducerPlan, Sending, consumer_plan, producer_plan};
 use router_state::State;
 use router_trace::{Attachment, Event};
 use std::alloc::{AllocError, Global};
 use std::mem;
 
+/// What a durable link takes up again when it is attached.
+#[derive(Drop)]
+pub enum Resumption {
+    /// A producer's link.
+    Producer(ProducerResumption),
+    /// A consumer's link.
+    Consumer(ConsumerResumption),
+}
+
+/// What a producer's durable link takes up again when it is attached.
+#[derive(Drop)]
+pub struct ProducerResumption {
+    /// The rows of its terminus that the map of the attach lacks, by number, until they are planned.
+    pub forgotten: Vec<RowNumber>,
+    /// The router's map in the answer to the attach, until it is told (AMQP 1.0 part 2, section 2.7.3).
+    pub map: Vec<UnsettledDelivery>,
+}
+
 /// What a consumer's durable link takes up again when it is attached.
 #[derive(Drop)]
-pub struct Resumption {
+pub struct ConsumerResumption {
     /// The link's key.
     pub key: LinkKey,
     /// What the map of the attach decides of the rows of its terminus, by number, until it is planned.
@@ -30,21 +50,11 @@ pub struct Resumption {
     pub rows: Vec<Sending>,
 }
 
-/// Whether a peer with this role receives.
-fn receives(role: Role) -> bool
-    ensures { result ≡ receives role }
+/// The key of the durable link that an attach asks for.
+fn asked_key(state: &State, conn: u64, attach: &Attach) -> Result<Option<LinkKey>, AllocError>
+    ensures { IfOk result (λ key. (t : List Entry) → TablesFind state.now t → key ≡ asked_key t conn attach.now) }
 {
-    match role {
-        Role::Sender => false,
-        Role::Receiver => true,
-    }
-}
-
-/// The key of the consumer's durable link that an attach asks for.
-fn consumer_key(state: &State, conn: u64, attach: &Attach) -> Result<Option<LinkKey>, AllocError>
-    ensures { IfOk result (λ key. (t : List Entry) → TablesFind state.now t → key ≡ consumer_key t conn attach.now) }
-{
-    if wants_durable(attach) && receives(attach.role) {
+    if wants_durable(attach) {
         let key = wanted_key(state, conn, attach)?;
         return Ok(Some(key));
     }
@@ -61,7 +71,7 @@ fn key_taken(
     ensures { IfOk result (λ key. (t : List Entry) → TablesFind state.now t → key ≡ key_taken t conn attach.now answer.now) }
 {
     match answer {
-        Answer::Attach { own: _own } => consumer_key(state, conn, attach),
+        Answer::Attach { own: _own } => asked_key(state, conn, attach),
         _ => Ok(None),
     }
 }
@@ -97,8 +107,8 @@ fn key_in(
 }
 
 /// The same of an event.
-fn resumed_key(state: &State, event: &Event, answer: &Answer) -> Result<Option<LinkKey>, AllocError>
-    ensures { IfOk result (λ key. (t : List Entry) → TablesFind state.now t → key ≡ resumed_key t event.now answer.now) }
+fn taken_key(state: &State, event: &Event, answer: &Answer) -> Result<Option<LinkKey>, AllocError>
+    ensures { IfOk result (λ key. (t : List Entry) → TablesFind state.now t → key ≡ taken_key t event.now answer.now) }
 {
     match event {
         Event::Item(conn, item) => key_in(state, conn.0, item, answer),
@@ -129,20 +139,45 @@ fn attach_in(event: &Event) -> Option<&Attach>
     }
 }
 
-/// What an attach does to the rows of the terminus with this key; nothing if there is no attach, or no terminus.
+/// What a producer's attach does to the rows of the terminus with this key; nothing if there is no terminus.
+fn producer_taken(
+    alloc: Global,
+    book: &Book,
+    attach: &Attach,
+    key: &LinkKey,
+) -> Result<ProducerResumption, AllocError>
+    ensures forgotten { IfOk result (λ taken. taken.forgotten.items ≡ forgotten_rows (not attach.now.incomplete_unsettled) (entries_of attach.now.unsettled) (all_rows book.now (terminus_of key.now book.now.termini))) }
+    ensures mapped { IfOk result (λ taken. taken.map.items ≡ producer_map (not attach.now.incomplete_unsettled) (entries_of attach.now.unsettled) (all_rows book.now (terminus_of key.now book.now.termini))) }
+{
+    let Some(terminus) = book.terminus_of(key) else {
+        return Ok(ProducerResumption {
+            forgotten: Vec::new(alloc),
+            map: Vec::new(alloc),
+        });
+    };
+    let complete = !attach.incomplete_unsettled;
+    let rows = book.rows_of(terminus.number);
+    let plan = producer_plan(alloc, rows, attach.unsettled.as_ref(), complete)?;
+    let ProducerPlan {
+        forgotten,
+        map,
+        due,
+    } = plan;
+    drop(due);
+    Ok(ProducerResumption { forgotten, map })
+}
+
+/// What a consumer's attach does to the rows of the terminus with this key; nothing if there is no terminus.
 fn plan_for(
     alloc: Global,
     book: &Book,
-    attach: Option<&Attach>,
+    attach: &Attach,
     key: &LinkKey,
 ) -> Result<ConsumerPlan, AllocError>
-    ensures decided { IfOk result (λ plan. plan.decisions.items ≡ decided_by (option_copied attach.entry) (rows_with book.now key.now)) }
-    ensures mapped { IfOk result (λ plan. plan.map.items ≡ map_by (option_copied attach.entry) (rows_with book.now key.now)) }
-    ensures sent { IfOk result (λ plan. plan.sendings.items ≡ sent_by (option_copied attach.entry) (rows_with book.now key.now)) }
+    ensures decided { IfOk result (λ plan. plan.decisions.items ≡ decisions (entries_of attach.now.unsettled) (rows_with book.now key.now)) }
+    ensures mapped { IfOk result (λ plan. plan.map.items ≡ consumer_map (entries_of attach.now.unsettled) (rows_with book.now key.now)) }
+    ensures sent { IfOk result (λ plan. plan.sendings.items ≡ sendings (not attach.now.incomplete_unsettled) (entries_of attach.now.unsettled) (rows_with book.now key.now)) }
 {
-    let Some(attach) = attach else {
-        return Ok(ConsumerPlan::new(alloc));
-    };
     match book.terminus_of(key) {
         None => Ok(ConsumerPlan::new(alloc)),
         Some(terminus) => consumer_plan(
@@ -155,21 +190,18 @@ fn plan_for(
     }
 }
 
-/// What the link with this key takes up again after an attach.
-fn resumption_with(
+/// What a consumer's link with this key takes up again after an attach.
+fn consumer_taken(
     alloc: Global,
     book: &Book,
-    attach: Option<&Attach>,
-    key: Option<LinkKey>,
-) -> Result<Option<Resumption>, AllocError>
-    ensures key { IfOk result (λ resumption. key_resumed resumption ≡ key) }
-    ensures decisions { IfOk result (λ resumption. decisions_resumed resumption ≡ decided_for book.now (option_copied attach.entry) key) }
-    ensures map { IfOk result (λ resumption. map_resumed resumption ≡ map_for book.now (option_copied attach.entry) key) }
-    ensures rows { IfOk result (λ resumption. rows_resumed resumption ≡ rows_for book.now (option_copied attach.entry) key) }
+    attach: &Attach,
+    key: LinkKey,
+) -> Result<ConsumerResumption, AllocError>
+    ensures key { IfOk result (λ taken. taken.key ≡ key) }
+    ensures decisions { IfOk result (λ taken. taken.decisions.items ≡ decisions (entries_of attach.now.unsettled) (rows_with book.now key)) }
+    ensures map { IfOk result (λ taken. taken.map.items ≡ consumer_map (entries_of attach.now.unsettled) (rows_with book.now key)) }
+    ensures rows { IfOk result (λ taken. taken.rows.items ≡ sendings (not attach.now.incomplete_unsettled) (entries_of attach.now.unsettled) (rows_with book.now key)) }
 {
-    let Some(key) = key else {
-        return Ok(None);
-    };
     match plan_for(alloc, book, attach, &key) {
         Ok(plan) => {
             let ConsumerPlan {
@@ -177,12 +209,12 @@ fn resumption_with(
                 map,
                 sendings,
             } = plan;
-            Ok(Some(Resumption {
+            Ok(ConsumerResumption {
                 key,
                 decisions,
                 map,
                 rows: sendings,
-            }))
+            })
         }
         Err(error) => {
             drop(key);
@@ -191,8 +223,59 @@ fn resumption_with(
     }
 }
 
-/// What an event takes up again, before any of it is done: if its item is the attach of a consumer's durable link, which this
-/// answer takes, what the map of the attach decides of the rows of the link's terminus, and what it leaves to send of them.
+/// What the link with this key takes up again after an attach.
+fn resumption_by(
+    alloc: Global,
+    book: &Book,
+    attach: &Attach,
+    key: LinkKey,
+) -> Result<Resumption, AllocError>
+    ensures key { IfOk result (λ r. key_resumed (Some r) ≡ if_receives (Some attach.now) (Some key)) }
+    ensures forgotten { IfOk result (λ r. forgotten_resumed (Some r) ≡ forgotten_for book.now (Some attach.now) (Some key)) }
+    ensures decisions { IfOk result (λ r. decisions_resumed (Some r) ≡ decided_for book.now (Some attach.now) (if_receives (Some attach.now) (Some key))) }
+    ensures map { IfOk result (λ r. map_resumed (Some r) ≡ map_for book.now (Some attach.now) (Some key)) }
+    ensures rows { IfOk result (λ r. rows_resumed (Some r) ≡ rows_for book.now (Some attach.now) (if_receives (Some attach.now) (Some key))) }
+{
+    match attach.role {
+        Role::Sender => {
+            let taken = producer_taken(alloc, book, attach, &key);
+            drop(key);
+            Ok(Resumption::Producer(taken?))
+        }
+        Role::Receiver => {
+            let taken = consumer_taken(alloc, book, attach, key)?;
+            Ok(Resumption::Consumer(taken))
+        }
+    }
+}
+
+/// The same, if there is an attach and a key.
+fn resumption_with(
+    alloc: Global,
+    book: &Book,
+    attach: Option<&Attach>,
+    key: Option<LinkKey>,
+) -> Result<Option<Resumption>, AllocError>
+    ensures key { IfOk result (λ r. key_resumed r ≡ if_receives (option_copied attach.entry) key) }
+    ensures forgotten { IfOk result (λ r. forgotten_resumed r ≡ forgotten_for book.now (option_copied attach.entry) key) }
+    ensures decisions { IfOk result (λ r. decisions_resumed r ≡ decided_for book.now (option_copied attach.entry) (if_receives (option_copied attach.entry) key)) }
+    ensures map { IfOk result (λ r. map_resumed r ≡ map_for book.now (option_copied attach.entry) key) }
+    ensures rows { IfOk result (λ r. rows_resumed r ≡ rows_for book.now (option_copied attach.entry) (if_receives (option_copied attach.entry) key)) }
+{
+    let Some(key) = key else {
+        return Ok(None);
+    };
+    let Some(attach) = attach else {
+        drop(key);
+        return Ok(None);
+    };
+    let resumption = resumption_by(alloc, book, attach, key)?;
+    Ok(Some(resumption))
+}
+
+/// What an event takes up again, before any of it is done: if its item is the attach of a durable link, which this answer takes,
+/// what the map of the attach forgets and decides of the rows of the link's terminus, the router's map, and what is left to send
+/// of them.
 ///
 /// # Errors
 ///
@@ -204,11 +287,12 @@ pub(crate) fn resumption_of(
     answer: &Answer,
 ) -> Result<Option<Resumption>, AllocError>
     ensures key { IfOk result (λ resumption. (t : List Entry) → TablesFind state.now t → key_resumed resumption ≡ resumed_key t event.now answer.now) }
+    ensures forgotten { IfOk result (λ resumption. (t : List Entry) → TablesFind state.now t → forgotten_resumed resumption ≡ map_forgets book.now t event.now answer.now) }
     ensures decisions { IfOk result (λ resumption. (t : List Entry) → TablesFind state.now t → decisions_resumed resumption ≡ map_decides book.now t event.now answer.now) }
-    ensures map { IfOk result (λ resumption. (t : List Entry) → TablesFind state.now t → map_resumed resumption ≡ map_for book.now (attach_in event.now) (resumed_key t event.now answer.now)) }
+    ensures map { IfOk result (λ resumption. (t : List Entry) → TablesFind state.now t → map_resumed resumption ≡ map_for book.now (attach_in event.now) (taken_key t event.now answer.now)) }
     ensures rows { IfOk result (λ resumption. (t : List Entry) → TablesFind state.now t → rows_resumed resumption ≡ rows_for book.now (attach_in event.now) (resumed_key t event.now answer.now)) }
 {
-    let key = resumed_key(state, event, answer)?;
+    let key = taken_key(state, event, answer)?;
     resumption_with(state.alloc(), book, attach_in(event), key)
 }
 
@@ -216,12 +300,31 @@ pub(crate) fn resumption_of(
 pub(crate) fn planned_decisions(alloc: Global, resumption: &mut Option<Resumption>) -> Vec<Decision>
     ensures decisions { result.items ≡ decisions_resumed resumption.old }
     ensures key { key_resumed resumption.new ≡ key_resumed resumption.old }
+    ensures forgotten { forgotten_resumed resumption.new ≡ forgotten_resumed resumption.old }
     ensures map { map_resumed resumption.new ≡ map_resumed resumption.old }
     ensures rows { rows_resumed resumption.new ≡ rows_resumed resumption.old }
 {
     match resumption {
+        Some(Resumption::Consumer(taken)) => { mem::replace(&mut taken.decisions, Vec::new(alloc)) }
+        Some(Resumption::Producer(_)) => Vec::new(alloc),
         None => Vec::new(alloc),
-        Some(resumption) => mem::replace(&mut resumption.decisions, Vec::new(alloc)),
+    }
+}
+
+/// What the map of an attach forgets, of what it takes up again, which is planned by it; nothing if that is nothing.
+pub(crate) fn planned_forgotten(
+    alloc: Global,
+    resumption: &mut Option<Resumption>,
+) -> Vec<RowNumber>
+    ensures forgotten { result.items ≡ forgotten_resumed resumption.old }
+    ensures key { key_resumed resumption.new ≡ key_resumed resumption.old }
+    ensures map { map_resumed resumption.new ≡ map_resumed resumption.old }
+    ensures rows { rows_resumed resumption.new ≡ rows_resumed resumption.old }
+{
+    match resumption {
+        Some(Resumption::Producer(taken)) => { mem::replace(&mut taken.forgotten, Vec::new(alloc)) }
+        Some(Resumption::Consumer(_)) => Vec::new(alloc),
+        None => Vec::new(alloc),
     }
 }
 
@@ -233,8 +336,9 @@ pub fn told_map(alloc: Global, resumption: &mut Option<Resumption>) -> Vec<Unset
     ensures rows { rows_resumed resumption.new ≡ rows_resumed resumption.old }
 {
     match resumption {
+        Some(Resumption::Producer(taken)) => mem::replace(&mut taken.map, Vec::new(alloc)),
+        Some(Resumption::Consumer(taken)) => mem::replace(&mut taken.map, Vec::new(alloc)),
         None => Vec::new(alloc),
-        Some(resumption) => mem::replace(&mut resumption.map, Vec::new(alloc)),
     }
 }
 
@@ -274,8 +378,25 @@ fn bind_if(state: &mut State, at: Option<Attachment>, rows: Vec<Sending>) -> Res
     }
 }
 
-/// Binds the rows that an attach takes up again to the consumer's link with their key, in order, if it is attached. It is
-/// called after the reply to the attach.
+/// Binds the rows that a consumer's attach takes up again to the link with their key, in order, if it is attached.
+fn take_up_rows(state: &mut State, taken: ConsumerResumption) -> Result<(), AllocError>
+    ensures { OnOk result ((t : List Entry) → TablesFit state.old t → TablesFit state.new (with_rows (Some taken.key) taken.rows.items t)) }
+{
+    let ConsumerResumption {
+        key,
+        decisions,
+        map,
+        rows,
+    } = taken;
+    drop(decisions);
+    drop(map);
+    let at = state.consumer_with(&key);
+    drop(key);
+    bind_if(state, at, rows)
+}
+
+/// Binds the rows that an attach takes up again to the consumer's link with their key, in order, if it is attached; a producer's
+/// attach binds none. It is called after the reply to the attach.
 ///
 /// # Errors
 ///
@@ -283,20 +404,12 @@ fn bind_if(state: &mut State, at: Option<Attachment>, rows: Vec<Sending>) -> Res
 pub fn take_up(state: &mut State, resumption: Option<Resumption>) -> Result<(), AllocError>
     ensures { OnOk result ((t : List Entry) → TablesFit state.old t → TablesFit state.new (with_rows (key_resumed resumption) (rows_resumed resumption) t)) }
 {
-    let Some(
-        Resumption {
-            key,
-            decisions,
-            map,
-            rows,
-        },
-    ) = resumption
-    else {
-        return Ok(());
-    };
-    drop(decisions);
-    drop(map);
-    let at = state.consumer_with(&key);
-    drop(key);
-    bind_if(state, at, rows)
+    match resumption {
+        Some(Resumption::Consumer(taken)) => take_up_rows(state, taken),
+        Some(Resumption::Producer(taken)) => {
+            drop(taken);
+            Ok(())
+        }
+        None => Ok(()),
+    }
 }

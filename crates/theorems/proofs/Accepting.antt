@@ -1,6 +1,6 @@
 -- An act that decides a row as accepted is of an event by which the row's consumer accepted it.
 use Rattle.std.proofs.Common.{◌≡◌, ◌∙◌, sym, ap, refl, subst, ◌⊎◌, inl, inr, ℕ, ◌+◌, Bool, true, false, not, ◌&&◌, List, [], ◌∷◌, ◌++◌}
-use Rattle.std.specs.Prelude.{◌==◌, Option, Some, None, is_none, is_some, map, filter, filter_map, option_map, if◌then◌else◌}
+use Rattle.std.specs.Prelude.{◌==◌, Option, Some, None, is_none, map, filter, filter_map, option_map, if◌then◌else◌}
 use Rattle.std.proofs.lemmas.Bool.{eqb-true}
 use Rattle.amqp_model.specs.declared.perf.Attach.{Attach as AnAttach}
 use Rattle.amqp_model.specs.declared.perf.Disposition.{Disposition as ADisposition}
@@ -37,23 +37,23 @@ use Rattle.router_trace.specs.declared.event.Event.TheVariants as event
 use Rattle.router_trace.specs.declared.handle.Attachment.{Attachment}
 use Rattle.router_trace.specs.Trace.{Trace}
 use Rattle.router_trace.specs.Connection.{due, has, standing, found}
-use Rattle.router_trace.specs.Deliveries.{Delivery, bindings, delivery, source, sender, failed, decision, terminal, last_of, is_undecided, stands_on, untold, unsettled, forsaken, ended, decided_at_end, suspended_at_end, after_ends, is_gone_with, none_if_ended}
+use Rattle.router_trace.specs.Deliveries.{Delivery, bindings, delivery, source, sender, failed, decision, terminal, last_of, is_undecided, stands_on, untold, unsettled, forsaken, ended, decided_at_end, suspended_at_end, after_ends, is_gone_with}
 use Rattle.router_trace.specs.DeliveryFrames.{kept_outcome}
 use Rattle.router_trace.specs.Links.{holder, free_handle}
 use Rattle.router_trace.specs.Sessions.{session_on}
 use Rattle.state_deliveries.specs.declared.change.Change.{Change}
 use Rattle.state_deliveries.specs.declared.change.Change.TheVariants as change
-use Rattle.state_deliveries.specs.Deciding.{gathered_below, changed_by, row_of, outcome_of_row, outcome_of, open_row, decision_of, decided_rows}
+use Rattle.state_deliveries.specs.Deciding.{changed_by, row_of, outcome_of_row, outcome_of, open_row, decision_of, decided_rows}
 use Rattle.state_deliveries.specs.Hearing.{decided_by, disposed_change, heard_in_change, heard_change}
 use Rattle.state_deliveries.specs.Stepping.{is_gone, comes_with_id, is_in, is_decided_by, changed}
 use Rattle.state_links.specs.Fits.{channel_of}
 use Rattle.resume_core.specs.Resuming.{entries_of, told_of, outcome_told, outcome_given, decided_by as map_gives, decision_of as map_decision, decisions}
 use Rattle.reply_rows.specs.declared.answer.Answer.{Answer}
-use Rattle.reply_rows.specs.declared.answer.Answer.TheVariants.{Close, CloseWith, End, Attach, Detach, Nothing}
+use Rattle.reply_rows.specs.declared.answer.Answer.TheVariants.{Close, CloseWith, End, Attach, Detach}
 use Rattle.reply_rows.specs.Booking.{wanted_key, wants_durable, rows_of, bound_rows, answer_at}
-use Rattle.router_reply.specs.Acts.{live_answer, event_answer, answer_acts, planned_acts, admitted_acts, or_admits, event_acts, finds_full, journaled, book_in, acts_of}
+use Rattle.router_reply.specs.Acts.{live_answer, event_answer, answer_acts, planned_acts, admitted_acts, or_admits, finds_full, journaled, book_in, acts_of}
 use Rattle.router_reply.specs.Admitting.{admits, event_admission}
-use Rattle.router_reply.specs.Asking.{receives, consumer_key, key_taken, key_by, key_in, resumed_key, attach_in, rows_at, rows_with, decided_for, map_decides}
+use Rattle.router_reply.specs.Asking.{asked_key, key_taken, attach_in, receives, resumed_key, rows_at, decided_for, map_decides}
 use Rattle.router_reply.specs.Deciding.{lost, listed, ended_by, stolen_from, stolen_in, stolen_for, session_found, event_changes, as_kept, decided, forgotten, terminus_of_event}
 use Rattle.theorems.specs.Accepting.{ByDisposition, ByMap, Accepts, by_disposition, by_map}
 use Rattle.theorems.proofs.Among.{Stands, stands_in_both, stands_in_filter, stands_in_gathered, stands_in_map, stands_in_filter_map, parts}
@@ -386,15 +386,15 @@ receives_is : (r : Role) → receives r ≡ true → r ≡ Receiver
 receives_is Sender e = absurd (clash e)
 receives_is Receiver e = refl
 
-key_is : (t : Trace) (c : ℕ) (a : AnAttach) (k : LinkKey) → consumer_key t c a ≡ Some k → (a.role ≡ Receiver) × (wants_durable a ≡ true) × (wanted_key t c a ≡ k)
-key_is t c a k e = by (wants_durable a && receives a.role) refl e
+asked_is : (t : Trace) (c : ℕ) (a : AnAttach) (k : LinkKey) → asked_key t c a ≡ Some k → (wants_durable a ≡ true) × (wanted_key t c a ≡ k)
+asked_is t c a k e = by (wants_durable a) refl e
   where
-    by : (b : Bool) → (wants_durable a && receives a.role) ≡ b → (if b then Some (wanted_key t c a) else None) ≡ Some k → (a.role ≡ Receiver) × (wants_durable a ≡ true) × (wanted_key t c a ≡ k)
-    by true is e = let tests = both (wants_durable a) (receives a.role) is in (receives_is a.role tests.1, tests.0, some_same e)
+    by : (b : Bool) → wants_durable a ≡ b → (if b then Some (wanted_key t c a) else None) ≡ Some k → (wants_durable a ≡ true) × (wanted_key t c a ≡ k)
+    by true is e = (is, some_same e)
     by false is e = absurd (none_not_some e)
 
 is_attach : (full : Bool) (b : BookView) (t : Trace) (e : Event) (k : LinkKey) → resumed_key t e (event_answer full b t e) ≡ Some k → (a : AnAttach) × (attach_in e ≡ Some a) × IsAttach t e a k
-is_attach full b t (event.Item c (item.Frame sasl channel (perf.Attach a) payload)) k keyed = (a, refl, by (standing (found t e c.0)) keyed)
+is_attach full b t (event.Item c (item.Frame sasl channel (perf.Attach a) payload)) k keyed = (a, refl, by_role (receives a.role) refl keyed)
   where
     i : Item
     i = item.Frame sasl channel (perf.Attach a) payload
@@ -402,23 +402,27 @@ is_attach full b t (event.Item c (item.Frame sasl channel (perf.Attach a) payloa
     e : Event
     e = event.Item c i
 
-    taken : (y : Answer) → IfAttach sasl (free_handle t c.0) y → key_taken t c.0 a y ≡ Some k → IsAttach t e a k
-    taken (Attach own) plain is =
-        let known = key_is t c.0 a k is in
+    taken : (y : Answer) → a.role ≡ Receiver → IfAttach sasl (free_handle t c.0) y → key_taken t c.0 a y ≡ Some k → IsAttach t e a k
+    taken (Attach own) receiver plain is =
+        let known = asked_is t c.0 a k is in
         record {
           conn = c;
           channel = channel;
           payload = payload;
           comes = ap (λ (q : Bool). event.Item c (item.Frame q channel (perf.Attach a) payload)) plain;
-          receiver = known.0;
-          durable = known.1;
-          key = known.2;
+          receiver = receiver;
+          durable = known.0;
+          key = known.1;
         }
-    taken _ plain is = absurd (none_not_some is)
+    taken _ receiver plain is = absurd (none_not_some is)
 
-    by : (v : Option Conn) → key_taken t c.0 a (live_answer full b t c.0 i v) ≡ Some k → IsAttach t e a k
-    by None is = absurd (none_not_some is)
-    by (Some p) is = taken (answer_at full b t c.0 p i) (attach_answered full b t c.0 p sasl channel a payload) is
+    by : a.role ≡ Receiver → (v : Option Conn) → key_taken t c.0 a (live_answer full b t c.0 i v) ≡ Some k → IsAttach t e a k
+    by receiver None is = absurd (none_not_some is)
+    by receiver (Some p) is = taken (answer_at full b t c.0 p i) receiver (attach_answered full b t c.0 p sasl channel a payload) is
+
+    by_role : (q : Bool) → receives a.role ≡ q → (if q then key_taken t c.0 a (event_answer full b t e) else None) ≡ Some k → IsAttach t e a k
+    by_role true is keyed = by (receives_is a.role is) (standing (found t e c.0)) keyed
+    by_role false is keyed = absurd (none_not_some keyed)
 is_attach full b t (event.Item c _) k keyed = absurd (none_not_some keyed)
 is_attach full b t _ k keyed = absurd (none_not_some keyed)
 

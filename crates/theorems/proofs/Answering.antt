@@ -1,7 +1,7 @@
 -- What the answer to an item is put to, and the message that an event binds.
 use Rattle.std.proofs.Common.{◌≡◌, ◌∙◌, sym, ap, refl, subst, ℕ, ◌+◌, ◌<◌, Bool, true, false, ◌&&◌, List, [], ◌∷◌, ◌++◌, arith}
 use Rattle.std.specs.Prelude.{◌==◌, nat_lt, Option, Some, None, Result, Ok, Err, is_some, is_none, option_map, if◌then◌else◌}
-use Rattle.std.proofs.lemmas.Bool.{eq-eqb}
+use Rattle.std.proofs.lemmas.Bool.{eqb-true, eq-eqb}
 use Rattle.amqp_model.specs.declared.perf.Attach.{Attach as AnAttach}
 use Rattle.amqp_model.specs.declared.perf.Perf.TheVariants as perf
 use Rattle.amqp_model.specs.declared.perf.Transfer.{Transfer}
@@ -18,13 +18,13 @@ use Rattle.book_model.specs.declared.fault.BookFault.TheVariants.{NoTerminus}
 use Rattle.book_model.specs.declared.row.Row.{Row as ARow}
 use Rattle.book_model.specs.declared.row.RowNumber.{RowNumber}
 use Rattle.book_model.specs.declared.terminus.LinkKey.{LinkKey}
-use Rattle.book_model.specs.declared.terminus.LinkRole.TheVariants.{Producer}
+use Rattle.book_model.specs.declared.terminus.LinkRole.TheVariants.{Producer, Consumer}
 use Rattle.book_model.specs.declared.terminus.Terminus.{Terminus}
 use Rattle.book_model.specs.declared.terminus.TerminusNumber.{TerminusNumber}
-use Rattle.book_model.specs.Book.{BookView, row_at, terminus_at, terminus_of, same_role, has_role, admitted, effect, effects}
+use Rattle.book_model.specs.Book.{BookView, row_at, terminus_at, terminus_of, same_role, has_role, may_bind as may_be_bound, admitted, effect, effects}
 use Rattle.book_core.specs.Rising.{Rises, AllAbove, AllBelow}
 use Rattle.gate_journal.specs.Ordered.{IsOrdered, number_of_row, number_of_terminus}
-use Rattle.journal_store.proofs.Conditions.{holds}
+use Rattle.journal_store.proofs.Conditions.{holds, next_holds}
 use Rattle.router_trace.specs.declared.binding.Binding.{Binding}
 use Rattle.router_trace.specs.declared.binding.TakenUp.{TakenUp}
 use Rattle.router_trace.specs.declared.binding.Origin.{Origin}
@@ -60,7 +60,7 @@ use Rattle.theorems.specs.Admitted.{IsFromTerminus, IsAdmitted, IsAdmittedUnder}
 use Rattle.theorems.proofs.Admitted.{bound_row, bound_fresh}
 use Rattle.theorems.proofs.AllSound.{event_binds}
 use Rattle.theorems.proofs.Attaching.{AttachAt}
-use Rattle.theorems.proofs.Facts.{FromTerminus, Agrees, RowFact, kept_form}
+use Rattle.theorems.proofs.Facts.{FromTerminus, ForConsumer, Agrees, RowFact, kept_form}
 use Rattle.theorems.proofs.Keeping.{Stands, key_there, attach_stands}
 use Rattle.theorems.proofs.Looking.{found_new}
 use Rattle.theorems.proofs.Rowing.{Receives, MayBind}
@@ -282,6 +282,25 @@ from_terminus u b c p n ordered same role (Some key) durable is = by (terminus_o
         let number : x.number.0 ≡ n.0 = ap (λ (k : TerminusNumber). k.0) (some_same is) in
         record { key = key; durable = durable; at = x; found = ap (terminus_of key) same ∙ found; number = number; role = role_of x number found }
 
+-- the terminus to which a row may be bound is a consumer's
+below_found : (n m : ℕ) (ts : List Terminus) (x : Terminus) → AllBelow number_of_terminus m ts → terminus_at n ts ≡ Some x → n < m
+below_found n m [] x below is = absurd (none_not_some is)
+below_found n m (t ∷ ts) x below is =
+    by_test (t.number.0 == n)
+    (λ e. subst (λ (k : ℕ). k < m) (eqb-true t.number.0 n e) below.0)
+    (λ e. below_found n m ts x below.1 (rw e at is))
+
+waits_for : (b c : BookView) (v : Option TerminusNumber) → IsOrdered b → b.termini ≡ c.termini → may_be_bound v c.termini ≡ true → ForConsumer b v
+waits_for b c None ordered same binds = tt
+waits_for b c (Some n) ordered same binds = by (terminus_at n.0 b.termini) refl (ap (λ (ts : List Terminus). has_role Consumer (terminus_at n.0 ts)) same ∙ binds)
+  where
+    by : (v : Option Terminus) → terminus_at n.0 b.termini ≡ v → has_role Consumer v ≡ true → ForConsumer b (Some n)
+    by None there is = absurd cc
+    by (Some y) there is = (
+      below_found n.0 b.next_terminus b.termini y ordered.termini_below there,
+      λ x found. subst (λ (z : Terminus). same_role z.key.role Consumer ≡ true) (some_same (sym there ∙ found)) is,
+    )
+
 origin_is : (o : Option Origin) (p : Origin) → either_origin o None ≡ Some p → o ≡ Some p
 origin_is None p is = absurd (none_not_some is)
 origin_is (Some q) p is = is
@@ -323,6 +342,7 @@ row_fact u b r fresh adm ordered = record {
     form = λ p from. refl;
     waits = λ p from. refl;
     from = λ p from. producer p (origin_is b.origin p (ap (λ (up : Option TakenUp). either_origin b.origin (brought (λ v. v.told) up)) (sym fresh) ∙ from));
+    consumer = λ p from. waits_for (book_in u) before x.consumer ordered (ap (λ (c : BookView). c.termini) now) binds;
   });
 }
   where
@@ -338,6 +358,9 @@ row_fact u b r fresh adm ordered = record {
     unsettled : (o : Option Origin) → IsFromTerminus o u before x.producer → (is_none o && is_none b.taken_up) ≡ false
     unsettled None is = absurd is
     unsettled (Some p) is = refl
+
+    binds : may_be_bound x.consumer before.termini ≡ true
+    binds = holds (may_be_bound x.consumer before.termini) NoTerminus _ (next_holds (has_role Producer (terminus_at x.producer.0 before.termini)) NoTerminus _ adm.applies)
 
     role : has_role Producer (terminus_at x.producer.0 before.termini) ≡ true
     role = holds (has_role Producer (terminus_at x.producer.0 before.termini)) NoTerminus _ adm.applies

@@ -1,8 +1,7 @@
 -- The acts of an event make of the book what its changes will make of the deliveries.
-use Rattle.std.proofs.Common.{◌≡◌, ◌∙◌, sym, ap, refl, subst, ℕ, ◌≤◌, ◌<◌, Bool, true, false, not, ◌&&◌, List, [], ◌∷◌, ◌++◌, arith, append_assoc, append-nil, ◌⊎◌, inl, inr}
+use Rattle.std.proofs.Common.{◌≡◌, ◌∙◌, sym, ap, refl, subst, ℕ, ◌≤◌, ◌<◌, Bool, true, false, not, ◌&&◌, List, [], ◌∷◌, ◌++◌, arith, append-nil, ◌⊎◌, inl, inr}
 use Rattle.std.specs.Prelude.{Option, Some, None, map, is_some, is_none, option_map, if◌then◌else◌}
 use Rattle.std.specs.Option.{option_and_then}
-use Rattle.std.proofs.lemmas.Bool.{eqb-true, eq-eqb}
 use Rattle.amqp_model.specs.declared.perf.Attach.{Attach as AnAttach}
 use Rattle.amqp_model.specs.declared.perf.Perf.{Perf}
 use Rattle.amqp_model.specs.declared.perf.Perf.TheVariants as perf
@@ -15,11 +14,8 @@ use Rattle.book_model.specs.declared.act.Admission.{Admission}
 use Rattle.book_model.specs.declared.act.Decision.{Decision}
 use Rattle.book_model.specs.declared.row.Row.{Row as ARow}
 use Rattle.book_model.specs.declared.row.RowNumber.{RowNumber}
-use Rattle.book_model.specs.declared.terminus.LinkKey.{LinkKey}
-use Rattle.book_model.specs.declared.terminus.LinkRole.{LinkRole}
-use Rattle.book_model.specs.declared.terminus.LinkRole.TheVariants.{Producer, Consumer}
-use Rattle.book_model.specs.declared.terminus.Terminus.{Terminus}
-use Rattle.book_model.specs.Book.{BookView, row_at, terminus_at, terminus_of, is_from, is_undecided as is_open_row, decided, forgotten, effects, first_fault}
+use Rattle.book_model.specs.declared.terminus.TerminusNumber.{TerminusNumber}
+use Rattle.book_model.specs.Book.{BookView, row_at, terminus_at, terminus_of, is_undecided as is_open_row, decided, forgotten, effects, first_fault}
 use Rattle.gate_journal.specs.Ordered.{IsOrdered}
 use Rattle.journal_store.specs.declared.acting.TerminusAct.{TerminusAct}
 use Rattle.journal_store.specs.Acting.{journal_outcome, outcome_for, is_among, settles, decided_to, decided_by, forgotten_by, rows_after, terminus_acts, event_acts as settled_acts}
@@ -35,36 +31,27 @@ use Rattle.router_trace.specs.declared.event.Event.TheVariants as event
 use Rattle.router_trace.specs.Connection.{standing, found, due}
 use Rattle.router_trace.specs.DeliveryFrames.{kept_outcome}
 use Rattle.router_trace.specs.Deliveries.{Delivery, source, delivery, is_undecided, outcome_or, outcome_among, outcome_named, given}
-use Rattle.router_trace.specs.Following.{link_of}
-use Rattle.router_trace.specs.Links.{link, holder, durable_key}
-use Rattle.router_trace.specs.declared.handle.Attachment.{Attachment}
 use Rattle.router_trace.specs.Trace.{Trace, Booked}
 use Rattle.state_deliveries.specs.declared.change.Change.{Change}
-use Rattle.state_deliveries.specs.declared.change.Change.TheVariants as change
-use Rattle.state_deliveries.specs.declared.change.Gone.TheVariants as gone
 use Rattle.state_deliveries.specs.Deciding.{changed_by, decided_rows}
-use Rattle.state_deliveries.specs.Hearing.{disposed_change}
-use Rattle.state_deliveries.specs.Stepping.{is_gone, changed}
 use Rattle.reply_rows.specs.declared.answer.Answer.{Answer}
-use Rattle.reply_rows.specs.declared.answer.Answer.TheVariants.{Attach, Detach}
-use Rattle.reply_rows.specs.Booking.{wanted_key, wants_durable}
 use Rattle.router_reply.specs.Acts.{live_answer, event_answer, answer_acts, planned_acts, admitted_acts, or_admits, event_acts, finds_full, journaled, book_in, acts_of}
 use Rattle.router_reply.specs.Admitting.{event_admission, admits}
-use Rattle.router_reply.specs.Asking.{resumed_key, attach_in, map_decides}
-use Rattle.router_reply.specs.Deciding.{as_kept, lost, listed, ended_by, stolen_from, session_found, event_changes, decided as decided_in, sent_by, sent_from, closed_terminus, resumed_terminus, forgotten as forgotten_at, terminus_of_event}
+use Rattle.router_reply.specs.Asking.{receives, resumed_key, attach_in, decided_for, map_decides}
+use Rattle.router_reply.specs.Deciding.{as_kept, lost, event_changes, decided as decided_in, forgotten as forgotten_at, terminus_of_event}
 use Rattle.theorems.proofs.Applying.{settled_apply, admission_applies, ordered_after}
 use Rattle.theorems.proofs.Changing.{Leaves, leaves_by, undecided_is}
-use Rattle.theorems.proofs.Decisions.{decided_of, none_for, either_for, settled_is_done, among_rows}
+use Rattle.theorems.proofs.Decisions.{decided_of, none_for, either_for}
 use Rattle.theorems.proofs.Ended.{IsEnded, ended_by_all, event_gives}
-use Rattle.theorems.proofs.Facts.{FromTerminus, IsKeptForm, IsHeld, Agrees, RowFact, Facts, FactsOf}
+use Rattle.theorems.proofs.Facts.{ForConsumer, IsKeptForm, IsHeld, Agrees, RowFact, Facts, FactsOf}
+use Rattle.theorems.proofs.Forgetting.{IsFrom, is_from_one, resumed_is_done, forgotten_is_done}
 use Rattle.theorems.proofs.Giving.{row_given, acts_give, map_form, kept_is_form}
 use Rattle.theorems.proofs.Hearing.{gives}
 use Rattle.theorems.proofs.KeptForm.{kept_form, kept_twice}
 use Rattle.theorems.proofs.Looking.{found_number, found_below}
-use Rattle.theorems.proofs.Settling.{settled, settled_row, found_at_number, found_key, Stays, stays_it, terminus_stays, admission_stays}
-use Rattle.theorems.proofs.Standing.{Standing, one_place, holds_key}
+use Rattle.theorems.proofs.Settling.{settled, settled_row, Stays, stays_it, terminus_stays, admission_stays}
+use Rattle.theorems.proofs.Standing.{Standing}
 use Rattle.theorems.proofs.Tests.{some_same, none_not_some}
-use Rattle.theorems.proofs.Undecided.{ends_keep}
 
 clash : false ≡ true → ⊥
 clash e = cc
@@ -79,6 +66,7 @@ no_source t b (Some row) e none = record {
   form = λ p from. absurd (none_not_some (sym none ∙ from));
   waits = λ p from. absurd (none_not_some (sym none ∙ from));
   from = λ p from. absurd (none_not_some (sym none ∙ from));
+  consumer = λ p from. absurd (none_not_some (sym none ∙ from));
 }
 
 -- one that has one
@@ -96,6 +84,7 @@ decide_from t b ds r row d e leaves open_one number outcome ended held had form 
       form = λ q comes. form;
       waits = λ q comes. held.waits q (leaves.comes q comes);
       from = λ q comes. held.from q (leaves.comes q comes);
+      consumer = λ q comes. held.consumer q (leaves.comes q comes);
     }
 
     shut : (s : DeliveryState) → d.outcome ≡ Some s → is_open_row row ≡ false
@@ -115,6 +104,7 @@ decide_from t b ds r row d e leaves open_one number outcome ended held had form 
           form = λ q comes. ap (λ (x : DeliveryState). Some x) (sym (kept_twice s (subst IsEnded is (ended none))));
           waits = λ q comes. f;
           from = λ q comes. held.from q (leaves.comes q comes);
+          consumer = λ q comes. held.consumer q (leaves.comes q comes);
         }
 
     undecided : d.outcome ≡ None → (u : Bool) → is_undecided d ≡ u → Agrees t b (decided_to (option_map kept_outcome (if u then e.outcome else None)) row) e
@@ -159,6 +149,7 @@ forget_step t b numbers r row e number done held = by row.forgotten (is_among ro
       form = λ p from. absurd (none p from);
       waits = λ p from. absurd (none p from);
       from = λ p from. absurd (none p from);
+      consumer = λ p from. absurd (none p from);
     }
 
     by : (f m : Bool) → row.forgotten ≡ f → is_among row.number.0 numbers ≡ m → Agrees t b (if not f && m then forgotten row else Some row) e
@@ -197,6 +188,13 @@ settle_step t b ds numbers r (Some row) d e comes number decides done was =
 
 -- over the book after all acts of the event, and the trace after them
 
+for_stays : (b c : BookView) (v : Option TerminusNumber) → Stays b c → ForConsumer b v → ForConsumer c v
+for_stays b c None stays was = tt
+for_stays b c (Some n) stays was = (under n.0 b.next_terminus c.next_terminus was.0 stays.more, λ x there. was.1 x (stays.older n.0 x was.0 there))
+  where
+    under : (n j k : ℕ) → n < j → j ≤ k → n < k
+    under n j k low most = omega (arith, low, most)
+
 book_step : (t : Trace) (acts : List Act) (full : List ℕ) (b c : BookView) (r : ℕ) (v : Option ARow) (e : Delivery) → row_at r b.rows ≡ v → Stays b c → Agrees t b v e → Agrees (Booked acts full ∷ t) c v e
 book_step t acts full b c r None e found stays was = was
 book_step t acts full b c r (Some row) e found stays was = record {
@@ -212,17 +210,23 @@ book_step t acts full b c r (Some row) e found stays was = record {
         number = at.number;
         role = at.role;
       };
+  consumer = λ p from. for_stays b c row.consumer stays (was.consumer p from);
 }
 
 -- the same termini
-termini_step : (t : Trace) (b c : BookView) (v : Option ARow) (e : Delivery) → c.termini ≡ b.termini → Agrees t b v e → Agrees t c v e
-termini_step t b c None e same was = was
-termini_step t b c (Some row) e same was = record {
+for_same : (b c : BookView) (v : Option TerminusNumber) → c.termini ≡ b.termini → c.next_terminus ≡ b.next_terminus → ForConsumer b v → ForConsumer c v
+for_same b c None same next was = tt
+for_same b c (Some n) same next was = (subst (λ (m : ℕ). n.0 < m) (sym next) was.0, λ x there. was.1 x (sym (ap (terminus_at n.0) same) ∙ there))
+
+termini_step : (t : Trace) (b c : BookView) (v : Option ARow) (e : Delivery) → c.termini ≡ b.termini → c.next_terminus ≡ b.next_terminus → Agrees t b v e → Agrees t c v e
+termini_step t b c None e same next was = was
+termini_step t b c (Some row) e same next was = record {
   outcome = was.outcome;
   form = was.form;
   waits = was.waits;
   from = λ p from. let at = was.from p from in
       record { key = at.key; durable = at.durable; at = at.at; found = ap (terminus_of at.key) same ∙ at.found; number = at.number; role = at.role };
+  consumer = λ p from. for_same b c row.consumer same next (was.consumer p from);
 }
 
 -- the book after what is decided and forgotten, and that after all acts
@@ -258,121 +262,6 @@ all_stay b ds numbers x admitted ordered stay = by (settled_acts b ds numbers x)
         subst (λ (c : BookView). Stays between c) (sym (effects_more b (settles b ds numbers) (terminus_acts between x)) ∙ ap (effects b) is)
         (terminus_stays between x (ordered_after b (settles b ds numbers) ordered (settles_leave b ds numbers ordered.rows_rise).applies))
 
--- what its producer isn't done with isn't forgotten
-
-changed_more : (xs ys : List Change) (d : Delivery) → changed_by (xs ++ ys) d ≡ changed_by ys (changed_by xs d)
-changed_more [] ys d = refl
-changed_more (x ∷ xs) ys d = changed_more xs ys (changed x d)
-
--- what the book has of the producer of a row that it isn't done with
-abbrev IsFrom : Trace → BookView → Option ARow → Delivery → Type 0
-IsFrom t b None d = Unit {0}
-IsFrom t b (Some row) d = (p : Origin) → source d ≡ Some p → FromTerminus t b p row.producer.0
-
-is_from_one : (t : Trace) (b : BookView) (v : Option ARow) (d : Delivery) → Agrees t b v d → IsFrom t b v d
-is_from_one t b None d agrees = tt
-is_from_one t b (Some row) d agrees = agrees.from
-
--- a producer that isn't done with a row of a terminus has a durable link with the terminus' key
-sent_by_key : (t : Trace) (b : BookView) (d : Delivery) (r : RowNumber) (key : LinkKey) (x : Terminus) → IsOrdered b → IsFrom t b (row_at r.0 b.rows) d → terminus_of key b.termini ≡ Some x
-    → (role : LinkRole) → is_among r.0 (sent_by b role x.number.0) ≡ true → (p : Origin) → source d ≡ Some p → durable_key (link_of t p.link) ≡ Some key
-sent_by_key t b d r key x ordered agrees found Consumer among p from = absurd (clash among)
-sent_by_key t b d r key x ordered agrees found Producer among p from =
-    let rows = among_rows r.0 (is_from x.number.0) b.rows ordered.rows_rise among in
-    let held : IsFrom t b (Some rows.0) d = subst (λ (v : Option ARow). IsFrom t b v d) rows.1 agrees in
-    let at = held p from in
-    let same_number : at.at.number.0 ≡ x.number.0 = at.number ∙ eqb-true rows.0.producer.0 x.number.0 rows.2 in
-    let one : at.at ≡ x = some_same (sym (found_at_number at.key b.termini at.at ordered.termini_rise at.found)
-    ∙ ap (λ (m : ℕ). terminus_at m b.termini) same_number ∙ found_at_number key b.termini x ordered.termini_rise found) in
-    let keys : at.key ≡ key = sym (found_key at.key b.termini at.at at.found) ∙ ap (λ (y : Terminus). y.key) one ∙ found_key key b.termini x found in
-    at.durable ∙ ap (λ (k : LinkKey). Some k) keys
-
-closed_is_done : (t : Trace) (b : BookView) (n : ℕ) (d : Delivery) (r : RowNumber) (c : ℕ) (answer : Answer) (first : List Change) (i : Item) → Standing t → IsOrdered b → IsFrom t b (row_at r.0 b.rows) d
-    → is_among r.0 (sent_from b (closed_terminus b t c answer)) ≡ true → (p : Origin) → source (changed_by (first ++ ended_by t c i answer) d) ≡ Some p → ⊥
-closed_is_done t b n d r c (Detach own handle true None) first i standing ordered agrees among p from =
-    by_key (durable_key (link t c own handle)) refl among
-  where
-    last : source (changed (change.Ends (gone.Link c own handle) true) (changed_by first d)) ≡ Some p
-    last = sym (ap source (changed_more first (ended_by t c i (Detach own handle true None)) d)) ∙ from
-
-    spared : is_gone (gone.Link c own handle) p.link ≡ false
-    spared = ends_keep true (is_gone (gone.Link c own handle)) (changed_by first d) p last
-
-    before : source d ≡ Some p
-    before = (leaves_by (first ++ ended_by t c i (Detach own handle true None)) d).comes p from
-
-    ended : (o h : ℕ) → p.link.conn.0 ≡ c → p.link.channel ≡ o → p.link.handle ≡ h → is_gone (gone.Link c o h) p.link ≡ true
-    ended o h e f g = rw (eq-eqb p.link.conn.0 c e, eq-eqb o p.link.channel (sym f), eq-eqb h p.link.handle (sym g)) refl
-
-    of_terminus : (key : LinkKey) (x : Terminus) → durable_key (link t c own handle) ≡ Some key → terminus_of key b.termini ≡ Some x → (role : LinkRole)
-        → is_among r.0 (sent_by b role x.number.0) ≡ true → ⊥
-    of_terminus key x durable found role among =
-        let place = one_place t standing p.link (record { number = 0; conn = record { 0 = c }; channel = own; handle = handle }) key
-        (sent_by_key t b d r key x ordered agrees found role among p before) durable in
-        clash (sym spared ∙ ended own handle place.0 place.1 place.2)
-
-    by_terminus : (key : LinkKey) (v : Option Terminus) → durable_key (link t c own handle) ≡ Some key → terminus_of key b.termini ≡ v → is_among r.0 (sent_from b v) ≡ true → ⊥
-    by_terminus key None durable found among = clash among
-    by_terminus key (Some x) durable found among = of_terminus key x durable found x.key.role among
-
-    by_key : (v : Option LinkKey) → durable_key (link t c own handle) ≡ v → is_among r.0 (sent_from b (option_and_then (λ key. terminus_of key b.termini) v)) ≡ true → ⊥
-    by_key None durable among = clash among
-    by_key (Some key) durable among = by_terminus key (terminus_of key b.termini) durable refl among
-closed_is_done t b n d r c (Detach own handle true (Some x)) first i standing ordered agrees among p from = clash among
-closed_is_done t b n d r c (Detach own handle false x) first i standing ordered agrees among p from = clash among
-closed_is_done t b n d r c _ first i standing ordered agrees among p from = clash among
-
--- nor is a producer whose link takes a terminus up again: it takes the place of the older link
-resumed_is_done : (t : Trace) (b : BookView) (d : Delivery) (r : RowNumber) (c channel : ℕ) (a : AnAttach) (payload : List ℕ) (answer : Answer) (first : List Change) → Standing t → IsOrdered b
-    → IsFrom t b (row_at r.0 b.rows) d → is_among r.0 (sent_from b (resumed_terminus b t c a answer)) ≡ true
-    → (p : Origin) → source (changed_by (first ++ ended_by t c (item.Frame false channel (perf.Attach a) payload) answer) d) ≡ Some p → ⊥
-resumed_is_done t b d r c channel a payload (Attach own) first standing ordered agrees among p from = by_wish (wants_durable a) among
-  where
-    key : LinkKey
-    key = wanted_key t c a
-
-    ends : List Change
-    ends = stolen_from (holder t key)
-
-    before : source d ≡ Some p
-    before = (leaves_by (first ++ ends) d).comes p from
-
-    held : durable_key (link_of t p.link) ≡ Some key → ⊥
-    held durable =
-        let older = holds_key t standing p.link key durable in
-        let gone_link : Attachment → Bool = is_gone (gone.Link p.link.conn.0 p.link.channel p.link.handle) in
-        let only : Change = change.Ends (gone.Link p.link.conn.0 p.link.channel p.link.handle) false in
-        let last : source (changed only (changed_by first d)) ≡ Some p =
-        sym (ap source (changed_more first (only ∷ []) d)) ∙ sym (ap (λ (v : Option Attachment). source (changed_by (first ++ stolen_from v) d)) older.1) ∙ from in
-        let spared : gone_link p.link ≡ false = ends_keep false gone_link (changed_by first d) p last in
-        clash (sym spared ∙ rw (eq-eqb p.link.conn.0 p.link.conn.0 refl, eq-eqb p.link.channel p.link.channel refl, eq-eqb p.link.handle p.link.handle refl) refl)
-
-    by_terminus : (v : Option Terminus) → terminus_of key b.termini ≡ v → is_among r.0 (sent_from b v) ≡ true → ⊥
-    by_terminus None found among = clash among
-    by_terminus (Some x) found among = held (sent_by_key t b d r key x ordered agrees found x.key.role among p before)
-
-    by_wish : (w : Bool) → is_among r.0 (sent_from b (if w then terminus_of key b.termini else None)) ≡ true → ⊥
-    by_wish true among = by_terminus (terminus_of key b.termini) refl among
-    by_wish false among = clash among
-resumed_is_done t b d r c channel a payload _ first standing ordered agrees among p from = clash among
-
-forgotten_is_done : (t : Trace) (b : BookView) (n : ℕ) (d : Delivery) (r : RowNumber) (e : Event) (answer : Answer) → Standing t → IsOrdered b → IsFrom t b (row_at r.0 b.rows) d
-    → delivery t n ≡ Some d → d.name ≡ Row r → is_among r.0 (forgotten_at b t e answer) ≡ true → (p : Origin) → source (changed_by (event_changes t e answer) d) ≡ Some p → ⊥
-forgotten_is_done t b n d r (event.Item c (item.Frame false channel (perf.Disposition x) payload)) answer standing ordered agrees there name among p from =
-    let i : Item = item.Frame false channel (perf.Disposition x) payload in
-    let heard : List Change = listed (disposed_change x.role c.0 (session_found t c i) x) in
-    settled_is_done t n d r c.0 (session_found t c i) x.role x (map lost (due t (event.Item c i)) ++ ended_by t c.0 i answer) there name among p
-    (ap (λ (zs : List Change). source (changed_by zs d)) (sym (append_assoc heard (map lost (due t (event.Item c i))) (ended_by t c.0 i answer))) ∙ from)
-forgotten_is_done t b n d r (event.Item c (item.Frame false channel (perf.Detach x) payload)) answer standing ordered agrees there name among p from =
-    let i : Item = item.Frame false channel (perf.Detach x) payload in
-    closed_is_done t b n d r c.0 answer (map lost (due t (event.Item c i))) i standing ordered agrees among p from
-forgotten_is_done t b n d r (event.Item c (item.Frame false channel (perf.Attach a) payload)) answer standing ordered agrees there name among p from =
-    resumed_is_done t b d r c.0 channel a payload answer (map lost (due t (event.Item c (item.Frame false channel (perf.Attach a) payload)))) standing ordered agrees among p from
-forgotten_is_done t b n d r (event.Item c (item.Frame false channel _ payload)) answer standing ordered agrees there name among p from = clash among
-forgotten_is_done t b n d r (event.Item c (item.Frame true channel body payload)) answer standing ordered agrees there name among p from = clash among
-forgotten_is_done t b n d r (event.Item c _) answer standing ordered agrees there name among p from = clash among
-forgotten_is_done t b n d r _ answer standing ordered agrees there name among p from = clash among
-
 -- the facts after the acts of an event that isn't the start
 
 abbrev IsPlanned : Bool → Trace → Event → Type 0
@@ -397,7 +286,7 @@ facts_with full t e g planned ordered before decides done was n d r there name =
     settle_step t b ds numbers r.0 (row_at r.0 b.rows) d after (λ p from. (before d).comes p (leaves.comes p from)) (numbered_in b r) (decides n d r there name fact.settled)
     (done n d r there name (is_from_one t b (row_at r.0 b.rows) d fact.agrees)) fact.agrees in
     let next : Agrees t between (settled ds numbers (row_at r.0 b.rows)) after =
-    termini_step t b between (settled ds numbers (row_at r.0 b.rows)) after (ap (λ (x : BookView). x.termini) left.is) first in
+    termini_step t b between (settled ds numbers (row_at r.0 b.rows)) after (ap (λ (x : BookView). x.termini) left.is) (ap (λ (x : BookView). x.next_terminus) left.is) first in
     let found : row_at r.0 between.rows ≡ settled ds numbers (row_at r.0 b.rows) = settled_row b ds numbers r.0 ordered in
     let low : r.0 < between.next_row = subst (λ (x : BookView). r.0 < x.next_row) (sym left.is) fact.known in
     record {
@@ -500,6 +389,7 @@ attach_step t b acts ds xs r row d name number gives quiet form held = by_source
       form = λ q comes. held.form q (leaves.comes q comes);
       waits = λ q comes. held.waits q (leaves.comes q comes);
       from = λ q comes. held.from q (leaves.comes q comes);
+      consumer = λ q comes. held.consumer q (leaves.comes q comes);
     }
 
     -- it is decided now
@@ -513,6 +403,7 @@ attach_step t b acts ds xs r row d name number gives quiet form held = by_source
           form = λ q comes. ap (λ (x : DeliveryState). Some x) (sym kept);
           waits = λ q comes. f;
           from = λ q comes. held.from q (leaves.comes q comes);
+          consumer = λ q comes. held.consumer q (leaves.comes q comes);
         }
 
     open_one : d.outcome ≡ None → row.outcome ≡ None → (o : Option DeliveryState) → outcome_for r.0 ds ≡ o → (p : Origin) → source d ≡ Some p → Agrees t b (decided_to o row) e
@@ -621,7 +512,7 @@ attach_facts full t c channel a payload standing ordered was =
     done : (n : ℕ) (d : Delivery) (r : RowNumber) → delivery t n ≡ Some d → d.name ≡ Row r → IsFrom t b (row_at r.0 b.rows) d → is_among r.0 numbers ≡ true → (p : Origin)
         → source (changed_by xs (given acts d)) ≡ Some p → ⊥
     done n d r there name from among p comes =
-        resumed_is_done t b (given acts d) r c.0 channel a payload answer (map lost (due t e)) standing ordered (still (row_at r.0 b.rows) from) among p comes
+        resumed_is_done t b (given acts d) r c.0 channel false a payload answer (map lost (due t e)) standing ordered (still (row_at r.0 b.rows) from) among p comes
       where
         still : (v : Option ARow) → IsFrom t b v d → IsFrom t b v (given acts d)
         still None is = tt
@@ -753,9 +644,13 @@ sasl_decides full t c channel (perf.Attach a) payload = by (standing (found t e 
     e : Event
     e = event.Item c (item.Frame true channel (perf.Attach a) payload)
 
+    nothing : (q : Bool) → decided_for (book_in t) (Some a) (if q then None else None) ≡ []
+    nothing true = refl
+    nothing false = refl
+
     by : (v : Option Conn) → map_decides (book_in t) t e (live_answer full (book_in t) t c.0 (item.Frame true channel (perf.Attach a) payload) v) ≡ []
-    by None = refl
-    by (Some p) = refl
+    by None = nothing (receives a.role)
+    by (Some p) = nothing (receives a.role)
 sasl_decides full t c channel body payload = refl
 
 pub booked_facts : (t : Trace) (e : Event) → Standing t → IsOrdered (book_in t) → (e ≡ event.Start → (n : ℕ) → delivery t n ≡ None) → Facts t []

@@ -6,9 +6,10 @@ use Rattle.amqp_model.specs.declared.item.Item.{Item}
 use Rattle.book_model.specs.declared.row.Row.{Row as ARow}
 use Rattle.book_model.specs.declared.row.RowNumber.{RowNumber}
 use Rattle.book_model.specs.declared.terminus.LinkKey.{LinkKey}
-use Rattle.book_model.specs.declared.terminus.LinkRole.TheVariants.{Producer}
+use Rattle.book_model.specs.declared.terminus.LinkRole.TheVariants.{Producer, Consumer}
+use Rattle.book_model.specs.declared.terminus.TerminusNumber.{TerminusNumber}
 use Rattle.book_model.specs.declared.terminus.Terminus.{Terminus}
-use Rattle.book_model.specs.Book.{BookView, row_at, terminus_of, same_role}
+use Rattle.book_model.specs.Book.{BookView, row_at, terminus_at, terminus_of, same_role}
 use Rattle.router_trace.specs.declared.binding.Binding.{Binding}
 use Rattle.router_trace.specs.declared.binding.DeliveryName.TheVariants.{Row}
 use Rattle.router_trace.specs.declared.binding.Origin.{Origin}
@@ -42,12 +43,18 @@ pub record FromTerminus (t : Trace) (b : BookView) (p : Origin) (n : ℕ) : Type
   pub number : at.number.0 ≡ n
   pub role : same_role at.key.role Producer ≡ true
 
+-- the terminus to which a row is bound, if it is still there, is a consumer's
+abbrev pub ForConsumer : BookView → Option TerminusNumber → Type 0
+ForConsumer b None = Unit {0}
+ForConsumer b (Some n) = (n.0 < b.next_terminus) × ((x : Terminus) → terminus_at n.0 b.termini ≡ Some x → same_role x.key.role Consumer ≡ true)
+
 -- a row has the outcome of its delivery, as the journal keeps it, and isn't forgotten, as long as the producer isn't done with it
 pub record IsHeld (t : Trace) (b : BookView) (row : ARow) (e : Delivery) : Type 0 where
   pub outcome : (p : Origin) → source e ≡ Some p → row.outcome ≡ option_map kept_form e.outcome
   pub form : (p : Origin) → source e ≡ Some p → IsKeptForm row
   pub waits : (p : Origin) → source e ≡ Some p → row.forgotten ≡ false
   pub from : (p : Origin) → source e ≡ Some p → FromTerminus t b p row.producer.0
+  pub consumer : (p : Origin) → source e ≡ Some p → ForConsumer b row.consumer
 
 abbrev pub Agrees : Trace → BookView → Option ARow → Delivery → Type 0
 Agrees t b None e = (p : Origin) → source e ≡ Some p → ⊥
@@ -76,6 +83,7 @@ agrees_moved t u b (Some row) e f alike stays was = record {
   form = λ p from. was.form p (alike.comes p from);
   waits = λ p from. was.waits p (alike.comes p from);
   from = λ p from. let at = was.from p (alike.comes p from) in record { key = at.key; durable = stays p at.key from at.durable; at = at.at; found = at.found; number = at.number; role = at.role };
+  consumer = λ p from. was.consumer p (alike.comes p from);
 }
 
 pub fact_moved : (t u : Trace) (b : BookView) (r : RowNumber) (e f : Delivery) → Alike e f

@@ -41,6 +41,7 @@ pub mod Ended
 pub mod Facts
 pub mod Decisions
 pub mod Giving
+pub mod Forgetting
 pub mod Booked
 pub mod Lasting
 pub mod Taking

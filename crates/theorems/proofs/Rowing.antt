@@ -236,6 +236,7 @@ taken_fact u b takes holds was r named = subst (λ (n : RowNumber). RowFact u (b
       form = λ p from. let had = old p from (Some row) found in had.2.form p had.1;
       waits = λ p from. let had = old p from (Some row) found in had.2.waits p had.1;
       from = λ p from. let had = old p from (Some row) found in had.2.from p had.1;
+      consumer = λ p from. let had = old p from (Some row) found in had.2.consumer p had.1;
     }
 
     fact : RowFact u (book_in u) n (bound (name_in u b) b)

@@ -3,7 +3,6 @@ use Rattle.std.proofs.Common.{◌≡◌, ◌∙◌, sym, ap, refl, ℕ, Bool, tr
 use Rattle.std.specs.Prelude.{Option, Some, None, map, is_some, is_none, option_map, if◌then◌else◌}
 use Rattle.amqp_model.specs.declared.perf.Attach.{Attach as AnAttach}
 use Rattle.amqp_model.specs.declared.perf.Perf.TheVariants as perf
-use Rattle.amqp_model.specs.declared.item.Item.{Item}
 use Rattle.amqp_model.specs.declared.item.Item.TheVariants as item
 use Rattle.amqp_model.specs.declared.state.DeliveryState.{DeliveryState}
 use Rattle.amqp_conn.specs.declared.conn.Conn.{Conn}
@@ -32,7 +31,7 @@ use Rattle.reply_rows.specs.declared.answer.Answer.{Answer}
 use Rattle.reply_rows.specs.declared.answer.Answer.TheVariants.{Attach}
 use Rattle.reply_rows.specs.Booking.{wanted_key}
 use Rattle.router_reply.specs.Acts.{live_answer, finds_full, journaled, book_in, acts_of, booked, answer_by, answer_to_event}
-use Rattle.router_reply.specs.Asking.{attach_in, resumed_key, key_taken, decided_for, map_decides}
+use Rattle.router_reply.specs.Asking.{attach_in, receives, if_receives, resumed_key, key_taken, decided_for, map_decides}
 use Rattle.router_reply.specs.Deciding.{as_kept, lost, stolen_from, event_changes, forgotten as forgotten_in, terminus_of_event}
 use Rattle.theorems.proofs.Admitted.{answer_after}
 use Rattle.theorems.proofs.Booked.{answer_for}
@@ -60,7 +59,7 @@ same_taken t e c a (Attach own) = refl
 same_taken t e c a _ = refl
 
 same_key : (t : Trace) (e x : Event) (y : Answer) → resumed_key (booked t e) x y ≡ resumed_key t x y
-same_key t e (event.Item from (item.Frame sasl channel (perf.Attach a) payload)) y = same_taken t e from.0 a y
+same_key t e (event.Item from (item.Frame sasl channel (perf.Attach a) payload)) y = ap (if_receives (Some a)) (same_taken t e from.0 a y)
 same_key t e (event.Item from (item.Frame sasl channel _ payload)) y = refl
 same_key t e (event.Item from _) y = refl
 same_key t e _ y = refl
@@ -119,7 +118,7 @@ all_open [] d all was = was
 all_open (x ∷ xs) d all was = all_open xs (changed x d) all.1 (change_open x d all.0 was)
 
 -- the changes of an event whose attach takes a durable link
-attach_suspends : (t : Trace) (from : ConnectionId) (sasl : Bool) (channel : ℕ) (a : AnAttach) (payload : List ℕ) (k : LinkKey) (y : Answer) → key_taken t from.0 a y ≡ Some k
+attach_suspends : (t : Trace) (from : ConnectionId) (sasl : Bool) (channel : ℕ) (a : AnAttach) (payload : List ℕ) (k : LinkKey) (y : Answer) → if_receives (Some a) (key_taken t from.0 a y) ≡ Some k
     → AllSuspend (event_changes t (event.Item from (item.Frame sasl channel (perf.Attach a) payload)) y)
 attach_suspends t from true channel a payload k (Attach own) keyed =
     both_suspend (map lost (due t (event.Item from (item.Frame true channel (perf.Attach a) payload)))) (stolen_from (holder t (wanted_key t from.0 a)))
@@ -127,7 +126,11 @@ attach_suspends t from true channel a payload k (Attach own) keyed =
 attach_suspends t from false channel a payload k (Attach own) keyed =
     both_suspend (map lost (due t (event.Item from (item.Frame false channel (perf.Attach a) payload)))) (stolen_from (holder t (wanted_key t from.0 a)))
     (all_lost (due t (event.Item from (item.Frame false channel (perf.Attach a) payload)))) (all_stolen (holder t (wanted_key t from.0 a)))
-attach_suspends t from sasl channel a payload k _ keyed = absurd (none_not_some keyed)
+attach_suspends t from sasl channel a payload k _ keyed = absurd (by (receives a.role) keyed)
+  where
+    by : (q : Bool) → (if q then None else None) ≡ Some k → ⊥
+    by true keyed = none_not_some keyed
+    by false keyed = none_not_some keyed
 
 is_bound : (n : ℕ) (c : Option TerminusNumber) → is_for_by n c ≡ true → is_some c ≡ true
 is_bound n None is = is

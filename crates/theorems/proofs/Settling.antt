@@ -23,12 +23,15 @@ use Rattle.book_model.specs.declared.terminus.Terminus.{Terminus}
 use Rattle.book_model.specs.Book.{BookView, row_at, terminus_at, terminus_of, same_key, same_role, same_bytes, is_undecided, keeps, effect, effects, admitted, forgotten, make_refusal, admit_refusal, drop_refusal}
 use Rattle.book_core.specs.Rising.{Rises, AllAbove}
 use Rattle.book_core.proofs.Steps.{admits_next}
+use Rattle.book_laws.proofs.Searching.{found_among}
 use Rattle.gate_journal.specs.Ordered.{IsOrdered, number_of_row, number_of_terminus}
 use Rattle.journal_store.specs.declared.acting.TerminusAct.{TerminusAct}
 use Rattle.journal_store.specs.declared.acting.TerminusAct.TheVariants as terminus
 use Rattle.journal_store.specs.Acting.{journal_outcome, outcome_for, is_among, settles, decided_to, decided_by, forgotten_by, unless_refused, terminus_acts, admission_acts}
+use Rattle.journal_store.proofs.Conditions.{holds}
 use Rattle.journal_store.proofs.Settled.{settles_leave}
 use Rattle.theorems.proofs.Looking.{by_case, KeepsNumber, decided_keeps, forgotten_keeps, found_through, found_before}
+use Rattle.theorems.proofs.Tests.{none_not_some}
 
 -- the row of a number after what is decided and forgotten
 
@@ -173,12 +176,20 @@ pub record Stays (b c : BookView) : Type 0 where
   pub next : b.next_row ≤ c.next_row
   pub termini : (key : LinkKey) (x : Terminus) (n : ℕ) (r : Row) → terminus_of key b.termini ≡ Some x → same_role x.key.role Producer ≡ true → row_at n b.rows ≡ Some r → r.forgotten ≡ false
       → r.producer.0 ≡ x.number.0 → terminus_of key c.termini ≡ Some x
+  pub more : b.next_terminus ≤ c.next_terminus
+  pub older : (n : ℕ) (x : Terminus) → n < b.next_terminus → terminus_at n c.termini ≡ Some x → terminus_at n b.termini ≡ Some x
 
 at_most : (n : ℕ) → n ≤ n
 at_most n = omega arith
 
 pub stays_it : (b : BookView) → Stays b b
-stays_it b = record { rows = λ n low. refl; next = at_most b.next_row; termini = λ key x n r is role found open_one from. is }
+stays_it b = record {
+  rows = λ n low. refl;
+  next = at_most b.next_row;
+  termini = λ key x n r is role found open_one from. is;
+  more = at_most b.next_terminus;
+  older = λ n x low is. is;
+}
 
 one_effect : (b : BookView) (act : Act) → effects b (act ∷ []) ≡ effect b act
 unfolding effects
@@ -188,13 +199,28 @@ no_effect : (b : BookView) → effects b [] ≡ b
 unfolding effects
 no_effect b = refl
 
-make_stays : (b : BookView) (t : Terminus) → Stays b (effect b (Make t))
-make_stays b t = record {
+make_stays : (b : BookView) (t : Terminus) → make_refusal b t ≡ None → Stays b (effect b (Make t))
+make_stays b t free = record {
   rows = λ n low. refl;
   next = at_most b.next_row;
   termini = λ key x n r is role found open_one from.
       find-append (λ u. same_key u.key key) b.termini (t ∷ []) ∙ ap (λ (o : Option Terminus). option_or o (cond (same_key t.key key) (Some t) None)) is;
+  more = one_more b.next_terminus;
+  older = λ n x low is. not_new n x low (terminus_at n b.termini) (sym (find-append (λ u. u.number.0 == n) b.termini (t ∷ [])) ∙ is);
 }
+  where
+    one_more : (n : ℕ) → n ≤ n + 1
+    one_more n = omega arith
+
+    number : t.number.0 ≡ b.next_terminus
+    number = eqb-true t.number.0 b.next_terminus (holds (t.number.0 == b.next_terminus) NoTerminus _ free)
+
+    apart : (n next k : ℕ) → n < next → k ≡ next → (k == n) ≡ false
+    apart n next k low e = grind (arith, nat_tests)
+
+    not_new : (n : ℕ) (x : Terminus) → n < b.next_terminus → (o : Option Terminus) → option_or o (cond (t.number.0 == n) (Some t) None) ≡ Some x → o ≡ Some x
+    not_new n x low None is = absurd (none_not_some (sym (ap (λ (q : Bool). cond q (Some t) None) (apart n b.next_terminus t.number.0 low number)) ∙ is))
+    not_new n x low (Some y) is = is
 
 drop_stays : (b : BookView) (m : ℕ) → IsOrdered b → drop_refusal (terminus_at m b.termini) b.rows ≡ None → (c : BookView) → c ≡ record b { termini = filter (λ t. not (t.number.0 == m)) b.termini } → Stays b c
 drop_stays b m ordered free c is =
@@ -204,8 +230,14 @@ drop_stays b m ordered free c is =
       termini = λ key x n r found role at open_one from.
           find_filtered (λ t. same_key t.key key) (λ t. not (t.number.0 == m)) b.termini x found
           (by_case (x.number.0 == m) (λ e. absurd (kept key x n r found role at open_one from (eqb-true x.number.0 m e))) (λ e. rw e refl));
+      more = at_most b.next_terminus;
+      older = λ n x low is. still (not (n == m)) (terminus_at n b.termini) x (sym (found_among number_of_terminus (λ (k : ℕ). not (k == m)) n b.termini) ∙ is);
     })
   where
+    still : (q : Bool) (o : Option Terminus) (x : Terminus) → cond q o None ≡ Some x → o ≡ Some x
+    still true o x is = is
+    still false o x is = absurd (none_not_some is)
+
     any_false : (q : Bool) → (if not q then None else Some NoTerminus) ≡ None → q ≡ true → ⊥
     any_false true free e = absurd cc
     any_false false free e = absurd cc
@@ -227,18 +259,20 @@ unless_stays b act (Some f) stays = subst (λ (c : BookView). Stays b c) (sym (n
 
 pub terminus_stays : (b : BookView) (x : Option TerminusAct) → IsOrdered b → Stays b (effects b (terminus_acts b x))
 terminus_stays b None ordered = subst (λ (c : BookView). Stays b c) (sym (no_effect b)) (stays_it b)
-terminus_stays b (Some (terminus.Make t)) ordered = unless_stays b (Make t) (make_refusal b t) (λ free. make_stays b t)
+terminus_stays b (Some (terminus.Make t)) ordered = unless_stays b (Make t) (make_refusal b t) (λ free. make_stays b t free)
 terminus_stays b (Some (terminus.Drop n)) ordered = unless_stays b (Drop n) (drop_refusal (terminus_at n.0 b.termini) b.rows) (λ free. drop_stays b n.0 ordered free (effect b (Drop n)) refl)
 
 admit_stays : (b : BookView) (a : Admission) → admit_refusal b a ≡ None → Stays b (effect b (Admit a))
 admit_stays b a applies = record {
   rows = λ n low. found_before n b.rows (admitted a) (under n b.next_row a.row.0 low (admits_next b a applies));
-  next = more b.next_row;
+  next = one_more b.next_row;
   termini = λ key x n r is role found open_one from. is;
+  more = at_most b.next_terminus;
+  older = λ n x low is. is;
 }
   where
-    more : (n : ℕ) → n ≤ n + 1
-    more n = omega arith
+    one_more : (n : ℕ) → n ≤ n + 1
+    one_more n = omega arith
 
     under : (n k a : ℕ) → n < k → a ≡ k → n < a
     under n k a l e = omega (arith, l, e)

@@ -16,7 +16,6 @@ use Rattle.amqp_model.specs.declared.item.Item.TheVariants as item
 use Rattle.amqp_conn.specs.declared.conn.Conn.{Conn}
 use Rattle.book_model.specs.declared.terminus.LinkKey.{LinkKey}
 use Rattle.router_trace.specs.declared.condition.Condition.TheVariants.{Stolen, FrameSizeTooSmall}
-use Rattle.router_trace.specs.declared.event.ConnectionId.{ConnectionId}
 use Rattle.router_trace.specs.declared.event.Event.{Event}
 use Rattle.router_trace.specs.declared.event.Event.TheVariants as event
 use Rattle.router_trace.specs.declared.handle.Attachment.{Attachment}
@@ -34,7 +33,7 @@ use Rattle.reply_rows.specs.declared.answer.Answer.{Answer}
 use Rattle.reply_rows.specs.declared.answer.Answer.TheVariants.{Attach}
 use Rattle.reply_rows.specs.Booking.{wanted_key, wants_durable}
 use Rattle.router_reply.specs.Acts.{booked, answer_of, answer_by, answer_to_event}
-use Rattle.router_reply.specs.Asking.{receives, key_taken, resumed_key}
+use Rattle.router_reply.specs.Asking.{receives, if_receives, key_taken, resumed_key}
 use Rattle.router_reply.specs.Replies.{ends, with_map, map_told, attach_answer, taken_after, taken, stolen_by, bound_for, item_put, item_bound, item_row, replied_after, replied}
 use Rattle.theorems.proofs.Answering.{attach_finds}
 use Rattle.theorems.proofs.Attaching.{AttachAt, attached_link, held_is, held_where, numbered_link, detached_none}
@@ -196,10 +195,14 @@ consumer_held v (Some y) x is = by (is_consumer (link_of v y)) is
     by true is = is
     by false is = absurd (none_not_some is)
 
-wish : (w r : Bool) (j k : LinkKey) → (if w && r then Some j else None) ≡ Some k → (w ≡ true) × (j ≡ k)
+wish : (w r : Bool) (j k : LinkKey) → (if r then (if w then Some j else None) else None) ≡ Some k → (w ≡ true) × (j ≡ k)
 wish true true j k is = (refl, some_same is)
-wish true false j k is = absurd (none_not_some is)
-wish false r j k is = absurd (none_not_some is)
+wish false true j k is = absurd (none_not_some is)
+wish w false j k is = absurd (none_not_some is)
+
+no_key : (r : Bool) (k : LinkKey) → (if r then None else None) ≡ Some k → ⊥
+no_key true k is = none_not_some is
+no_key false k is = none_not_some is
 
 event_durable : (id : List ℕ) (t : Trace) (s : Step) (e : Event) → s.event ≡ e → (k : LinkKey) (x : Attachment) → resumed_key (booked t e) e (answer_to_event (booked t e) e) ≡ Some k
     → consumer_with (replied_after id (booked t e) (ends id (due t e) (Did s ∷ booked t e)) e) k ≡ Some x
@@ -213,8 +216,8 @@ event_durable id t s (event.Item from (item.Frame true channel (perf.Attach a) p
     e = event.Item from i
 
     by : (v : Option Conn) → resumed_key (booked t e) e (answer_by (booked t e) from.0 i v) ≡ Some k → ⊥
-    by None keyed = none_not_some keyed
-    by (Some p) keyed = none_not_some keyed
+    by None keyed = no_key (receives a.role) k keyed
+    by (Some p) keyed = no_key (receives a.role) k keyed
 event_durable id t s (event.Item from (item.Frame false channel (perf.Attach a) payload)) is k x keyed held = by (standing (found t e from.0)) refl keyed held
   where
     i : Item
@@ -229,7 +232,7 @@ event_durable id t s (event.Item from (item.Frame false channel (perf.Attach a) 
     u : Trace
     u = ends id (due t e) (Did s ∷ at)
 
-    by_answer : (p : Conn) → standing (found t e from.0) ≡ Some p → (y : Answer) → key_taken at from.0 a y ≡ Some k
+    by_answer : (p : Conn) → standing (found t e from.0) ≡ Some p → (y : Answer) → if_receives (Some a) (key_taken at from.0 a y) ≡ Some k
         → consumer_with (goes (item_put id at u from.0 p i y) (with_bound (bound_for at u from.0 i y) u)) k ≡ Some x
         → lasts (goes (item_put id at u from.0 p i y) (with_bound (bound_for at u from.0 i y) u)) x ≡ true
     by_answer p here (Attach own) keyed held =
@@ -237,12 +240,12 @@ event_durable id t s (event.Item from (item.Frame false channel (perf.Attach a) 
         let v : Trace = goes (taken u from.0 own (map_told at from.0 a (Attach own)) a) u in
         taken_at t u from.0 own (map_told at from.0 a (Attach own)) a x (attach_finds id t s from channel a payload p is here) wished.0
         (ap (holder v) wished.1 ∙ consumer_held v (holder v k) x held)
-    by_answer p here _ keyed held = absurd (none_not_some keyed)
+    by_answer p here _ keyed held = absurd (no_key (receives a.role) k keyed)
 
     by : (v : Option Conn) → standing (found t e from.0) ≡ v → resumed_key at e (answer_by at from.0 i v) ≡ Some k
         → consumer_with (goes (item_row id at u from.0 i v) (with_bound (item_bound at u from.0 i v) u)) k ≡ Some x
         → lasts (goes (item_row id at u from.0 i v) (with_bound (item_bound at u from.0 i v) u)) x ≡ true
-    by None here keyed held = absurd (none_not_some keyed)
+    by None here keyed held = absurd (no_key (receives a.role) k keyed)
     by (Some p) here keyed held = by_answer p here (answer_of at from.0 p i) keyed held
 event_durable id t s (event.Item from (item.Frame sasl channel _ payload)) is k x keyed held = absurd (none_not_some keyed)
 event_durable id t s (event.Item from _) is k x keyed held = absurd (none_not_some keyed)

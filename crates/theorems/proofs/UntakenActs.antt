@@ -1,12 +1,12 @@
 -- What takes don't change: an event that ends no connection has the same acts in a trace without its takes, and so its item has the same answer.
-use Rattle.std.proofs.Common.{◌≡◌, ◌∙◌, ap, refl, ℕ, ◌+◌, Bool, true, false, List, [], ◌∷◌, ◌++◌, map}
+use Rattle.std.proofs.Common.{◌≡◌, ◌∙◌, ap, refl, ℕ, ◌+◌, ◌-◌, ◌^◌, Bool, true, false, List, [], ◌∷◌, ◌++◌, map}
 use Rattle.std.specs.Prelude.{Option, Some, None, ◌||◌, if◌then◌else◌, is_none, option_map, option_and_then}
-use Rattle.amqp_model.specs.declared.perf.Attach.{Attach as AnAttach}
 use Rattle.amqp_model.specs.declared.perf.Disposition.{Disposition as ADisposition}
 use Rattle.amqp_model.specs.declared.perf.Perf.{Perf}
 use Rattle.amqp_model.specs.declared.perf.Perf.TheVariants as perf
 use Rattle.amqp_model.specs.declared.perf.Role.{Role}
 use Rattle.amqp_model.specs.declared.perf.Role.TheVariants.{Sender, Receiver}
+use Rattle.amqp_model.specs.declared.perf.Transfer.{Transfer as ATransfer}
 use Rattle.amqp_model.specs.declared.item.Item.{Item}
 use Rattle.amqp_model.specs.declared.item.Item.TheVariants as item
 use Rattle.amqp_conn.specs.declared.conn.Conn.{Conn}
@@ -16,13 +16,14 @@ use Rattle.amqp_link.specs.declared.part.Part.TheVariants as part
 use Rattle.book_model.specs.declared.act.Act.{Act}
 use Rattle.book_model.specs.declared.act.Admission.{Admission}
 use Rattle.book_model.specs.declared.act.Decision.{Decision}
+use Rattle.book_model.specs.declared.row.Row.{Row}
 use Rattle.book_model.specs.declared.row.RowNumber.{RowNumber}
 use Rattle.book_model.specs.declared.terminus.LinkKey.{LinkKey}
 use Rattle.book_model.specs.declared.terminus.Terminus.{Terminus}
 use Rattle.book_model.specs.declared.terminus.TerminusNumber.{TerminusNumber}
 use Rattle.book_model.specs.Book.{BookView, terminus_of}
 use Rattle.journal_store.specs.declared.acting.TerminusAct.TheVariants as terminus
-use Rattle.journal_store.specs.Acting.{event_acts as settled_acts}
+use Rattle.journal_store.specs.Acting.{is_among, event_acts as settled_acts}
 use Rattle.journal_store.specs.Lost.{start_acts}
 use Rattle.journal_store.specs.Store.{exceeds}
 use Rattle.router_trace.specs.declared.event.Event.{Event}
@@ -34,7 +35,7 @@ use Rattle.router_trace.specs.Deliveries.{last_of, none_if_ended}
 use Rattle.router_trace.specs.LinkFrames.{plain_answer}
 use Rattle.router_trace.specs.Links.{Link, link, link_place, durable_key}
 use Rattle.router_trace.specs.Sessions.{own_of, session_on}
-use Rattle.router_trace.specs.Settling.{part_of}
+use Rattle.router_trace.specs.Settling.{middle_on, part_of}
 use Rattle.state_links.specs.Fits.{channel_of}
 use Rattle.state_deliveries.specs.declared.change.Change.{Change}
 use Rattle.state_deliveries.specs.Deciding.{gathered_below, decision_of, decided_rows, row_from, rows_from}
@@ -42,17 +43,18 @@ use Rattle.state_deliveries.specs.Hearing.{heard_change}
 use Rattle.state_messages.specs.Messages.{consumer_of}
 use Rattle.reply_rows.specs.declared.answer.Answer.{Answer}
 use Rattle.reply_rows.specs.declared.answer.Answer.TheVariants.{Nothing, Attach, Detach, Taken}
-use Rattle.reply_rows.specs.Booking.{wants_durable, answer_at}
+use Rattle.reply_rows.specs.Booking.{answer_at}
 use Rattle.router_reply.specs.Admitting.{without_acts, terminus_for, admission_of, admitted_to, whole_admission, part_admission, taken_admission, unless_ends, event_admission, admits}
-use Rattle.router_reply.specs.Asking.{attach_in, decided_for, map_decides}
-use Rattle.router_reply.specs.Deciding.{lost, stolen_from, stolen_for, ended_by, listed, event_changes, as_kept, decided, settled_on, sent_from, closed_terminus, resumed_terminus, forgotten_by, forgotten_in, forgotten, made_for, terminus_by, terminus_in, terminus_of_event}
+use Rattle.router_reply.specs.Asking.{attach_in, decided_for, map_decides, forgotten_for, map_forgets}
+use Rattle.router_reply.specs.Deciding.{lost, stolen_from, stolen_for, ended_by, listed, event_changes, as_kept, decided, settled_on, sent_from, closed_terminus, forgotten_by, forgotten_in, item_forgets, forgotten, made_for, terminus_by, terminus_in, terminus_of_event}
+use Rattle.router_reply.specs.Joining.{settled_whole, row_joined, is_held_on, unless_held, settled_by_transfer}
 use Rattle.router_reply.specs.Acts.{Journaled, live_answer, event_answer, answer_acts, planned_acts, admitted_acts, or_admits, event_acts, finds_full, journaled, book_in, acts_of, before_acts, found_journal, full_at, answer_of}
 use Rattle.theorems.specs.Takes.{untaken}
 use Rattle.theorems.proofs.Plain.{plain, Calm, stood_found}
 use Rattle.theorems.proofs.Untaken.{same_theirs, same_journaled}
 use Rattle.theorems.proofs.UntakenDeliveries.{same_bindings, same_delivery}
 use Rattle.theorems.proofs.UntakenLinks.{same_key_at, same_link, same_link_place, same_holder}
-use Rattle.theorems.proofs.UntakenRows.{same_answer_at, same_consumer_at, same_claimed_id, same_resumed_key}
+use Rattle.theorems.proofs.UntakenRows.{same_answer_at, same_consumer_at, same_claimed_id, same_taken_key, same_resumed_key}
 
 -- What an event that ends no connection does to the book, by what events alone leave of its connection: the changes of deliveries that it brings,
 -- the rows that it decides, the answer to its item, what is planned, and what is admitted.
@@ -64,9 +66,12 @@ plain_changes x _ answer = []
 abbrev pub plain_decided : BookView → List Entry → Event → Answer → List Decision
 plain_decided b x e answer = map as_kept (decided_rows x (plain_changes x e answer)) ++ map_decides b x e answer
 
+abbrev pub plain_item_forgets : BookView → List Entry → Event → Answer → List RowNumber
+plain_item_forgets b x (event.Item c i) answer = forgotten_in b x c.0 (session_on x c.0 (channel_of i)) i answer
+plain_item_forgets b x _ answer = []
+
 abbrev pub plain_forgotten : BookView → List Entry → Event → Answer → List RowNumber
-plain_forgotten b x (event.Item c i) answer = forgotten_in b x c.0 (session_on x c.0 (channel_of i)) i answer
-plain_forgotten b x _ answer = []
+plain_forgotten b x e answer = plain_item_forgets b x e answer ++ map_forgets b x e answer
 
 abbrev pub plain_event_answer : Bool → BookView → List Entry → Event → Answer
 plain_event_answer full b x (event.Item c i) = live_answer full b x c.0 i (plain x c.0)
@@ -160,13 +165,22 @@ same_closed b t c (Detach own handle true (Some e)) = refl
 same_closed b t c (Detach own handle false x) = refl
 same_closed b t c _ = refl
 
-same_resumed : (b : BookView) (t : List Entry) (c : ℕ) (x : AnAttach) (a : Answer) → resumed_terminus b t c x a ≡ resumed_terminus b (untaken t) c x a
-same_resumed b t c x (Attach own) = ap (λ (key : LinkKey). if wants_durable x then terminus_of key b.termini else None) (same_key_at t c (plain_answer x 0))
-same_resumed b t c x _ = refl
+same_held : (t : List Entry) (c own n : ℕ) → is_held_on t c own n ≡ is_held_on (untaken t) c own n
+same_held t c own n = λ j. is_among n (same_rows_from t c own 0 (2 ^ 31 - 1) j) || is_among n (same_rows_from t c own (2 ^ 31) (2 ^ 32 - 1) j)
+
+same_unless : (t : List Entry) (c own : ℕ) (v : Option Row) → unless_held t c own v ≡ unless_held (untaken t) c own v
+same_unless t c own None = refl
+same_unless t c own (Some r) = ap (λ (q : Bool). if q then [] else r.number ∷ []) (same_held t c own r.number.0)
+
+same_transfer : (b : BookView) (t : List Entry) (c : ℕ) (x : ATransfer) (a : Answer) → settled_by_transfer b t c x a ≡ settled_by_transfer b (untaken t) c x a
+same_transfer b t c x (Taken own handle) =
+    (λ j. unless_held t c own (row_joined b (durable_key (same_link t c own handle j)) (settled_whole x (middle_on (same_link_place t c own x.handle j)))))
+    ∙ same_unless t c own (row_joined b (durable_key (link (untaken t) c own handle)) (settled_whole x (middle_on (link_place (untaken t) c own x.handle))))
+same_transfer b t c x _ = refl
 
 same_forgotten_by : (b : BookView) (t : List Entry) (c : ℕ) (own : Option ℕ) (body : Perf) (a : Answer)
     → forgotten_by b t c own body a ≡ forgotten_by b (untaken t) c own body a
-same_forgotten_by b t c own (perf.Attach x) a = ap (sent_from b) (same_resumed b t c x a)
+same_forgotten_by b t c own (perf.Transfer x) a = same_transfer b t c x a
 same_forgotten_by b t c own (perf.Disposition x) a = same_settled t c own x.role x
 same_forgotten_by b t c own (perf.Detach x) a = ap (sent_from b) (same_closed b t c a)
 same_forgotten_by b t c own _ a = refl
@@ -176,15 +190,18 @@ same_forgotten_in b t c own (item.Frame true channel body payload) a = refl
 same_forgotten_in b t c own (item.Frame false channel body payload) a = same_forgotten_by b t c own body a
 same_forgotten_in b t c own _ a = refl
 
-same_forgotten : (b : BookView) (t : List Entry) (e : Event) (a : Answer) → due t e ≡ [] → forgotten b t e a ≡ plain_forgotten b (untaken t) e a
-same_forgotten b t (event.Item c i) a none =
+same_item_forgets : (b : BookView) (t : List Entry) (e : Event) (a : Answer) → due t e ≡ [] → item_forgets b t e a ≡ plain_item_forgets b (untaken t) e a
+same_item_forgets b t (event.Item c i) a none =
     ap (λ (ks : List ℕ). forgotten_in b t c.0 (none_if_ended ks c.0 (session_on t c.0 (channel_of i))) i a) none
     ∙ ap (λ (own : Option ℕ). forgotten_in b t c.0 own i a) (same_session_on t c.0 (channel_of i))
     ∙ same_forgotten_in b t c.0 (session_on (untaken t) c.0 (channel_of i)) i a
-same_forgotten b t (event.Down c) a none = refl
-same_forgotten b t (event.Up c p) a none = refl
-same_forgotten b t (event.Tick ms) a none = refl
-same_forgotten b t event.Start a none = refl
+same_item_forgets b t (event.Down c) a none = refl
+same_item_forgets b t (event.Up c p) a none = refl
+same_item_forgets b t (event.Tick ms) a none = refl
+same_item_forgets b t event.Start a none = refl
+
+same_forgotten : (b : BookView) (t : List Entry) (e : Event) (a : Answer) → due t e ≡ [] → forgotten b t e a ≡ plain_forgotten b (untaken t) e a
+same_forgotten b t e a none = λ j. same_item_forgets b t e a none j ++ forgotten_for b (attach_in e) (same_taken_key t e a j)
 
 -- the terminus that is made or dropped
 

@@ -41,7 +41,7 @@ use Rattle.reply_rows.specs.Finding.{finds}
 use Rattle.reply_rows.specs.Booking.{wants_durable, wanted_address, new_terminus, has_room, durable_refusal, book_refusal, booked_attach, stands_from, repeats, booked_transfer, booked, answer_at}
 use Rattle.reply_transfers.specs.Transfers.{claimed_id, settled_answers, from_link, origin_of, lasts_on, may_pass, consumer_for, fresh_bound, whole_bound, let_go, unless_many, ignored_put, released_by, released, unbound_put, whole_put, part_put, part_bound}
 use Rattle.router_reply.specs.Acts.{found_journal}
-use Rattle.router_reply.specs.Resuming.{receives, consumer_key, key_taken, key_by, key_in, resumed_key, map_for}
+use Rattle.router_reply.specs.Resuming.{asked_key, key_taken, key_by, key_in, taken_key, attach_in, if_receives, resumed_key, map_for}
 use Rattle.router_reply.specs.Replies.{map_told, stolen_by, attach_answer, taken_after, taken, refused, row_found, bound_for, links_put, item_put}
 use Rattle.theorems.specs.Takes.{untaken}
 use Rattle.theorems.proofs.Untaken.{untaken_goes, same_place, same_free}
@@ -109,11 +109,11 @@ same_taken t c own ours a =
 
 -- the rows that it takes up
 
-pub same_consumer_key : (t : List Entry) (c : ℕ) (a : AnAttach) → consumer_key t c a ≡ consumer_key (untaken t) c a
-same_consumer_key t c a = λ j. if wants_durable a && receives a.role then Some (same_key_at t c (plain_answer a 0) j) else None
+same_asked_key : (t : List Entry) (c : ℕ) (a : AnAttach) → asked_key t c a ≡ asked_key (untaken t) c a
+same_asked_key t c a = λ j. if wants_durable a then Some (same_key_at t c (plain_answer a 0) j) else None
 
 same_key_taken : (t : List Entry) (c : ℕ) (a : AnAttach) (y : Answer) → key_taken t c a y ≡ key_taken (untaken t) c a y
-same_key_taken t c a (Attach own) = same_consumer_key t c a
+same_key_taken t c a (Attach own) = same_asked_key t c a
 same_key_taken t c a _ = refl
 
 same_key_by : (t : List Entry) (c : ℕ) (body : Perf) (y : Answer) → key_by t c body y ≡ key_by (untaken t) c body y
@@ -124,15 +124,18 @@ same_key_in : (t : List Entry) (c : ℕ) (i : Item) (y : Answer) → key_in t c 
 same_key_in t c (item.Frame sasl channel body payload) y = same_key_by t c body y
 same_key_in t c _ y = refl
 
+pub same_taken_key : (t : List Entry) (e : Event) (y : Answer) → taken_key t e y ≡ taken_key (untaken t) e y
+same_taken_key t (event.Item c i) y = same_key_in t c.0 i y
+same_taken_key t (event.Down c) y = refl
+same_taken_key t (event.Tick ms) y = refl
+same_taken_key t (event.Up c p) y = refl
+same_taken_key t event.Start y = refl
+
 pub same_resumed_key : (t : List Entry) (e : Event) (y : Answer) → resumed_key t e y ≡ resumed_key (untaken t) e y
-same_resumed_key t (event.Item c i) y = same_key_in t c.0 i y
-same_resumed_key t (event.Down c) y = refl
-same_resumed_key t (event.Tick ms) y = refl
-same_resumed_key t (event.Up c p) y = refl
-same_resumed_key t event.Start y = refl
+same_resumed_key t e y = ap (if_receives (attach_in e)) (same_taken_key t e y)
 
 same_map : (t : List Entry) (c own : ℕ) (a : AnAttach) → found_journal t ≡ found_journal (untaken t) → map_told t c a (Attach own) ≡ map_told (untaken t) c a (Attach own)
-same_map t c own a journal = λ j. map_for (journal j).book (Some a) (same_consumer_key t c a j)
+same_map t c own a journal = λ j. map_for (journal j).book (Some a) (same_asked_key t c a j)
 
 -- a whole delivery
 

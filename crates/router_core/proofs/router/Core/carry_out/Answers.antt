@@ -1,5 +1,6 @@
 use Rattle.std.proofs.Common.{◌≡◌, ◌∙◌, sym, ap, subst, ℕ, ◌+◌, List, []}
-use Rattle.std.specs.Prelude.{◌⊎◌, Option, Some, None, IfNone}
+use Rattle.std.specs.Prelude.{◌⊎◌, Option, Some, None, IfNone, Result, Ok, Err}
+use Rattle.core_machine.specs.declared.fault.CoreFault.{CoreFault}
 use Rattle.disk_core.specs.Disk.{LeavesOnly}
 use Rattle.book_model.specs.declared.act.Act.{Act}
 use Rattle.book_model.specs.Book.{effects}
@@ -79,3 +80,13 @@ returns-in-Err-clause-any_moment g c = λ t f taken stands.
     let run = subst (λ (s : Store _). Stands g.T.Twin.seen g.T.Twin.may_leave s → LeavesOnly g.T.Twin.moment g.T.Twin.left_since (twin_of s) (twin_of (store_of c.write.new.self))
     (λ contents. OpensTo contents (book_of s) ⊎ OpensTo contents (effects (book_of s) acts))) same c.write.ensures.any_moment stands in
     known_moment g.T.Twin.seen g.T.Twin.may_leave g.T.Twin.moment g.T.Twin.left_since core (twin_of (store_of c.write.new.self)) t e acts f (c.in-Ok.ensures.acts t f taken) run
+
+abbrev fault_of : {W : Type 0} → CoreFault → Result W CoreFault → CoreFault
+fault_of f (Ok w) = f
+fault_of f (Err x) = x
+
+-- another fault of the write is another one of the call
+pub returns-in-Err-clause-no_other : goal.returns-in-Err-clause-no_other
+returns-in-Err-clause-no_other g c = λ other.
+    c.write.ensures.no_other (λ is. other (ap (λ (f : CoreFault). Err f) (ap (fault_of c.in-Err.fault) (sym c.in-Err.is ∙ is))))
+    ∙ ap (λ (s : Store _). g.T.Twin.failures (twin_of s)) (ap store_of c.prepare.ensures.rest)

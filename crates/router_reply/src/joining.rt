@@ -1,0 +1,164 @@
+//! A resumed delivery of a producer that comes whole: the row that it joins.
+ghost use Rattle.std.specs.Prelude.{◌≡◌, ◌^◌, ◌-◌, List, option_map, IfOk};
+ghost use Rattle.std.specs.Option.{option_copied};
+ghost use Rattle.journal_store.specs.Acting.{is_among};
+ghost use Rattle.router_trace.specs.Trace.{Entry};
+ghost use Rattle.router_state.specs.Tables.{TablesFind};
+ghost use Rattle.router_reply.specs.Joining.{settled_again, settled_whole, named_row, row_joined, is_held_on, unless_held, settled_on_link, settled_by_transfer};
+
+use crate::deciding::add;
+use amqp_link::Delivery;
+use amqp_model::{DeliveryTag, Transfer};
+use book_core::Book;
+use book_model::{LinkKey, Row, RowNumber, Terminus};
+use reply_rows::Answer;
+use router_state::State;
+use std::alloc::{AllocError, Global};
+
+/// The first delivery-id of the upper half.
+const HALF: u32 = 2_147_483_648;
+
+/// The tag of the delivery to which a transfer belongs, if that is resumed and settled; `earlier` is what its earlier frames
+/// say, if there are some.
+fn settled_again<'a>(
+    transfer: &'a Transfer,
+    earlier: Option<&'a Delivery>,
+) -> Option<&'a DeliveryTag>
+    ensures { option_map (λ g. g.now.items) result ≡ settled_again transfer.now (option_map (λ d. d.now) earlier.entry) }
+{
+    match earlier {
+        None => {
+            if transfer.resume && transfer.settled {
+                return transfer.delivery_tag.as_ref();
+            }
+            None
+        }
+        Some(earlier) => {
+            if earlier.resume && (transfer.settled || earlier.settled) {
+                return earlier.tag.as_ref();
+            }
+            None
+        }
+    }
+}
+
+/// The same, if the transfer makes it whole.
+fn settled_whole<'a>(
+    transfer: &'a Transfer,
+    earlier: Option<&'a Delivery>,
+) -> Option<&'a DeliveryTag>
+    ensures { option_map (λ g. g.now.items) result ≡ settled_whole transfer.now (option_map (λ d. d.now) earlier.entry) }
+{
+    if transfer.more || transfer.aborted {
+        return None;
+    }
+    settled_again(transfer, earlier)
+}
+
+/// The unforgotten row of a terminus with this tag.
+fn named_row<'a>(book: &'a Book, terminus: Option<&Terminus>, tag: &DeliveryTag) -> Option<&'a Row>
+    ensures { option_copied result ≡ named_row (option_map (λ x. x.now) terminus.entry) tag.now.items book.now.rows }
+{
+    match terminus {
+        None => None,
+        Some(terminus) => book.row_named(terminus.number, tag),
+    }
+}
+
+/// The same of the terminus of the durable link with this key, if there is one, and the tag, if there is one.
+fn row_joined<'a>(
+    book: &'a Book,
+    key: Option<&LinkKey>,
+    tag: Option<&DeliveryTag>,
+) -> Option<&'a Row>
+    ensures { option_copied result ≡ row_joined book.now (option_map (λ k. k.now) key.entry) (option_map (λ g. g.now.items) tag.entry) }
+{
+    match key {
+        None => None,
+        Some(key) => match tag {
+            None => None,
+            Some(tag) => named_row(book, book.terminus_of(key), tag),
+        },
+    }
+}
+
+/// Whether a row is among these.
+fn is_among(row: RowNumber, rows: &[RowNumber]) -> bool
+    ensures { result ≡ is_among row.0 rows.now }
+{
+    for one in rows {
+        if *one == row {
+            return true;
+        }
+    }
+    false
+}
+
+/// Whether a row is that of an unsettled delivery on a session.
+fn is_held_on(state: &State, conn: u64, own: u16, row: RowNumber) -> Result<bool, AllocError>
+    ensures { IfOk result (λ held. (t : List Entry) → TablesFind state.now t → held ≡ is_held_on t conn own row.0) }
+{
+    let low = state.rows_from(conn, own, 0, HALF - 1)?;
+    let high = state.rows_from(conn, own, HALF, u32::MAX)?;
+    Ok(is_among(row, &low) || is_among(row, &high))
+}
+
+/// A row alone, if there is one that no unsettled delivery on the session has.
+fn unless_held(
+    state: &State,
+    conn: u64,
+    own: u16,
+    row: Option<&Row>,
+) -> Result<Vec<RowNumber>, AllocError>
+    ensures { IfOk result (λ rows. (t : List Entry) → TablesFind state.now t → rows.items ≡ unless_held t conn own (option_copied row.entry)) }
+{
+    let mut rows = Vec::new(state.alloc());
+    match row {
+        None => Ok(rows),
+        Some(row) => {
+            if !is_held_on(state, conn, own, row.number)? {
+                add(&mut rows, row.number)?;
+            }
+            Ok(rows)
+        }
+    }
+}
+
+/// The row that a transfer on the link on a handle of the router settles: that which its delivery joins, if it makes a settled one
+/// whole.
+fn settled_on_link(
+    state: &State,
+    book: &Book,
+    conn: u64,
+    own: u16,
+    handle: u32,
+    transfer: &Transfer,
+) -> Result<Vec<RowNumber>, AllocError>
+    ensures { IfOk result (λ rows. (t : List Entry) → TablesFind state.now t → rows.items ≡ settled_on_link book.now t conn own handle transfer.now) }
+{
+    let tag = settled_whole(transfer, state.middle(conn, own, transfer.handle));
+    let row = row_joined(book, state.durable_key(conn, own, handle), tag);
+    unless_held(state, conn, own, row)
+}
+
+/// The same of a transfer with this answer: one that isn't taken settles none.
+///
+/// # Errors
+///
+/// `AllocError` if memory was refused.
+pub(crate) fn settled_by_transfer(
+    state: &State,
+    book: &Book,
+    conn: u64,
+    transfer: &Transfer,
+    answer: &Answer,
+) -> Result<Vec<RowNumber>, AllocError>
+    ensures { IfOk result (λ rows. (t : List Entry) → TablesFind state.now t → rows.items ≡ settled_by_transfer book.now t conn transfer.now answer.now) }
+{
+    match answer {
+        Answer::Taken { own, handle } => {
+            settled_on_link(state, book, conn, *own, *handle, transfer)
+        }
+        _ => Ok(Vec::new(state.alloc())),
+    }
+}

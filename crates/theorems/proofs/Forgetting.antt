@@ -1,0 +1,336 @@
+-- What an event forgets of rows: none has a delivery that its producer isn't done with.
+use Rattle.std.proofs.Common.{◌≡◌, ◌∙◌, sym, ap, refl, subst, ℕ, Bool, true, false, not, ◌&&◌, ◌||◌, List, [], ◌∷◌, ◌++◌, append_assoc, ◌⊎◌, inl, inr}
+use Rattle.std.specs.Prelude.{◌==◌, Option, Some, None, map, filter, find, if◌then◌else◌}
+use Rattle.std.specs.Option.{option_and_then}
+use Rattle.std.proofs.lemmas.Bool.{eqb-true, eq-eqb}
+use Rattle.amqp_model.specs.declared.perf.Attach.{Attach as AnAttach}
+use Rattle.amqp_model.specs.declared.perf.Perf.TheVariants as perf
+use Rattle.amqp_model.specs.declared.perf.Role.{Role}
+use Rattle.amqp_model.specs.declared.perf.Role.TheVariants.{Sender, Receiver}
+use Rattle.amqp_model.specs.declared.perf.Transfer.{Transfer as ATransfer}
+use Rattle.amqp_model.specs.declared.state.UnsettledDelivery.{UnsettledDelivery}
+use Rattle.amqp_model.specs.declared.item.Item.{Item}
+use Rattle.amqp_model.specs.declared.item.Item.TheVariants as item
+use Rattle.book_model.specs.declared.row.Row.{Row as ARow}
+use Rattle.book_model.specs.declared.row.RowNumber.{RowNumber}
+use Rattle.book_model.specs.declared.terminus.LinkKey.{LinkKey}
+use Rattle.book_model.specs.declared.terminus.LinkRole.{LinkRole}
+use Rattle.book_model.specs.declared.terminus.LinkRole.TheVariants.{Producer, Consumer}
+use Rattle.book_model.specs.declared.terminus.Terminus.{Terminus}
+use Rattle.book_model.specs.declared.terminus.TerminusNumber.{TerminusNumber}
+use Rattle.book_model.specs.Book.{BookView, row_at, row_named, has_tag, terminus_at, terminus_of, is_from, is_for, is_for_by, is_of, same_role, same_bytes}
+use Rattle.book_core.specs.Rising.{Rises, AllAbove}
+use Rattle.gate_journal.specs.Ordered.{IsOrdered, number_of_row}
+use Rattle.journal_store.specs.Acting.{is_among}
+use Rattle.router_trace.specs.declared.binding.DeliveryName.TheVariants.{Row}
+use Rattle.router_trace.specs.declared.binding.Origin.{Origin}
+use Rattle.router_trace.specs.declared.event.Event.{Event}
+use Rattle.router_trace.specs.declared.event.Event.TheVariants as event
+use Rattle.router_trace.specs.Connection.{standing, found, due}
+use Rattle.router_trace.specs.Deliveries.{Delivery, source, delivery}
+use Rattle.router_trace.specs.Following.{link_of}
+use Rattle.router_trace.specs.LinkFrames.{other}
+use Rattle.router_trace.specs.Links.{way_of, link, link_place, holder, durable_key}
+use Rattle.router_trace.specs.Settling.{middle_on}
+use Rattle.router_trace.specs.declared.handle.Attachment.{Attachment}
+use Rattle.router_trace.specs.Trace.{Trace}
+use Rattle.state_deliveries.specs.declared.change.Change.{Change}
+use Rattle.state_deliveries.specs.declared.change.Change.TheVariants as change
+use Rattle.state_deliveries.specs.declared.change.Gone.TheVariants as gone
+use Rattle.state_deliveries.specs.Deciding.{changed_by}
+use Rattle.state_deliveries.specs.Hearing.{disposed_change}
+use Rattle.state_deliveries.specs.Stepping.{is_gone, changed}
+use Rattle.reply_rows.specs.declared.answer.Answer.{Answer}
+use Rattle.resume_core.specs.Resuming.{entries_of, is_forgotten_by, forgotten_rows}
+use Rattle.reply_rows.specs.declared.answer.Answer.TheVariants.{Attach, Detach, Taken}
+use Rattle.reply_rows.specs.Booking.{wanted_key, wants_durable, rows_of}
+use Rattle.router_reply.specs.Asking.{key_taken, forgotten_of, all_rows, forgotten_for, map_forgets}
+use Rattle.router_reply.specs.Deciding.{lost, listed, ended_by, stolen_from, session_found, event_changes, sent_by, sent_from, closed_terminus, item_forgets, forgotten as forgotten_at}
+use Rattle.router_reply.specs.Joining.{settled_whole, named_row, row_joined, is_held_on, unless_held, settled_by_transfer}
+use Rattle.theorems.proofs.Changing.{leaves_by}
+use Rattle.theorems.proofs.Decisions.{settled_is_done, among_rows, among_more, held_is}
+use Rattle.theorems.proofs.Facts.{FromTerminus, ForConsumer, Agrees}
+use Rattle.theorems.proofs.Looking.{none_above}
+use Rattle.theorems.proofs.Settling.{found_at_number, found_key}
+use Rattle.theorems.proofs.Standing.{Standing, one_place, holds_key}
+use Rattle.theorems.proofs.Tests.{some_same, none_not_some}
+use Rattle.theorems.proofs.Undecided.{ends_keep}
+
+clash : false ≡ true → ⊥
+clash e = cc
+
+-- what its producer isn't done with isn't forgotten
+
+changed_more : (xs ys : List Change) (d : Delivery) → changed_by (xs ++ ys) d ≡ changed_by ys (changed_by xs d)
+changed_more [] ys d = refl
+changed_more (x ∷ xs) ys d = changed_more xs ys (changed x d)
+
+-- what the book has of the producer of a row that it isn't done with
+abbrev pub IsFrom : Trace → BookView → Option ARow → Delivery → Type 0
+IsFrom t b None d = Unit {0}
+IsFrom t b (Some row) d = (p : Origin) → source d ≡ Some p → FromTerminus t b p row.producer.0 × ForConsumer b row.consumer
+
+pub is_from_one : (t : Trace) (b : BookView) (v : Option ARow) (d : Delivery) → Agrees t b v d → IsFrom t b v d
+is_from_one t b None d agrees = tt
+is_from_one t b (Some row) d agrees = λ p from. (agrees.from p from, agrees.consumer p from)
+
+-- a producer that isn't done with a row of a terminus has a durable link with the terminus' key
+key_of_row : (t : Trace) (b : BookView) (d : Delivery) (r : RowNumber) (key : LinkKey) (x : Terminus) → IsOrdered b → IsFrom t b (row_at r.0 b.rows) d → terminus_of key b.termini ≡ Some x
+    → (row : ARow) → row_at r.0 b.rows ≡ Some row → is_from x.number.0 row ≡ true → (p : Origin) → source d ≡ Some p → durable_key (link_of t p.link) ≡ Some key
+key_of_row t b d r key x ordered agrees found row there came p from =
+    let held : IsFrom t b (Some row) d = subst (λ (v : Option ARow). IsFrom t b v d) there agrees in
+    let at = (held p from).0 in
+    let same_number : at.at.number.0 ≡ x.number.0 = at.number ∙ eqb-true row.producer.0 x.number.0 came in
+    let one : at.at ≡ x = some_same (sym (found_at_number at.key b.termini at.at ordered.termini_rise at.found)
+    ∙ ap (λ (m : ℕ). terminus_at m b.termini) same_number ∙ found_at_number key b.termini x ordered.termini_rise found) in
+    let keys : at.key ≡ key = sym (found_key at.key b.termini at.at at.found) ∙ ap (λ (y : Terminus). y.key) one ∙ found_key key b.termini x found in
+    at.durable ∙ ap (λ (k : LinkKey). Some k) keys
+
+sent_by_key : (t : Trace) (b : BookView) (d : Delivery) (r : RowNumber) (key : LinkKey) (x : Terminus) → IsOrdered b → IsFrom t b (row_at r.0 b.rows) d → terminus_of key b.termini ≡ Some x
+    → (role : LinkRole) → is_among r.0 (sent_by b role x.number.0) ≡ true → (p : Origin) → source d ≡ Some p → durable_key (link_of t p.link) ≡ Some key
+sent_by_key t b d r key x ordered agrees found Consumer among p from = absurd (clash among)
+sent_by_key t b d r key x ordered agrees found Producer among p from =
+    let rows = among_rows r.0 (is_from x.number.0) b.rows ordered.rows_rise among in
+    key_of_row t b d r key x ordered agrees found rows.0 rows.1 rows.2 p from
+
+closed_is_done : (t : Trace) (b : BookView) (n : ℕ) (d : Delivery) (r : RowNumber) (c : ℕ) (answer : Answer) (first : List Change) (i : Item) → Standing t → IsOrdered b → IsFrom t b (row_at r.0 b.rows) d
+    → is_among r.0 (sent_from b (closed_terminus b t c answer)) ≡ true → (p : Origin) → source (changed_by (first ++ ended_by t c i answer) d) ≡ Some p → ⊥
+closed_is_done t b n d r c (Detach own handle true None) first i standing ordered agrees among p from =
+    by_key (durable_key (link t c own handle)) refl among
+  where
+    last : source (changed (change.Ends (gone.Link c own handle) true) (changed_by first d)) ≡ Some p
+    last = sym (ap source (changed_more first (ended_by t c i (Detach own handle true None)) d)) ∙ from
+
+    spared : is_gone (gone.Link c own handle) p.link ≡ false
+    spared = ends_keep true (is_gone (gone.Link c own handle)) (changed_by first d) p last
+
+    before : source d ≡ Some p
+    before = (leaves_by (first ++ ended_by t c i (Detach own handle true None)) d).comes p from
+
+    ended : (o h : ℕ) → p.link.conn.0 ≡ c → p.link.channel ≡ o → p.link.handle ≡ h → is_gone (gone.Link c o h) p.link ≡ true
+    ended o h e f g = rw (eq-eqb p.link.conn.0 c e, eq-eqb o p.link.channel (sym f), eq-eqb h p.link.handle (sym g)) refl
+
+    of_terminus : (key : LinkKey) (x : Terminus) → durable_key (link t c own handle) ≡ Some key → terminus_of key b.termini ≡ Some x → (role : LinkRole)
+        → is_among r.0 (sent_by b role x.number.0) ≡ true → ⊥
+    of_terminus key x durable found role among =
+        let place = one_place t standing p.link (record { number = 0; conn = record { 0 = c }; channel = own; handle = handle }) key
+        (sent_by_key t b d r key x ordered agrees found role among p before) durable in
+        clash (sym spared ∙ ended own handle place.0 place.1 place.2)
+
+    by_terminus : (key : LinkKey) (v : Option Terminus) → durable_key (link t c own handle) ≡ Some key → terminus_of key b.termini ≡ v → is_among r.0 (sent_from b v) ≡ true → ⊥
+    by_terminus key None durable found among = clash among
+    by_terminus key (Some x) durable found among = of_terminus key x durable found x.key.role among
+
+    by_key : (v : Option LinkKey) → durable_key (link t c own handle) ≡ v → is_among r.0 (sent_from b (option_and_then (λ key. terminus_of key b.termini) v)) ≡ true → ⊥
+    by_key None durable among = clash among
+    by_key (Some key) durable among = by_terminus key (terminus_of key b.termini) durable refl among
+closed_is_done t b n d r c (Detach own handle true (Some x)) first i standing ordered agrees among p from = clash among
+closed_is_done t b n d r c (Detach own handle false x) first i standing ordered agrees among p from = clash among
+closed_is_done t b n d r c _ first i standing ordered agrees among p from = clash among
+
+-- nor is a producer whose attach says so: its link takes the place of the older one
+
+among_fewer : (n : ℕ) (passes : ARow → Bool) (rs : List ARow) → is_among n (map (λ (r : ARow). r.number) (filter passes rs)) ≡ true → is_among n (map (λ (r : ARow). r.number) rs) ≡ true
+among_fewer n passes [] is = is
+among_fewer n passes (r ∷ rs) is = by (passes r) is (among_fewer n passes rs)
+  where
+    first : (e : Bool) → (e || is_among n (map (λ (r : ARow). r.number) (filter passes rs))) ≡ true
+        → (is_among n (map (λ (r : ARow). r.number) (filter passes rs)) ≡ true → is_among n (map (λ (r : ARow). r.number) rs) ≡ true)
+        → (e || is_among n (map (λ (r : ARow). r.number) rs)) ≡ true
+    first true is rest = refl
+    first false is rest = rest is
+
+    later : (e : Bool) → is_among n (map (λ (r : ARow). r.number) rs) ≡ true → (e || is_among n (map (λ (r : ARow). r.number) rs)) ≡ true
+    later true is = refl
+    later false is = is
+
+    by : (p : Bool) → is_among n (map (λ (r : ARow). r.number) (if p then r ∷ filter passes rs else filter passes rs)) ≡ true
+        → (is_among n (map (λ (r : ARow). r.number) (filter passes rs)) ≡ true → is_among n (map (λ (r : ARow). r.number) rs) ≡ true)
+        → ((r.number.0 == n) || is_among n (map (λ (r : ARow). r.number) rs)) ≡ true
+    by true is rest = first (r.number.0 == n) is rest
+    by false is rest = later (r.number.0 == n) (rest is)
+
+-- the row is one of the terminus: it came on its link, since no row is bound to a producer's
+forgotten_by_key : (t : Trace) (b : BookView) (d : Delivery) (r : RowNumber) (key : LinkKey) (x : Terminus) (complete : Bool) (theirs : List UnsettledDelivery) → IsOrdered b
+    → IsFrom t b (row_at r.0 b.rows) d → terminus_of key b.termini ≡ Some x → key.role ≡ Producer → is_among r.0 (forgotten_rows complete theirs (rows_of b x)) ≡ true
+    → (p : Origin) → source d ≡ Some p → durable_key (link_of t p.link) ≡ Some key
+forgotten_by_key t b d r key x complete theirs ordered agrees found produces among p from =
+    let rows = among_rows r.0 (is_of x.number.0) b.rows ordered.rows_rise (among_fewer r.0 (is_forgotten_by complete theirs) (filter (is_of x.number.0) b.rows) among) in
+    let held : IsFrom t b (Some rows.0) d = subst (λ (v : Option ARow). IsFrom t b v d) rows.1 agrees in
+    key_of_row t b d r key x ordered agrees found rows.0 rows.1 (came (is_from x.number.0 rows.0) (is_for x.number.0 rows.0) (unbound rows.0.consumer (held p from).1) rows.2) p from
+  where
+    there : terminus_at x.number.0 b.termini ≡ Some x
+    there = found_at_number key b.termini x ordered.termini_rise found
+
+    apart : (role : LinkRole) → role ≡ Producer → same_role role Consumer ≡ true → ⊥
+    apart Producer is same = clash same
+    apart Consumer is same = absurd cc
+
+    unbound : (v : Option TerminusNumber) → ForConsumer b v → is_for_by x.number.0 v ≡ true → ⊥
+    unbound None waits is = clash is
+    unbound (Some n) waits is =
+        apart x.key.role (ap (λ (k : LinkKey). k.role) (found_key key b.termini x found) ∙ produces)
+        (waits.1 x (subst (λ (m : ℕ). terminus_at m b.termini ≡ Some x) (sym (eqb-true n.0 x.number.0 is)) there))
+
+    came : (f g : Bool) → (g ≡ true → ⊥) → (f || g) ≡ true → f ≡ true
+    came true g none is = refl
+    came false g none is = absurd (none is)
+
+pub resumed_is_done : (t : Trace) (b : BookView) (d : Delivery) (r : RowNumber) (c channel : ℕ) (sasl : Bool) (a : AnAttach) (payload : List ℕ) (answer : Answer) (first : List Change) → Standing t → IsOrdered b
+    → IsFrom t b (row_at r.0 b.rows) d → is_among r.0 (forgotten_for b (Some a) (key_taken t c a answer)) ≡ true
+    → (p : Origin) → source (changed_by (first ++ ended_by t c (item.Frame sasl channel (perf.Attach a) payload) answer) d) ≡ Some p → ⊥
+resumed_is_done t b d r c channel sasl a payload (Attach own) first standing ordered agrees among p from = by_wish (wants_durable a) among
+  where
+    key : LinkKey
+    key = wanted_key t c a
+
+    ends : List Change
+    ends = stolen_from (holder t key)
+
+    before : source d ≡ Some p
+    before = (leaves_by (first ++ ends) d).comes p from
+
+    held : durable_key (link_of t p.link) ≡ Some key → ⊥
+    held durable =
+        let older = holds_key t standing p.link key durable in
+        let gone_link : Attachment → Bool = is_gone (gone.Link p.link.conn.0 p.link.channel p.link.handle) in
+        let only : Change = change.Ends (gone.Link p.link.conn.0 p.link.channel p.link.handle) false in
+        let last : source (changed only (changed_by first d)) ≡ Some p =
+        sym (ap source (changed_more first (only ∷ []) d)) ∙ sym (ap (λ (v : Option Attachment). source (changed_by (first ++ stolen_from v) d)) older.1) ∙ from in
+        let spared : gone_link p.link ≡ false = ends_keep false gone_link (changed_by first d) p last in
+        clash (sym spared ∙ rw (eq-eqb p.link.conn.0 p.link.conn.0 refl, eq-eqb p.link.channel p.link.channel refl, eq-eqb p.link.handle p.link.handle refl) refl)
+
+    complete : Bool
+    complete = not a.incomplete_unsettled
+
+    theirs : List UnsettledDelivery
+    theirs = entries_of a.unsettled
+
+    by_terminus : (v : Option Terminus) → terminus_of key b.termini ≡ v → a.role ≡ Sender → is_among r.0 (forgotten_rows complete theirs (all_rows b v)) ≡ true → ⊥
+    by_terminus None found is among = clash among
+    by_terminus (Some x) found is among = held (forgotten_by_key t b d r key x complete theirs ordered agrees found (ap (λ (w : Role). way_of (other w)) is) among p before)
+
+    by_role : (w : Role) → a.role ≡ w → is_among r.0 (forgotten_of w complete theirs (all_rows b (terminus_of key b.termini))) ≡ true → ⊥
+    by_role Sender is among = by_terminus (terminus_of key b.termini) refl is among
+    by_role Receiver is among = clash among
+
+    by_wish : (w : Bool) → is_among r.0 (forgotten_for b (Some a) (if w then Some key else None)) ≡ true → ⊥
+    by_wish true among = by_role a.role refl among
+    by_wish false among = clash among
+resumed_is_done t b d r c channel sasl a payload _ first standing ordered agrees among p from = clash among
+
+-- nor is one that resumes it by a settled delivery: no delivery on its session has the row
+
+named_there : (p : ARow → Bool) (rs : List ARow) (row : ARow) → Rises number_of_row rs → find p rs ≡ Some row → (p row ≡ true) × (row_at row.number.0 rs ≡ Some row)
+named_there p [] row up is = absurd (none_not_some is)
+named_there p (r ∷ rs) row up is = by (p r) refl is (named_there p rs row up.1)
+  where
+    apart : row_at row.number.0 rs ≡ Some row → (r.number.0 == row.number.0) ≡ false
+    apart there = test (r.number.0 == row.number.0) refl
+      where
+        test : (q : Bool) → (r.number.0 == row.number.0) ≡ q → q ≡ false
+        test false e = refl
+        test true e =
+            let none : row_at row.number.0 rs ≡ None =
+            none_above row.number.0 rs (let P : ℕ → Type 0 = λ m. AllAbove number_of_row m rs in subst P (eqb-true r.number.0 row.number.0 e) up.0) in
+            absurd (none_not_some (sym none ∙ there))
+
+    by : (q : Bool) → p r ≡ q → (if q then Some r else find p rs) ≡ Some row → (find p rs ≡ Some row → (p row ≡ true) × (row_at row.number.0 rs ≡ Some row))
+        → (p row ≡ true) × (row_at row.number.0 (r ∷ rs) ≡ Some row)
+    by true e is rest = subst (λ (v : ARow). (p v ≡ true) × (row_at v.number.0 (r ∷ rs) ≡ Some v)) (some_same is) (e, rw (eq-eqb r.number.0 r.number.0 refl) refl)
+    by false e is rest = let later = rest is in (later.0, rw (apart later.1) later.1)
+
+transfer_is_done : (t : Trace) (b : BookView) (n : ℕ) (d : Delivery) (r : RowNumber) (c : ℕ) (x : ATransfer) (answer : Answer) → Standing t → IsOrdered b → IsFrom t b (row_at r.0 b.rows) d
+    → delivery t n ≡ Some d → d.name ≡ Row r → is_among r.0 (settled_by_transfer b t c x answer) ≡ true → (p : Origin) → source d ≡ Some p → ⊥
+transfer_is_done t b n d r c x (Taken own handle) standing ordered agrees there name among p from =
+    by_key (durable_key (link t c own handle)) refl (settled_whole x (middle_on (link_place t c own x.handle))) among
+  where
+    one : (row : ARow) (m : ℕ) → ((row.number.0 == m) || false) ≡ true → row.number.0 ≡ m
+    one row m is = by (row.number.0 == m) refl is
+      where
+        by : (q : Bool) → (row.number.0 == m) ≡ q → (q || false) ≡ true → row.number.0 ≡ m
+        by true e is = eqb-true row.number.0 m e
+        by false e is = absurd (clash is)
+
+    by_place : (key : LinkKey) (y : Terminus) (row : ARow) → durable_key (link t c own handle) ≡ Some key → terminus_of key b.termini ≡ Some y → is_from y.number.0 row ≡ true
+        → row_at row.number.0 b.rows ≡ Some row → row.number.0 ≡ r.0 → is_held_on t c own r.0 ≡ true
+    by_place key y row durable found came stands same =
+        let at : row_at r.0 b.rows ≡ Some row = subst (λ (m : ℕ). row_at m b.rows ≡ Some row) same stands in
+        let place = one_place t standing p.link (record { number = 0; conn = record { 0 = c }; channel = own; handle = handle }) key
+        (key_of_row t b d r key y ordered agrees found row at came p from) durable in
+        held_is t n d r c own p there name from place.0 place.1
+
+    by_row : (key : LinkKey) (y : Terminus) (tag : List ℕ) → durable_key (link t c own handle) ≡ Some key → terminus_of key b.termini ≡ Some y
+        → (v : Option ARow) → row_named y.number.0 tag b.rows ≡ v → is_among r.0 (unless_held t c own v) ≡ true → ⊥
+    by_row key y tag durable found None named among = clash among
+    by_row key y tag durable found (Some row) named among = test (is_held_on t c own row.number.0) refl among
+      where
+        test : (q : Bool) → is_held_on t c own row.number.0 ≡ q → is_among r.0 (if q then [] else row.number ∷ []) ≡ true → ⊥
+        test true e among = clash among
+        test false e among =
+            let same : row.number.0 ≡ r.0 = one row r.0 among in
+            let at = named_there (has_tag y.number.0 tag) b.rows row ordered.rows_rise named in
+            clash (sym (subst (λ (m : ℕ). is_held_on t c own m ≡ false) same e) ∙ by_place key y row durable found (first (is_from y.number.0 row) (not row.forgotten) (same_bytes row.tag.items tag) at.0) at.1 same)
+          where
+            first : (f g h : Bool) → (f && g && h) ≡ true → f ≡ true
+            first true g h is = refl
+            first false true h is = is
+            first false false h is = is
+
+    by_terminus : (key : LinkKey) (v : Option Terminus) (tag : List ℕ) → durable_key (link t c own handle) ≡ Some key → terminus_of key b.termini ≡ v
+        → is_among r.0 (unless_held t c own (named_row v tag b.rows)) ≡ true → ⊥
+    by_terminus key None tag durable found among = clash among
+    by_terminus key (Some y) tag durable found among = by_row key y tag durable found (row_named y.number.0 tag b.rows) refl among
+
+    by_key : (v : Option LinkKey) → durable_key (link t c own handle) ≡ v → (tag : Option (List ℕ)) → is_among r.0 (unless_held t c own (row_joined b v tag)) ≡ true → ⊥
+    by_key None durable None among = clash among
+    by_key None durable (Some tag) among = clash among
+    by_key (Some key) durable None among = clash among
+    by_key (Some key) durable (Some tag) among = by_terminus key (terminus_of key b.termini) tag durable refl among
+transfer_is_done t b n d r c x _ standing ordered agrees there name among p from = clash among
+
+-- by an item
+item_is_done : (t : Trace) (b : BookView) (n : ℕ) (d : Delivery) (r : RowNumber) (e : Event) (answer : Answer) → Standing t → IsOrdered b → IsFrom t b (row_at r.0 b.rows) d
+    → delivery t n ≡ Some d → d.name ≡ Row r → is_among r.0 (item_forgets b t e answer) ≡ true → (p : Origin) → source (changed_by (event_changes t e answer) d) ≡ Some p → ⊥
+item_is_done t b n d r (event.Item c (item.Frame false channel (perf.Disposition x) payload)) answer standing ordered agrees there name among p from =
+    let i : Item = item.Frame false channel (perf.Disposition x) payload in
+    let heard : List Change = listed (disposed_change x.role c.0 (session_found t c i) x) in
+    settled_is_done t n d r c.0 (session_found t c i) x.role x (map lost (due t (event.Item c i)) ++ ended_by t c.0 i answer) there name among p
+    (ap (λ (zs : List Change). source (changed_by zs d)) (sym (append_assoc heard (map lost (due t (event.Item c i))) (ended_by t c.0 i answer))) ∙ from)
+item_is_done t b n d r (event.Item c (item.Frame false channel (perf.Detach x) payload)) answer standing ordered agrees there name among p from =
+    let i : Item = item.Frame false channel (perf.Detach x) payload in
+    closed_is_done t b n d r c.0 answer (map lost (due t (event.Item c i))) i standing ordered agrees among p from
+item_is_done t b n d r (event.Item c (item.Frame false channel (perf.Transfer x) payload)) answer standing ordered agrees there name among p from =
+    transfer_is_done t b n d r c.0 x answer standing ordered agrees there name among p
+    ((leaves_by (event_changes t (event.Item c (item.Frame false channel (perf.Transfer x) payload)) answer) d).comes p from)
+item_is_done t b n d r (event.Item c (item.Frame false channel _ payload)) answer standing ordered agrees there name among p from = clash among
+item_is_done t b n d r (event.Item c (item.Frame true channel body payload)) answer standing ordered agrees there name among p from = clash among
+item_is_done t b n d r (event.Item c _) answer standing ordered agrees there name among p from = clash among
+item_is_done t b n d r _ answer standing ordered agrees there name among p from = clash among
+
+-- by the map of an attach
+map_is_done : (t : Trace) (b : BookView) (d : Delivery) (r : RowNumber) (e : Event) (answer : Answer) → Standing t → IsOrdered b → IsFrom t b (row_at r.0 b.rows) d
+    → is_among r.0 (map_forgets b t e answer) ≡ true → (p : Origin) → source (changed_by (event_changes t e answer) d) ≡ Some p → ⊥
+map_is_done t b d r (event.Item c (item.Frame false channel (perf.Attach a) payload)) answer standing ordered agrees among p from =
+    resumed_is_done t b d r c.0 channel false a payload answer (map lost (due t (event.Item c (item.Frame false channel (perf.Attach a) payload)))) standing ordered agrees among p from
+map_is_done t b d r (event.Item c (item.Frame true channel (perf.Attach a) payload)) answer standing ordered agrees among p from =
+    resumed_is_done t b d r c.0 channel true a payload answer (map lost (due t (event.Item c (item.Frame true channel (perf.Attach a) payload)))) standing ordered agrees among p from
+map_is_done t b d r (event.Item c (item.Frame sasl channel _ payload)) answer standing ordered agrees among p from = clash among
+map_is_done t b d r (event.Item c _) answer standing ordered agrees among p from = clash among
+map_is_done t b d r _ answer standing ordered agrees among p from = clash among
+
+either_list : (n : ℕ) (xs ys : List RowNumber) → is_among n (xs ++ ys) ≡ true → (is_among n xs ≡ true) ⊎ (is_among n ys ≡ true)
+either_list n xs ys is = by (is_among n xs) refl (sym (among_more n xs ys) ∙ is)
+  where
+    by : (q : Bool) → is_among n xs ≡ q → (q || is_among n ys) ≡ true → (is_among n xs ≡ true) ⊎ (is_among n ys ≡ true)
+    by true e is = inl e
+    by false e is = inr is
+
+pub forgotten_is_done : (t : Trace) (b : BookView) (n : ℕ) (d : Delivery) (r : RowNumber) (e : Event) (answer : Answer) → Standing t → IsOrdered b → IsFrom t b (row_at r.0 b.rows) d
+    → delivery t n ≡ Some d → d.name ≡ Row r → is_among r.0 (forgotten_at b t e answer) ≡ true → (p : Origin) → source (changed_by (event_changes t e answer) d) ≡ Some p → ⊥
+forgotten_is_done t b n d r e answer standing ordered agrees there name among p from =
+    by (either_list r.0 (item_forgets b t e answer) (map_forgets b t e answer) among)
+  where
+    by : (is_among r.0 (item_forgets b t e answer) ≡ true) ⊎ (is_among r.0 (map_forgets b t e answer) ≡ true) → ⊥
+    by (inl is) = item_is_done t b n d r e answer standing ordered agrees there name is p from
+    by (inr is) = map_is_done t b d r e answer standing ordered agrees is p from
