@@ -20,7 +20,7 @@ class Peer:
         self.connection, self.transport, self.collector = Connection(), Transport(), Collector()
         self.connection.container = container
         self.got, self.parts, self.aborted, self.lost = {}, {}, 0, False
-        # what changes what is written, if anything does (maps.py), and what of that is still to be written
+        # what changes what is written and hears what comes, if anything does (maps.py), and what of that is still to be written
         self.maps, self.unwritten = None, b""
         if user:
             self.connection.user, self.connection.password = user, password
@@ -88,6 +88,8 @@ class Peer:
             if not data:
                 self.lose()
                 break
+            if self.maps:
+                self.maps.hear(data)
             self.transport.push(data)
         while event := self.collector.peek():
             self.on(event)

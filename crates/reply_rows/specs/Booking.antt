@@ -8,9 +8,8 @@ use Rattle.amqp_model.specs.declared.perf.Role.TheVariants.{Sender, Receiver}
 use Rattle.amqp_model.specs.declared.perf.Transfer.{Transfer as ATransfer}
 use Rattle.amqp_model.specs.declared.item.Item.{Item}
 use Rattle.amqp_model.specs.declared.item.Item.TheVariants as item
-use Rattle.amqp_model.specs.declared.state.UnsettledDelivery.{UnsettledDelivery}
 use Rattle.amqp_conn.specs.declared.conn.Conn.{Conn}
-use Rattle.book_model.specs.Book.{BookView, same_bytes, terminus_of, has_short_texts, row_named, is_of, is_for}
+use Rattle.book_model.specs.Book.{BookView, same_bytes, terminus_of, has_short_texts, row_named, is_of, is_from, is_for}
 use Rattle.book_model.specs.declared.row.Row.{Row}
 use Rattle.book_model.specs.declared.terminus.LinkKey.{LinkKey}
 use Rattle.book_model.specs.declared.terminus.Terminus.{Terminus}
@@ -21,8 +20,7 @@ use Rattle.router_trace.specs.Deliveries.{tag_in}
 use Rattle.router_trace.specs.Links.{address_by, key_at, link, link_place, free_handle, durable_key}
 use Rattle.router_trace.specs.Settling.{middle_on, uses_tag}
 use Rattle.router_trace.specs.declared.condition.Condition.{Condition}
-use Rattle.router_trace.specs.declared.condition.Condition.TheVariants.{NotAllowed, NotImplemented, ResourceLimitExceeded}
-use Rattle.resume_core.specs.Resuming.{entries_of, consumer_map}
+use Rattle.router_trace.specs.declared.condition.Condition.TheVariants.{NotAllowed, ResourceLimitExceeded}
 use Rattle.reply_rows.specs.Finding.{finds}
 use Rattle.reply_rows.specs.Rows.{item_reply}
 use Rattle.reply_rows.specs.declared.answer.Answer.{Answer}
@@ -46,34 +44,21 @@ new_terminus b key address = record { number = record { 0 = b.next_terminus }; k
 abbrev pub has_room : Bool → BookView → Terminus → Bool
 has_room full b x = not full && (nat_lt (length b.termini) 1024 && has_short_texts x)
 
--- a list has entries
-abbrev pub has_some : {A : Type 0} → List A → Bool
-has_some [] = false
-has_some (x ∷ xs) = true
-
 -- The rows of a terminus: those that came on its link, or are bound to it.
 abbrev pub rows_of : BookView → Terminus → List Row
 rows_of b x = filter (is_of x.number.0) b.rows
 
--- of these the ones that are bound to it
+-- of these the ones that came on its link
+abbrev pub sent_rows : BookView → Terminus → List Row
+sent_rows b x = filter (is_from x.number.0) (rows_of b x)
+
+-- ... and those that are bound to it
 abbrev pub bound_rows : BookView → Terminus → List Row
 bound_rows b x = filter (is_for x.number.0) (rows_of b x)
 
--- Not all that an attach may ask for is served yet (AMQP 1.0 part 2, section 2.6.13): a consumer's map that is incomplete, if
--- the router's map has entries.
-abbrev pub is_unserved : Role → BookView → Terminus → Bool → List UnsettledDelivery → Bool
-is_unserved Sender b x complete theirs = false
-is_unserved Receiver b x complete theirs = not complete && has_some (consumer_map theirs (bound_rows b x))
-
-abbrev pub attach_is_unserved : BookView → Terminus → AnAttach → Bool
-attach_is_unserved b x a = is_unserved a.role b x (not a.incomplete_unsettled) (entries_of a.unsettled)
-
-abbrev pub unless_unserved : Bool → Option Condition
-unless_unserved unserved = if unserved then Some NotImplemented else None
-
 -- A durable link is refused if its terminus has another address, or if there is no room for one.
 abbrev pub durable_refusal : BookView → Option Terminus → AnAttach → Bool → Option Condition
-durable_refusal b (Some x) a room = if same_bytes x.address (wanted_address a) then unless_unserved (attach_is_unserved b x a) else Some NotAllowed
+durable_refusal b (Some x) a room = if same_bytes x.address (wanted_address a) then None else Some NotAllowed
 durable_refusal b None a room = if room then None else Some ResourceLimitExceeded
 
 abbrev pub refusal_with : Bool → BookView → LinkKey → AnAttach → Option Condition

@@ -1,6 +1,6 @@
 -- The rows of the reply table for links: the router's answer, by what is on the frame's channel and handle (AMQP 1.0
 -- part 2, sections 2.6 and 2.7.3 to 2.7.7).
-use Rattle.std.specs.Prelude.{ℕ, ◌==◌, Bool, true, false, not, ◌&&◌, nat_lt, nat_le, nat_eq, if◌then◌else◌, List, [], ◌∷◌, length, Option, Some, None, is_none, is_some, option_map, bytes_eq}
+use Rattle.std.specs.Prelude.{ℕ, ◌==◌, ◌^◌, Bool, true, false, not, ◌&&◌, nat_lt, nat_le, nat_eq, if◌then◌else◌, List, [], ◌∷◌, length, Option, Some, None, is_none, is_some, option_map, bytes_eq}
 use Rattle.amqp_model.specs.declared.perf.Attach.{Attach as AnAttach}
 use Rattle.amqp_model.specs.declared.perf.Detach.{Detach as ADetach}
 use Rattle.amqp_model.specs.declared.perf.Disposition.{Disposition as ADisposition}
@@ -143,8 +143,13 @@ link_flow_reply own h (on handle l) f = flow_on own (TheirFlow (flow_state f) �
 -- A transfer: on a handle that stands for nothing, beyond the session's window, or on a link on which the router is the sender, it ends the
 -- session. A frame that starts a delivery without id or tag, or beyond the credit, detaches the link; with the id of a delivery that isn't
 -- settled yet it ends the session. A later frame with another id or tag detaches the link too. Any other is taken with its payload.
+-- (An id has 32 bits.)
+abbrev pub is_serial : Option ℕ → Bool
+is_serial None = false
+is_serial (Some id) = nat_lt id (2 ^ 32)
+
 abbrev pub is_anonymous : ATransfer → Bool
-is_anonymous x = if is_none x.delivery_id then true else is_none x.delivery_tag
+is_anonymous x = if is_serial x.delivery_id then is_none x.delivery_tag else true
 
 abbrev pub is_among : (ℕ → Bool) → Option ℕ → Bool
 is_among claimed None = false

@@ -4,7 +4,7 @@ ghost use Rattle.std.specs.Option.{option_copied};
 ghost use Rattle.router_trace.specs.Trace.{Entry};
 ghost use Rattle.router_trace.specs.LinkFrames.{other};
 ghost use Rattle.router_state.specs.Tables.{TablesFind};
-ghost use Rattle.reply_rows.specs.Booking.{wanted_key, wanted_address, wants_durable, new_terminus, has_room, has_some, attach_is_unserved, unless_unserved, durable_refusal, attach_unless, stands_from, repeats_tag, repeats, booked_transfer};
+ghost use Rattle.reply_rows.specs.Booking.{wanted_key, wanted_address, wants_durable, new_terminus, has_room, durable_refusal, attach_unless, stands_from, repeats_tag, repeats, booked_transfer};
 ghost use Rattle.router_trace.specs.Deliveries.{tag_in};
 ghost use Rattle.book_model.specs.Book.{terminus_of, same_bytes, is_short};
 
@@ -13,7 +13,6 @@ use crate::link_rows::LINK_TEXT;
 use amqp_model::{Attach, DeliveryTag, Role, Text, Transfer};
 use book_core::Book;
 use book_model::{LinkKey, LinkRole, Terminus};
-use resume_core::consumer_plan;
 use router_state::State;
 use router_trace::{Condition, is_durable};
 use state_links::address_by;
@@ -96,68 +95,16 @@ fn has_address(terminus: &Terminus, address: Option<&Text>) -> bool
     }
 }
 
-/// Why a link may not take up this terminus again, if it may not: its attach asks for what isn't served yet.
-fn unserved_refusal(
-    alloc: Global,
-    book: &Book,
-    terminus: &Terminus,
-    attach: &Attach,
-) -> Result<Option<Condition>, AllocError>
-    ensures { IfOk result (λ refusal. refusal ≡ unless_unserved (attach_is_unserved book.now terminus.now attach.now)) }
-{
-    let unsettled = attach.unsettled.as_ref();
-    let complete = !attach.incomplete_unsettled;
-    match attach.role {
-        Role::Sender => Ok(None),
-        Role::Receiver if complete => Ok(None),
-        Role::Receiver => {
-            let rows = book.rows_of(terminus.number);
-            let plan = consumer_plan(alloc, terminus.number, rows, unsettled, complete)?;
-            Ok(unless_unserved(has_some(&plan.map)))
-        }
-    }
-}
-
-/// Whether a list has entries.
-fn has_some<T>(list: &[T]) -> bool
-    ensures { result ≡ has_some list.now }
-{
-    !list.is_empty()
-}
-
-/// Why a link whose attach asks for what isn't served yet, if it does, is refused.
-fn unless_unserved(unserved: bool) -> Option<Condition>
-    ensures { result ≡ unless_unserved unserved }
-{
-    if unserved {
-        Some(Condition::NotImplemented)
-    } else {
-        None
-    }
-}
-
 /// Why a durable link is refused, by the terminus that its key has in the book, if it is.
-///
-/// # Errors
-///
-/// `AllocError` if memory was refused.
-pub fn durable_refusal(
-    alloc: Global,
-    book: &Book,
-    full: bool,
-    key: &LinkKey,
-    attach: &Attach,
-) -> Result<Option<Condition>, AllocError>
-    ensures { IfOk result (λ refusal. refusal ≡ durable_refusal book.now (terminus_of key.now book.now.termini) attach.now (has_room full book.now (new_terminus book.now key.now (wanted_address attach.now)))) }
+pub fn durable_refusal(book: &Book, full: bool, key: &LinkKey, attach: &Attach) -> Option<Condition>
+    ensures { result ≡ durable_refusal book.now (terminus_of key.now book.now.termini) attach.now (has_room full book.now (new_terminus book.now key.now (wanted_address attach.now))) }
 {
     let address = wanted_address(attach);
     match book.terminus_of(key) {
-        Some(terminus) if has_address(terminus, address) => unserved_refusal(
-            alloc, book, terminus, attach,
-        ),
-        Some(_) => Ok(Some(Condition::NotAllowed)),
-        None if !has_room(full, book, key, address) => Ok(Some(Condition::ResourceLimitExceeded)),
-        None => Ok(None),
+        Some(terminus) if has_address(terminus, address) => None,
+        Some(_) => Some(Condition::NotAllowed),
+        None if !has_room(full, book, key, address) => Some(Condition::ResourceLimitExceeded),
+        None => None,
     }
 }
 

@@ -8,7 +8,7 @@ ghost use Rattle.amqp_link.specs.Receiving.{Received, delivery_count, unused as 
 ghost use Rattle.router_trace.specs.Sessions.{flow_state};
 ghost use Rattle.amqp_session.specs.Figures.{window_of};
 ghost use Rattle.router_trace.specs.Links.{LinkPlace, found_link, receives, with_grant};
-ghost use Rattle.reply_rows.specs.LinkRows.{address_refusal, terminus_refusal, source_refusal, target_refusal, side_refusal, refusal, attach_fresh, session_attach_reply, session_detach_reply, detach_for, link_echo, sender_echo, flow_on, link_flow_reply, is_among, start_on, is_same_id, is_same_tag, continue_on, delivery_on, session_transfer_reply, session_disposition_reply};
+ghost use Rattle.reply_rows.specs.LinkRows.{address_refusal, terminus_refusal, source_refusal, target_refusal, side_refusal, refusal, attach_fresh, session_attach_reply, session_detach_reply, detach_for, link_echo, sender_echo, flow_on, link_flow_reply, is_among, is_serial, start_on, is_same_id, is_same_tag, continue_on, delivery_on, session_transfer_reply, session_disposition_reply};
 ghost use Rattle.reply_rows.specs.declared.answer.Answer.TheVariants as answers;
 ghost use Rattle.router_trace.specs.declared.condition.Condition.TheVariants.{NotAllowed};
 ghost use Rattle.router_trace.specs.Deliveries.{terminal};
@@ -329,6 +329,16 @@ fn delivery_on(
     }
 }
 
+/// Whether a transfer has an id.
+fn has_serial(id: Option<u32>) -> bool
+    ensures { result ≡ is_serial id }
+{
+    match id {
+        None => false,
+        Some(_) => true,
+    }
+}
+
 /// The answer to a transfer that starts a delivery.
 fn start_on(
     own: u16,
@@ -340,7 +350,7 @@ fn start_on(
 ) -> Answer
     ensures { (ids : ℕ → Bool) → claimed ≡ is_among ids transfer.now.delivery_id → result ≡ start_on own handle durable unused ids transfer.now }
 {
-    if transfer.delivery_id.is_none() || transfer.delivery_tag.is_none() {
+    if !has_serial(transfer.delivery_id) || transfer.delivery_tag.is_none() {
         return detach_for(own, handle, durable, Condition::NotAllowed);
     }
     if claimed {

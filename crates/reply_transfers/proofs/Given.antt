@@ -1,19 +1,22 @@
 -- What a transfer that is taken makes of its delivery, for the link on which it was received.
-use Rattle.std.proofs.Common.{◌≡◌, ℕ, Bool, true, false, refl, sym, ap, subst, List, Option, Some, None}
+use Rattle.std.proofs.Common.{◌≡◌, ℕ, Bool, true, false, refl, sym, ap, subst, List, Option, Some, None, ◌∷◌}
 use Rattle.std.specs.Prelude.{if◌then◌else◌, option_map, unwrap_or, is_some}
 use Rattle.amqp_model.specs.declared.item.Item.{Item}
 use Rattle.amqp_link.specs.declared.part.Delivery.{Delivery as Told}
+use Rattle.book_model.specs.Book.{BookView}
+use Rattle.book_model.specs.declared.row.Row.{Row}
 use Rattle.book_model.specs.declared.row.RowNumber.{RowNumber}
 use Rattle.router_trace.specs.declared.binding.Binding.{Binding}
 use Rattle.router_trace.specs.declared.handle.Attachment.{Attachment}
-use Rattle.router_trace.specs.Trace.{Trace, puts}
+use Rattle.router_trace.specs.Trace.{Trace, Bound, puts}
 use Rattle.router_trace.specs.Links.{Link, link}
 use Rattle.router_trace.specs.Following.{link_of}
 use Rattle.router_trace.specs.declared.binding.Origin.{Origin}
 use Rattle.state_messages.specs.Messages.{consumer_of, binding_to, binding_for, standing_at, with_bound}
 use Rattle.router_state.specs.declared.tables.State.{State}
 use Rattle.router_state.specs.Tables.{TablesFit}
-use Rattle.reply_transfers.specs.Transfers.{claimed_id, from_link, fresh_bound, ignored_put, lasts_on, may_pass, origin_of, released, unbound_put, consumer_for, whole_bound, whole_put}
+use Rattle.reply_transfers.specs.Joining.{row_under}
+use Rattle.reply_transfers.specs.Transfers.{claimed_id, from_link, fresh_bound, ignored_put, join_from, joined_if, joined_on, lasts_on, may_pass, origin_of, released, resumed_bound, resumed_put, unbound_put, unless_joined, consumer_for, whole_bound, whole_put}
 
 -- what is put and bound for a delivery that isn't resumed, by whether it may be bound
 abbrev fresh_put : Trace → ℕ → ℕ → ℕ → Told → Bool → List Item
@@ -84,24 +87,64 @@ linkless_given s t c own handle d row payload claimed id gone fit =
     nobody true = none_of
     nobody false = refl
 
--- a resumed one binds nothing
-pub resumed_given : (s : State) (t : Trace) (c own handle : ℕ) (d : Told) (row : Option RowNumber) (payload : List ℕ) (claimed : Option ℕ) → d.resume ≡ true
-    → claimed ≡ claimed_id t c own handle d.id → TablesFit s (puts c (ignored_put t c own handle claimed) t)
-    → TablesFit s (puts c (whole_put t c own handle d row) (with_bound (whole_bound t c own handle d row payload) t))
-resumed_given s t c own handle d row payload claimed resumed id fit =
-    subst (λ (b : Bool). TablesFit s (puts c (if b then ignored_put t c own handle (claimed_id t c own handle d.id)
+-- a resumed delivery joins a row, if its link is attached
+pub joined_nowhere : (s : State) (t : Trace) (c own handle id : ℕ) (r : Row) (v : Option Link) → None ≡ option_map (standing_at c own handle) v
+    → TablesFit s t → TablesFit s (with_bound (joined_on t c own handle id r v) t)
+joined_nowhere s t c own handle id r None gone fit = fit
+joined_nowhere s t c own handle id r (Some l) gone fit = absurd cc
+
+pub joined_here : (s : State) (t : Trace) (c own handle id : ℕ) (r : Row) (v : Option Link) (from : Attachment) → Some from ≡ option_map (standing_at c own handle) v
+    → TablesFit s (Bound (join_from t from id r) ∷ t) → TablesFit s (with_bound (joined_on t c own handle id r v) t)
+joined_here s t c own handle id r None from stands fit = absurd cc
+joined_here s t c own handle id r (Some l) from stands fit =
+    subst (λ (a : Attachment). TablesFit s (Bound (join_from t a id r) ∷ t)) (is stands) fit
+  where
+    is : Some from ≡ Some (from_link c own handle l) → from ≡ from_link c own handle l
+    is e = cc
+
+-- a resumed delivery that its producer hasn't settled, by the row that it finds
+abbrev resumed_by : BookView → Trace → ℕ → ℕ → ℕ → Option ℕ → Trace
+resumed_by b t c own handle claimed = puts c (resumed_put b t c own handle claimed) (with_bound (resumed_bound b t c own handle claimed (link t c own handle)) t)
+
+abbrev resumed_with : Trace → ℕ → ℕ → ℕ → ℕ → Option Row → Trace
+resumed_with t c own handle id v = puts c (unless_joined v (ignored_put t c own handle (Some id))) (with_bound (joined_if t c own handle id v (link t c own handle)) t)
+
+pub settled_given : (s : State) (b : BookView) (t : Trace) (c own handle : ℕ) (claimed : Option ℕ) → claimed ≡ None → TablesFit s t
+    → TablesFit s (resumed_by b t c own handle claimed)
+settled_given s b t c own handle claimed none fit = subst (λ (q : Option ℕ). TablesFit s (resumed_by b t c own handle q)) (sym none) fit
+
+pub ignored_given : (s : State) (b : BookView) (t : Trace) (c own handle id : ℕ) (claimed : Option ℕ) → claimed ≡ Some id → row_under b t c own id ≡ None
+    → TablesFit s (puts c (ignored_put t c own handle (Some id)) t) → TablesFit s (resumed_by b t c own handle claimed)
+ignored_given s b t c own handle id claimed some none fit =
+    subst (λ (q : Option ℕ). TablesFit s (resumed_by b t c own handle q)) (sym some)
+    (subst (λ (v : Option Row). TablesFit s (resumed_with t c own handle id v)) (sym none) fit)
+
+pub joined_given : (s : State) (b : BookView) (t : Trace) (c own handle id : ℕ) (claimed : Option ℕ) (r : Row) → claimed ≡ Some id → row_under b t c own id ≡ Some r
+    → TablesFit s (with_bound (joined_on t c own handle id r (link t c own handle)) t) → TablesFit s (resumed_by b t c own handle claimed)
+joined_given s b t c own handle id claimed r some row fit =
+    subst (λ (q : Option ℕ). TablesFit s (resumed_by b t c own handle q)) (sym some)
+    (subst (λ (v : Option Row). TablesFit s (resumed_with t c own handle id v)) (sym row) fit)
+
+-- a whole delivery that is resumed
+pub resumed_given : (s : State) (b : BookView) (t : Trace) (c own handle : ℕ) (d : Told) (row : Option RowNumber) (payload : List ℕ) (claimed : Option ℕ) → d.resume ≡ true
+    → claimed ≡ claimed_id t c own handle d.id → TablesFit s (resumed_by b t c own handle claimed)
+    → TablesFit s (puts c (whole_put b t c own handle d row) (with_bound (whole_bound b t c own handle d row payload) t))
+resumed_given s b t c own handle d row payload claimed resumed id fit =
+    subst (λ (q : Bool). TablesFit s (puts c (if q then resumed_put b t c own handle (claimed_id t c own handle d.id)
     else unbound_put t c own handle (claimed_id t c own handle d.id) (consumer_for t c own handle d row))
-    (with_bound (if b then None else fresh_bound t c own handle d row payload (link t c own handle)) t))) (sym resumed)
-    (subst (λ (q : Option ℕ). TablesFit s (puts c (ignored_put t c own handle q) t)) id fit)
+    (with_bound (if q then resumed_bound b t c own handle (claimed_id t c own handle d.id) (link t c own handle)
+    else fresh_bound t c own handle d row payload (link t c own handle)) t))) (sym resumed)
+    (subst (λ (q : Option ℕ). TablesFit s (resumed_by b t c own handle q)) id fit)
 
 -- any other is bound or released
-pub anew_given : (s : State) (t : Trace) (c own handle : ℕ) (d : Told) (row : Option RowNumber) (payload : List ℕ) → d.resume ≡ false
+pub anew_given : (s : State) (b : BookView) (t : Trace) (c own handle : ℕ) (d : Told) (row : Option RowNumber) (payload : List ℕ) → d.resume ≡ false
     → TablesFit s (puts c (unbound_put t c own handle (claimed_id t c own handle d.id) (consumer_for t c own handle d row)) (with_bound (fresh_bound t c own handle d row payload (link t c own handle)) t))
-    → TablesFit s (puts c (whole_put t c own handle d row) (with_bound (whole_bound t c own handle d row payload) t))
-anew_given s t c own handle d row payload anew fit =
-    subst (λ (b : Bool). TablesFit s (puts c (if b then ignored_put t c own handle (claimed_id t c own handle d.id)
+    → TablesFit s (puts c (whole_put b t c own handle d row) (with_bound (whole_bound b t c own handle d row payload) t))
+anew_given s b t c own handle d row payload anew fit =
+    subst (λ (q : Bool). TablesFit s (puts c (if q then resumed_put b t c own handle (claimed_id t c own handle d.id)
     else unbound_put t c own handle (claimed_id t c own handle d.id) (consumer_for t c own handle d row))
-    (with_bound (if b then None else fresh_bound t c own handle d row payload (link t c own handle)) t))) (sym anew) fit
+    (with_bound (if q then resumed_bound b t c own handle (claimed_id t c own handle d.id) (link t c own handle)
+    else fresh_bound t c own handle d row payload (link t c own handle)) t))) (sym anew) fit
 
 -- one for which no consumer is chosen is released
 pub released_given : (found left : State) (t : Trace) (from : Attachment) (claimed : Option ℕ) (row : Option RowNumber) (format : ℕ) (payload : List ℕ) (origin : Option Origin)

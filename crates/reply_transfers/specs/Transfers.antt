@@ -11,6 +11,8 @@ use Rattle.amqp_link.specs.declared.part.Part.{Part}
 use Rattle.amqp_link.specs.declared.part.Part.TheVariants as part
 use Rattle.amqp_model.specs.declared.item.Item.{Item}
 use Rattle.amqp_model.specs.declared.item.Item.TheVariants as item
+use Rattle.book_model.specs.Book.{BookView}
+use Rattle.book_model.specs.declared.row.Row.{Row}
 use Rattle.book_model.specs.declared.row.RowNumber.{RowNumber}
 use Rattle.router_trace.specs.declared.condition.Condition.{Condition}
 use Rattle.router_trace.specs.declared.condition.Condition.TheVariants.{ResourceLimitExceeded, MessageSizeExceeded}
@@ -19,11 +21,13 @@ use Rattle.router_trace.specs.Connection.{conn}
 use Rattle.router_trace.specs.declared.binding.Binding.{Binding}
 use Rattle.router_trace.specs.declared.binding.Origin.{Origin}
 use Rattle.router_trace.specs.declared.handle.Attachment.{Attachment}
+use Rattle.router_trace.specs.Deliveries.{joined_by}
 use Rattle.router_trace.specs.DeliveryFrames.{outcome_item}
 use Rattle.router_trace.specs.Settling.{unbound, is_claimed_on}
 use Rattle.router_trace.specs.LinkFrames.{detach_item}
 use Rattle.router_trace.specs.Links.{Link, link, durable_key}
 use Rattle.state_messages.specs.Messages.{binding_for, consumer_of, with_bound}
+use Rattle.reply_transfers.specs.Joining.{row_under}
 
 -- The deliveries that a disposition decides without settling are answered, each settled, with the outcome as the router keeps it.
 abbrev pub settled_answers : ℕ → Option DeliveryState → List ℕ → List Item
@@ -44,10 +48,10 @@ abbrev pub claimed_id : Trace → ℕ → ℕ → ℕ → Option ℕ → Option 
 claimed_id after c own handle None = None
 claimed_id after c own handle (Some id) = if is_claimed_on after c own handle id then Some id else None
 
--- A whole delivery, after the event. A resumed one is ignored, as the router knows none of its deliveries. Another is bound to a consumer of its
--- address; if none is chosen, it is released, or dropped if its producer has settled it. On a durable link one that its producer hasn't settled
--- is bound only if it has a row in the book; else it is released, and its producer settles it. A link has at most 1,024 deliveries that were
--- ignored, or released in this way, and that their producer has yet to settle.
+-- A whole delivery, after the event and by the book after the event's acts. A resumed one that its producer hasn't settled joins its row, if it has one;
+-- any other resumed one is ignored. One that isn't resumed is bound to a consumer of its address; if none is chosen, it is released, or dropped if its
+-- producer has settled it. On a durable link one that its producer hasn't settled is bound only if it has a row in the book; else it is released, and its
+-- producer settles it. A link has at most 1,024 deliveries that were ignored, or released in this way, and that their producer has yet to settle.
 abbrev pub from_link : ℕ → ℕ → ℕ → Link → Attachment
 from_link c own handle l = record { number = l.number; conn = record { 0 = c }; channel = own; handle = handle }
 
@@ -72,8 +76,30 @@ fresh_bound after c own handle d row payload (Some l) =
     then binding_for after (from_link c own handle l) (option_map (origin_of (from_link c own handle l)) (claimed_id after c own handle d.id)) row (unwrap_or d.format 0) payload
     else None
 
-abbrev pub whole_bound : Trace → ℕ → ℕ → ℕ → Told → Option RowNumber → List ℕ → Option Binding
-whole_bound after c own handle d row payload = if d.resume then None else fresh_bound after c own handle d row payload (link after c own handle)
+-- the row that a resumed delivery joins, by its id, if its producer hasn't settled it; from now on the row's outcome is reported to it
+abbrev pub row_resumed : BookView → Trace → ℕ → ℕ → Option ℕ → Option Row
+row_resumed b after c own None = None
+row_resumed b after c own (Some id) = row_under b after c own id
+
+abbrev pub join_from : Trace → Attachment → ℕ → Row → Binding
+join_from after from id r = joined_by after (origin_of from id) r.number r.outcome
+
+abbrev pub joined_on : Trace → ℕ → ℕ → ℕ → ℕ → Row → Option Link → Option Binding
+joined_on after c own handle id r None = None
+joined_on after c own handle id r (Some l) = Some (join_from after (from_link c own handle l) id r)
+
+abbrev pub joined_if : Trace → ℕ → ℕ → ℕ → ℕ → Option Row → Option Link → Option Binding
+joined_if after c own handle id None l = None
+joined_if after c own handle id (Some r) l = joined_on after c own handle id r l
+
+abbrev pub resumed_bound : BookView → Trace → ℕ → ℕ → ℕ → Option ℕ → Option Link → Option Binding
+resumed_bound b after c own handle None l = None
+resumed_bound b after c own handle (Some id) l = joined_if after c own handle id (row_under b after c own id) l
+
+abbrev pub whole_bound : BookView → Trace → ℕ → ℕ → ℕ → Told → Option RowNumber → List ℕ → Option Binding
+whole_bound b after c own handle d row payload =
+    if d.resume then resumed_bound b after c own handle (claimed_id after c own handle d.id) (link after c own handle)
+    else fresh_bound after c own handle d row payload (link after c own handle)
 
 -- a detach for too many deliveries, or for one that is too large: it closes the link unless the link is durable
 abbrev pub let_go : Trace → ℕ → ℕ → ℕ → Condition → List Item
@@ -85,6 +111,14 @@ unless_many after c own handle items = if nat_lt 1024 (unbound after c own handl
 abbrev pub ignored_put : Trace → ℕ → ℕ → ℕ → Option ℕ → List Item
 ignored_put after c own handle None = []
 ignored_put after c own handle (Some id) = unless_many after c own handle []
+
+-- nothing is put for one that joins a row
+abbrev pub unless_joined : Option Row → List Item → List Item
+unless_joined None items = items
+unless_joined (Some r) items = []
+
+abbrev pub resumed_put : BookView → Trace → ℕ → ℕ → ℕ → Option ℕ → List Item
+resumed_put b after c own handle claimed = unless_joined (row_resumed b after c own claimed) (ignored_put after c own handle claimed)
 
 abbrev pub released_by : Trace → ℕ → ℕ → ℕ → Bool → ℕ → List Item
 released_by after c own handle false id = outcome_item own Receiver id true state.Released ∷ []
@@ -98,21 +132,21 @@ abbrev pub unbound_put : Trace → ℕ → ℕ → ℕ → Option ℕ → Option
 unbound_put after c own handle id None = released after c own handle id
 unbound_put after c own handle id (Some consumer) = []
 
-abbrev pub whole_put : Trace → ℕ → ℕ → ℕ → Told → Option RowNumber → List Item
-whole_put after c own handle d row =
-    if d.resume then ignored_put after c own handle (claimed_id after c own handle d.id)
+abbrev pub whole_put : BookView → Trace → ℕ → ℕ → ℕ → Told → Option RowNumber → List Item
+whole_put b after c own handle d row =
+    if d.resume then resumed_put b after c own handle (claimed_id after c own handle d.id)
     else unbound_put after c own handle (claimed_id after c own handle d.id) (consumer_for after c own handle d row)
 
 -- what is put for a transfer that is taken: for a whole delivery, one that is too large, or nothing yet
-abbrev pub part_put : Trace → ℕ → ℕ → ℕ → Option RowNumber → Option Part → List Item
-part_put after c own handle row (Some (part.Whole d payload)) = whole_put after c own handle d row
-part_put after c own handle row (Some part.TooLarge) = let_go after c own handle MessageSizeExceeded
-part_put after c own handle row _ = []
+abbrev pub part_put : BookView → Trace → ℕ → ℕ → ℕ → Option RowNumber → Option Part → List Item
+part_put b after c own handle row (Some (part.Whole d payload)) = whole_put b after c own handle d row
+part_put b after c own handle row (Some part.TooLarge) = let_go after c own handle MessageSizeExceeded
+part_put b after c own handle row _ = []
 
-abbrev pub part_bound : Trace → ℕ → ℕ → ℕ → Option RowNumber → Option Part → Option Binding
-part_bound after c own handle row (Some (part.Whole d payload)) = whole_bound after c own handle d row payload
-part_bound after c own handle row _ = None
+abbrev pub part_bound : BookView → Trace → ℕ → ℕ → ℕ → Option RowNumber → Option Part → Option Binding
+part_bound b after c own handle row (Some (part.Whole d payload)) = whole_bound b after c own handle d row payload
+part_bound b after c own handle row _ = None
 
 -- the trace after a transfer that is taken is handled, bound and answered; and all that an answer to an item does
-abbrev pub given_after : Trace → ℕ → ℕ → ℕ → Option RowNumber → Option Part → Trace
-given_after after c own handle row part = puts c (part_put after c own handle row part) (with_bound (part_bound after c own handle row part) after)
+abbrev pub given_after : BookView → Trace → ℕ → ℕ → ℕ → Option RowNumber → Option Part → Trace
+given_after b after c own handle row part = puts c (part_put b after c own handle row part) (with_bound (part_bound b after c own handle row part) after)

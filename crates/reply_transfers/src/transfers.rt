@@ -9,11 +9,13 @@ ghost use Rattle.router_trace.specs.DeliveryFrames.{outcome_item};
 ghost use Rattle.state_messages.specs.Messages.{with_bound, binding_for, consumer_of};
 ghost use Rattle.router_trace.specs.Following.{link_of};
 ghost use Rattle.router_state.specs.Tables.{TablesFit};
-ghost use Rattle.reply_transfers.specs.Transfers.{claimed_id, origin_of, may_pass, let_go, released_by, released, ignored_put, unbound_put, consumer_for, whole_put, whole_bound, fresh_bound, part_put, part_bound, settled_answers, disposition_in, disposition_of};
+ghost use Rattle.reply_transfers.specs.Transfers.{claimed_id, from_link, origin_of, may_pass, let_go, released_by, released, ignored_put, joined_on, resumed_put, resumed_bound, unbound_put, consumer_for, whole_put, whole_bound, fresh_bound, part_put, part_bound, settled_answers, disposition_in, disposition_of};
 
+use crate::joining::row_under;
 use amqp_link::{Delivery, Part};
 use amqp_model::{DeliveryState, Disposition, Item, Perf, Role};
-use book_model::RowNumber;
+use book_core::Book;
+use book_model::{Row, RowNumber};
 use bytes::Bytes;
 use reply_frames::outcome_item;
 use router_state::State;
@@ -244,10 +246,53 @@ fn pass_fresh(
     Ok(())
 }
 
-/// A whole delivery: a resumed one is ignored.
+/// A resumed delivery joins a row: from now on the row's outcome is reported to it.
+fn join(
+    state: &mut State,
+    conn: u64,
+    own: u16,
+    handle: u32,
+    delivery: u32,
+    row: &Row,
+) -> Result<(), AllocError>
+    ensures { OnOk result ((t : List Entry) → TablesFit state.old t → TablesFit state.new (with_bound (joined_on t conn own handle delivery row.now (link t conn own handle)) t)) }
+{
+    match state.attachment(conn, own, handle) {
+        None => Ok(()),
+        Some(link) => {
+            let origin = Origin { link, id: delivery };
+            state.join(origin, row.number, row.outcome.as_ref())
+        }
+    }
+}
+
+/// A whole delivery that is resumed: it joins its row, if its producer hasn't settled it and it has one; else it is ignored.
+fn pass_resumed(
+    state: &mut State,
+    id: &RouterId,
+    book: &Book,
+    conn: u64,
+    own: u16,
+    handle: u32,
+    claimed: Option<u32>,
+) -> Result<(), AllocError>
+    ensures { OnOk result ((t : List Entry) → TablesFit state.old t → TablesFit state.new (puts conn (resumed_put book.now t conn own handle claimed)
+        (with_bound (resumed_bound book.now t conn own handle claimed (link t conn own handle)) t))) }
+{
+    let Some(delivery) = claimed else {
+        return Ok(());
+    };
+    match row_under(state, book, conn, own, delivery) {
+        None => ignore(state, id, conn, own, handle, claimed),
+        Some(row) => join(state, conn, own, handle, delivery, row),
+    }
+}
+
+/// A whole delivery: one that is resumed joins its row or is ignored.
 fn pass_whole(
     state: &mut State,
     id: &RouterId,
+    book: &Book,
     conn: u64,
     own: u16,
     handle: u32,
@@ -255,36 +300,39 @@ fn pass_whole(
     row: Option<RowNumber>,
     payload: Bytes,
 ) -> Result<(), AllocError>
-    ensures { OnOk result ((t : List Entry) → TablesFit state.old t → TablesFit state.new (puts conn (whole_put t conn own handle delivery.now row)
-        (with_bound (whole_bound t conn own handle delivery.now row payload) t))) }
+    ensures { OnOk result ((t : List Entry) → TablesFit state.old t → TablesFit state.new (puts conn (whole_put book.now t conn own handle delivery.now row)
+        (with_bound (whole_bound book.now t conn own handle delivery.now row payload) t))) }
 {
     if delivery.resume {
+        drop(payload);
         let claimed = claimed_id(state, conn, own, handle, delivery.id);
-        ignore(state, id, conn, own, handle, claimed)?;
+        pass_resumed(state, id, book, conn, own, handle, claimed)?;
         return Ok(());
     }
     pass_fresh(state, id, conn, own, handle, delivery, row, payload)?;
     Ok(())
 }
 
-/// Handles what a transfer that is taken makes of its delivery: a whole delivery is bound to a consumer of its address, with its row if it has one, or
-/// released, or ignored; one that is too large detaches its link (AMQP 1.0 part 2, sections 2.6.12, 2.7.3 and 2.7.5).
+/// Handles what a transfer that is taken makes of its delivery, by the book after the event's acts: a whole delivery is bound to a consumer of its
+/// address, with its row if it has one, or released; one that is resumed joins its row, or is ignored; one that is too large detaches its link (AMQP
+/// 1.0 part 2, sections 2.6.12, 2.6.13, 2.7.3 and 2.7.5).
 pub fn take_part(
     state: &mut State,
     id: &RouterId,
+    book: &Book,
     conn: u64,
     own: u16,
     handle: u32,
     row: Option<RowNumber>,
     part: Option<Part>,
 ) -> Result<(), AllocError>
-    ensures { OnOk result ((t : List Entry) → TablesFit state.old t → TablesFit state.new (puts conn (part_put t conn own handle row part)
-        (with_bound (part_bound t conn own handle row part) t))) }
+    ensures { OnOk result ((t : List Entry) → TablesFit state.old t → TablesFit state.new (puts conn (part_put book.now t conn own handle row part)
+        (with_bound (part_bound book.now t conn own handle row part) t))) }
 {
     match part {
         None => {}
         Some(Part::Whole(delivery, payload)) => {
-            pass_whole(state, id, conn, own, handle, &delivery, row, payload)?;
+            pass_whole(state, id, book, conn, own, handle, &delivery, row, payload)?;
         }
         Some(Part::TooLarge) => {
             let_go(state, id, conn, own, handle, Condition::MessageSizeExceeded)?;

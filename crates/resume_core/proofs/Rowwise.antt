@@ -9,6 +9,13 @@ pub one_kept : {X Y : Type 0} (give : X → Y) (test : X → Bool) (x : X) (xs :
     → map give (filter test (x ∷ xs)) ≡ map give (filter test (x ∷ [])) ++ map give (filter test xs)
 one_kept give test x xs = ap (map give) (filter-append test (x ∷ []) xs) ∙ map-append give (filter test (x ∷ [])) (filter test xs)
 
+pub one_kept_of : {X Y : Type 0} (give : X → Y) (test wanted : X → Bool) (x : X) (xs : List X)
+    → map give (filter test (filter wanted (x ∷ xs))) ≡ map give (filter test (filter wanted (x ∷ []))) ++ map give (filter test (filter wanted xs))
+one_kept_of give test wanted x xs =
+    ap (λ ys. map give (filter test ys)) (filter-append wanted (x ∷ []) xs)
+    ∙ ap (map give) (filter-append test (filter wanted (x ∷ [])) (filter wanted xs))
+    ∙ map-append give (filter test (filter wanted (x ∷ []))) (filter test (filter wanted xs))
+
 pub one_given : {X Y : Type 0} (give : X → Option Y) (x : X) (xs : List X)
     → filter_map give (x ∷ xs) ≡ filter_map give (x ∷ []) ++ filter_map give xs
 one_given give x xs = filter_map-append give (x ∷ []) xs

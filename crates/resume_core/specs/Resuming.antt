@@ -13,7 +13,7 @@ use Rattle.router_trace.specs.declared.binding.DeliveryName.TheVariants as name
 use Rattle.router_trace.specs.Deliveries.{tag_of, terminal}
 use Rattle.router_trace.specs.DeliveryFrames.{kept_outcome}
 use Rattle.router_trace.specs.declared.binding.Resumed.{Resumed}
-use Rattle.router_trace.specs.declared.binding.Resumed.TheVariants.{Settled, Again, Anew}
+use Rattle.router_trace.specs.declared.binding.Resumed.TheVariants.{Settled, Again, Anew, Kept}
 use Rattle.resume_core.specs.declared.consumer.Sending.{Sending}
 
 -- The peer's map.
@@ -132,13 +132,13 @@ abbrev pub is_listed : List UnsettledDelivery → Row → Bool
 is_listed theirs r = is_some (consumer_entry theirs r)
 
 -- How a row is sent: by whether the map is complete, whether it has the row, and the row's outcome after the attach. Of a row that an
--- incomplete map lacks nothing is known, so it isn't sent.
+-- incomplete map lacks nothing is known, so it is kept and not sent.
 abbrev pub resumed_as : Bool → Bool → Option DeliveryState → Option Resumed
 resumed_as complete true (Some outcome) = Some (Settled outcome)
 resumed_as complete true None = Some Again
 resumed_as complete false (Some outcome) = None
 resumed_as true false None = Some Anew
-resumed_as false false None = None
+resumed_as false false None = Some Kept
 
 -- how the attach has a row sent
 abbrev pub sent_as : Bool → List UnsettledDelivery → Row → Option Resumed

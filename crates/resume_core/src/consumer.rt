@@ -200,7 +200,7 @@ fn resumed_as(
         (true, None) => Ok(Some(Resumed::Again)),
         (false, Some(_)) => Ok(None),
         (false, None) if complete => Ok(Some(Resumed::Anew)),
-        (false, None) => Ok(None),
+        (false, None) => Ok(Some(Resumed::Kept)),
     }
 }
 

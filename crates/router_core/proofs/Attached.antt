@@ -10,6 +10,8 @@ use Rattle.amqp_model.specs.declared.item.Item.{Item}
 use Rattle.amqp_link.specs.declared.part.Delivery.{Delivery as Told}
 use Rattle.amqp_link.specs.declared.part.Part.{Part}
 use Rattle.amqp_link.specs.declared.part.Part.TheVariants as part
+use Rattle.book_model.specs.Book.{BookView}
+use Rattle.book_model.specs.declared.row.Row.{Row}
 use Rattle.book_model.specs.declared.row.RowNumber.{RowNumber}
 use Rattle.router_trace.specs.declared.condition.Condition.{Condition}
 use Rattle.router_trace.specs.declared.condition.Condition.TheVariants.{FrameSizeTooSmall, ResourceLimitExceeded, MessageSizeExceeded}
@@ -23,7 +25,7 @@ use Rattle.router_trace.specs.Links.{link, if_attached, last_of_key, free_handle
 use Rattle.router_trace.specs.Order.{unwritten, of_session, has_turn}
 use Rattle.router_trace.specs.Peers.{largest_frame}
 use Rattle.router_trace.specs.Settling.{unbound}
-use Rattle.reply_transfers.specs.Transfers.{claimed_id, lasts_on, consumer_for, let_go, unless_many, ignored_put, released_by, unbound_put, part_put, settled_answers}
+use Rattle.reply_transfers.specs.Transfers.{claimed_id, lasts_on, consumer_for, let_go, unless_many, ignored_put, row_resumed, unless_joined, resumed_put, released_by, unbound_put, part_put, settled_answers}
 use Rattle.router_reply.specs.Replies.{stolen_by, with_map, attach_answer, taken, refused}
 use Rattle.state_connections.proofs.Lists.{by_test}
 use Rattle.router_core.proofs.Flowing.{AllFit, IsQuiet, fit_both}
@@ -97,6 +99,11 @@ ignored_fit : (t after : List Entry) (c own handle : ℕ) (q : Option ℕ) → h
 ignored_fit t after c own handle None known begun = tt
 ignored_fit t after c own handle (Some id) known begun = many_fit t after c own handle [] known begun tt
 
+resumed_fit : (t after : List Entry) (c own handle : ℕ) (q : Option ℕ) (r : Option Row) → has c (ups t) ≡ true → of_session (wrote t c) own ≡ true
+    → AllFit t (each_to c (unless_joined r (ignored_put after c own handle q)))
+resumed_fit t after c own handle q None known begun = ignored_fit t after c own handle q known begun
+resumed_fit t after c own handle q (Some r) known begun = tt
+
 released_fit : (t after : List Entry) (c own handle : ℕ) (durable : Bool) (id : ℕ) → has c (ups t) ≡ true → of_session (wrote t c) own ≡ true
     → AllFit t (each_to c (released_by after c own handle durable id))
 released_fit t after c own handle false id known begun = (record { known = known; turn = begun; quiet = tt }, tt)
@@ -109,19 +116,19 @@ unbound_fit t after c own handle None None known begun = tt
 unbound_fit t after c own handle (Some id) None known begun = released_fit t after c own handle (lasts_on (link after c own handle)) id known begun
 unbound_fit t after c own handle q (Some consumer) known begun = tt
 
-pub part_fit : (t after : List Entry) (c own handle : ℕ) (row : Option RowNumber) (q : Option Part) → Ordered t → of_session (wrote t c) own ≡ true
-    → AllFit t (each_to c (part_put after c own handle row q))
-part_fit t after c own handle row q ord begun = by q
+pub part_fit : (b : BookView) (t after : List Entry) (c own handle : ℕ) (row : Option RowNumber) (q : Option Part) → Ordered t → of_session (wrote t c) own ≡ true
+    → AllFit t (each_to c (part_put b after c own handle row q))
+part_fit b t after c own handle row q ord begun = by q
   where
     known : has c (ups t) ≡ true
     known = session_known t c own ord begun
 
-    whole : (b : Bool) (d : Told) → AllFit t (each_to c (if b then ignored_put after c own handle (claimed_id after c own handle d.id)
+    whole : (resumed : Bool) (d : Told) → AllFit t (each_to c (if resumed then resumed_put b after c own handle (claimed_id after c own handle d.id)
         else unbound_put after c own handle (claimed_id after c own handle d.id) (consumer_for after c own handle d row)))
-    whole true d = ignored_fit t after c own handle (claimed_id after c own handle d.id) known begun
+    whole true d = resumed_fit t after c own handle (claimed_id after c own handle d.id) (row_resumed b after c own (claimed_id after c own handle d.id)) known begun
     whole false d = unbound_fit t after c own handle (claimed_id after c own handle d.id) (consumer_for after c own handle d row) known begun
 
-    by : (q : Option Part) → AllFit t (each_to c (part_put after c own handle row q))
+    by : (q : Option Part) → AllFit t (each_to c (part_put b after c own handle row q))
     by (Some (part.Whole d payload)) = whole d.resume d
     by (Some part.TooLarge) = gone_fit t after c own handle MessageSizeExceeded known begun
     by _ = tt

@@ -15,6 +15,7 @@ use Rattle.amqp_link.specs.declared.part.Delivery.{Delivery as Told}
 use Rattle.amqp_link.specs.declared.part.Part.{Part}
 use Rattle.amqp_link.specs.declared.part.Part.TheVariants as part
 use Rattle.amqp_session.specs.Session.{Session}
+use Rattle.book_model.specs.declared.row.Row.{Row}
 use Rattle.book_model.specs.declared.row.RowNumber.{RowNumber}
 use Rattle.book_model.specs.Book.{BookView}
 use Rattle.router_trace.specs.declared.condition.Condition.{Condition}
@@ -40,8 +41,8 @@ use Rattle.reply_rows.specs.declared.answer.Answer.TheVariants.{Nothing, Header,
 use Rattle.reply_rows.specs.Rows.{Finds, said, item_reply}
 use Rattle.reply_rows.specs.Finding.{finds}
 use Rattle.reply_rows.specs.Booking.{repeats, booked_transfer}
-use Rattle.router_reply.specs.Acts.{answer_of, found_journal}
-use Rattle.reply_transfers.specs.Transfers.{claimed_id, lasts_on, consumer_for, let_go, unless_many, ignored_put, released_by, unbound_put, part_put, settled_answers}
+use Rattle.router_reply.specs.Acts.{answer_of, book_in, found_journal}
+use Rattle.reply_transfers.specs.Transfers.{claimed_id, lasts_on, consumer_for, let_go, unless_many, ignored_put, row_resumed, unless_joined, resumed_put, released_by, unbound_put, part_put, settled_answers}
 use Rattle.router_reply.specs.Replies.{closing_of, row_found, links_put, item_row, own_row}
 use Rattle.router_core.specs.Attaches.{is_attach_in, is_attach, brings_attach}
 use Rattle.state_connections.proofs.Lists.{by_test, filter_none}
@@ -94,6 +95,10 @@ less_ignored : (after : List Entry) (c own handle : ℕ) (q : Option ℕ) → At
 less_ignored after c own handle None = tt
 less_ignored after c own handle (Some id) = less_many after c own handle [] tt
 
+less_resumed : (after : List Entry) (c own handle : ℕ) (q : Option ℕ) (r : Option Row) → Attachless (each_to c (unless_joined r (ignored_put after c own handle q)))
+less_resumed after c own handle q None = less_ignored after c own handle q
+less_resumed after c own handle q (Some r) = tt
+
 less_released : (after : List Entry) (c own handle : ℕ) (durable : Bool) (id : ℕ) → Attachless (each_to c (released_by after c own handle durable id))
 less_released after c own handle false id = (refl, tt)
 less_released after c own handle true id = less_many after c own handle (outcome_item own Receiver id false state.Released ∷ []) (refl, tt)
@@ -103,15 +108,15 @@ less_unbound after c own handle None None = tt
 less_unbound after c own handle (Some id) None = less_released after c own handle (lasts_on (link after c own handle)) id
 less_unbound after c own handle q (Some consumer) = tt
 
-pub less_part : (after : List Entry) (c own handle : ℕ) (row : Option RowNumber) (q : Option Part) → Attachless (each_to c (part_put after c own handle row q))
-less_part after c own handle row q = by q
+pub less_part : (b : BookView) (after : List Entry) (c own handle : ℕ) (row : Option RowNumber) (q : Option Part) → Attachless (each_to c (part_put b after c own handle row q))
+less_part b after c own handle row q = by q
   where
-    whole : (b : Bool) (d : Told) → Attachless (each_to c (if b then ignored_put after c own handle (claimed_id after c own handle d.id)
+    whole : (resumed : Bool) (d : Told) → Attachless (each_to c (if resumed then resumed_put b after c own handle (claimed_id after c own handle d.id)
         else unbound_put after c own handle (claimed_id after c own handle d.id) (consumer_for after c own handle d row)))
-    whole true d = less_ignored after c own handle (claimed_id after c own handle d.id)
+    whole true d = less_resumed after c own handle (claimed_id after c own handle d.id) (row_resumed b after c own (claimed_id after c own handle d.id))
     whole false d = less_unbound after c own handle (claimed_id after c own handle d.id) (consumer_for after c own handle d row)
 
-    by : (q : Option Part) → Attachless (each_to c (part_put after c own handle row q))
+    by : (q : Option Part) → Attachless (each_to c (part_put b after c own handle row q))
     by (Some (part.Whole d payload)) = whole d.resume d
     by (Some part.TooLarge) = less_gone after c own handle MessageSizeExceeded
     by _ = tt
@@ -193,7 +198,7 @@ no_links t after c (item.Frame sasl channel body payload) a unlinked unnamed non
     part_none x own false = no_part x payload (their_handle t c own x.handle) (link t c own) (unlinked own)
 
     transfer : (x : Transfer) (a : Answer) → links_put t after c (item.Frame sasl channel (perf.Transfer x) payload) a ≡ []
-    transfer x (Taken own handle) = ap (λ (q : Option Part). each_to c (part_put after c own handle (row_found t) q)) (part_none x own sasl)
+    transfer x (Taken own handle) = ap (λ (q : Option Part). each_to c (part_put (book_in t) after c own handle (row_found t) q)) (part_none x own sasl)
     transfer x _ = refl
 
     disposition : (x : ADisposition) (a : Answer) → links_put t after c (item.Frame sasl channel (perf.Disposition x) payload) a ≡ []
@@ -243,7 +248,7 @@ less_links : (t after : List Entry) (c : ℕ) (i : Item) (a : Answer) → is_att
 less_links t after c (item.Frame sasl channel body payload) a none = by body none
   where
     transfer : (x : Transfer) (a : Answer) → Attachless (links_put t after c (item.Frame sasl channel (perf.Transfer x) payload) a)
-    transfer x (Taken own handle) = less_part after c own handle (row_found t) _
+    transfer x (Taken own handle) = less_part (book_in t) after c own handle (row_found t) _
     transfer x _ = tt
 
     disposition : (x : ADisposition) (a : Answer) → Attachless (links_put t after c (item.Frame sasl channel (perf.Disposition x) payload) a)

@@ -12,9 +12,10 @@ use Rattle.router_trace.specs.LinkFrames.{link_flow_item}
 use Rattle.router_trace.specs.Links.{Link, Happened, sends, receives, link, numbered, attachments}
 use Rattle.router_trace.specs.Sessions.{session}
 use Rattle.router_trace.specs.Following.{link_of}
+use Rattle.state_links.specs.Looking.{numbered_link}
 use Rattle.state_messages.specs.declared.grant.LinkGrant.{LinkGrant}
 use Rattle.state_messages.specs.Figures.{figure}
-use Rattle.state_messages.specs.Messages.{pool_of, grant_by, grant_on, grant_at, grants_on, wants, lowest_below, grants_of_address, grants, grant_flow, grant_flows, grants_due}
+use Rattle.state_messages.specs.Messages.{pool_of, grant_by, grant_on, grant_at, grants_on, wants, lowest_below, grants_of_address, lent, owes_some, owed, or_owed, grants, grant_flow, grant_flows, grants_due}
 
 pub record IsGrant (t : List Entry) (p : Put) : Type 0 where
   pub own : ℕ
@@ -52,7 +53,7 @@ stands_if t gs false stand = tt
 stands_on : (t : List Entry) (number : ℕ) (a : Attachment) (amount : ℕ) (v : Option Link) → (is_some v ≡ true → Stands t a) → AllStand t (grant_on number a amount v)
 stands_on t number a amount None stands = tt
 stands_on t number a amount (Some l) stands =
-    stands_if t (grant_by a amount l.happened) (l.number == number) (stands_by t a amount l.happened (stands refl))
+    stands_if t (grant_by a (l.owes_due + amount) l.happened) (l.number == number) (stands_by t a (l.owes_due + amount) l.happened (stands refl))
 
 stands_at : (t : List Entry) (number amount : ℕ) (v : Option Attachment) → AllStand t (grant_at t number amount v)
 stands_at t number amount None = tt
@@ -66,9 +67,20 @@ all_of_address : (t : List Entry) (v : Option (List ℕ)) → AllStand t (grants
 all_of_address t None = tt
 all_of_address t (Some address) = all_on t (grants_of (pool_of t address))
 
+lent_stand : (t : List Entry) → AllStand t (lent t)
+unfolding lent
+lent_stand t = all_of_address t (lowest_below (attachments t + 1) (λ n. wants t (figure t n)))
+
+owed_stand : (t : List Entry) → AllStand t (owed t)
+owed_stand t =
+    stands_if t (grant_at t (attachments t) 0 (numbered t (attachments t))) (owes_some (numbered_link t (attachments t))) (stands_at t (attachments t) 0 (numbered t (attachments t)))
+
+or_stand : (t : List Entry) (gs : List LinkGrant) → AllStand t gs → AllStand t (or_owed t gs)
+or_stand t [] stand = owed_stand t
+or_stand t (g ∷ gs) stand = stand
+
 all_stand : (t : List Entry) → AllStand t (grants t)
-unfolding grants
-all_stand t = all_of_address t (lowest_below (attachments t + 1) (λ n. wants t (figure t n)))
+all_stand t = or_stand t (lent t) (lent_stand t)
 
 -- the flows that carry them
 

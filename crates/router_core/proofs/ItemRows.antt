@@ -21,13 +21,14 @@ use Rattle.reply_rows.specs.declared.answer.Answer.{Answer}
 use Rattle.reply_rows.specs.declared.answer.Answer.TheVariants.{Attach, Refuse, Taken, Settle}
 use Rattle.reply_rows.specs.Rows.{said}
 use Rattle.reply_transfers.specs.Transfers.{part_put, settled_answers}
+use Rattle.router_reply.specs.Acts.{book_in}
 use Rattle.router_reply.specs.Replies.{taken, refused, row_found, map_told, item_put}
 
 pub item_cases : (id : List ℕ) (t after : List Entry) (c : ℕ) (p : Conn) (P : Answer → List Put → Type 0)
     → ((a : Answer) → P a (each_to c (said id p a)))
     → ((own : ℕ) (ours : List UnsettledDelivery) (x : AnAttach) → P (Attach own) (taken after c own ours x))
     → ((own handle : ℕ) (e : Condition) (x : AnAttach) → P (Refuse own handle e) (each_to c (refused (largest_frame after c) own handle e x)))
-    → ((own handle : ℕ) (row : Option RowNumber) (q : Option Part) → P (Taken own handle) (each_to c (part_put after c own handle row q)))
+    → ((own handle : ℕ) (row : Option RowNumber) (q : Option Part) → P (Taken own handle) (each_to c (part_put (book_in t) after c own handle row q)))
     → ((own : ℕ) (s : Option DeliveryState) (ids : List ℕ) → P (Settle own) (each_to c (settled_answers own s ids)))
     → (i : Item) (a : Answer) → P a (item_put id t after c p i a)
 item_cases id t after c p P none takes refuses carries settles i a = by_item i a

@@ -30,7 +30,7 @@ use Rattle.router_trace.specs.Following.{tells, sends_due, drains_due}
 use Rattle.state_sessions.specs.Windows.{windows}
 use Rattle.state_messages.specs.Messages.{grants_due, with_bound}
 use Rattle.reply_rows.specs.Rows.{said}
-use Rattle.router_reply.specs.Acts.{answer_of}
+use Rattle.router_reply.specs.Acts.{answer_of, book_in}
 use Rattle.router_reply.specs.Resuming.{resumed}
 use Rattle.router_reply.specs.Replies.{closing_of, ends, heard, stolen_by, with_map, attach_answer, taken_after, taken, refused, bound_by, item_row, own_row, replied}
 use Rattle.router_core.specs.Replies.{answered}
@@ -207,7 +207,7 @@ item_lively id t d i was =
     (λ a. goes_lively (each_to d.0 (said id here.view.phase a)) v before (less_steady _ v (less_said id d.0 here.view.phase a)))
     (λ own ours x. goes_lively (taken u d.0 own ours x) v before (taken_steady u v d.0 own ours x there))
     (λ own handle f x. goes_lively _ v before (refused_steady v (largest_frame u d.0) d.0 own handle f x there))
-    (λ own handle row p. goes_lively _ v before (less_steady _ v (less_part u d.0 own handle row p)))
+    (λ own handle row p. goes_lively _ v before (less_steady _ v (less_part (book_in t) u d.0 own handle row p)))
     (λ own s ids. goes_lively _ v before (less_steady _ v (less_settled d.0 own s ids)))
     i (answer_of t d.0 here.view.phase i)))
     (λ q. subst (λ (s : Option Conn). Lively (goes (item_row id t u d.0 i s) v)) (sym (nothing_stands (standing (found t (event.Item d i) d.0)) q)) before)

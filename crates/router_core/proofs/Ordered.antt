@@ -22,7 +22,7 @@ use Rattle.router_trace.specs.Sessions.{session, offered, begun, after_item, unl
 use Rattle.router_trace.specs.Sessions.{after_perf as session_after_perf}
 use Rattle.router_trace.specs.Clocks.{terms}
 use Rattle.router_trace.specs.Links.{link}
-use Rattle.router_trace.specs.Deliveries.{named, stands_on}
+use Rattle.router_trace.specs.Deliveries.{named, origin_of, stands_on}
 use Rattle.router_trace.specs.Claims.{Claim, bind_claim, bound_claim, claims}
 use Rattle.router_trace.specs.Order.{Written, unwritten, begun_after_perf, begun_after, written_after, is_open, of_session, perf_has_turn, has_turn, have_turns}
 use Rattle.state_messages.specs.Messages.{with_bound}
@@ -250,7 +250,7 @@ bound_spares (Some b) t k = record {
   terms = refl;
   link = λ o h. refl;
   named = λ o id. refl;
-  claims = λ o id none. none_bound b.origin k o id (claims t k o id) none;
+  claims = λ o id none. none_bound (origin_of b.kind) k o id (claims t k o id) none;
 }
 
 -- items for other connections

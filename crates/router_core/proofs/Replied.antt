@@ -25,7 +25,7 @@ use Rattle.router_state.specs.Tables.{beats}
 use Rattle.state_messages.specs.Messages.{with_bound}
 use Rattle.reply_rows.specs.declared.answer.Answer.{Answer}
 use Rattle.reply_rows.specs.Rows.{said}
-use Rattle.router_reply.specs.Acts.{answer_of}
+use Rattle.router_reply.specs.Acts.{answer_of, book_in}
 use Rattle.reply_transfers.specs.Transfers.{part_put, settled_answers}
 use Rattle.router_reply.specs.Resuming.{resumed}
 use Rattle.router_reply.specs.Replies.{heard, taken, refused, bound_by, item_row, own_row, replied}
@@ -128,7 +128,7 @@ row_turns id t d i ord here heard_ord there =
     v_there)
     (λ own ours x fits. goes_turns (taken u c own ours x) v v_ord (fit_bound bound u (taken u c own ours x) (taken_fit u c own ours x heard_ord (before own fits))))
     (λ own handle f x fits. goes_turns (each_to c (refused (largest_frame u c) own handle f x)) v v_ord (refused_fit v (largest_frame u c) c own handle f x v_ord (on own fits)))
-    (λ own handle row q fits. goes_turns (each_to c (part_put u c own handle row q)) v v_ord (part_fit v u c own handle row q v_ord (on own fits)))
+    (λ own handle row q fits. goes_turns (each_to c (part_put (book_in t) u c own handle row q)) v v_ord (part_fit (book_in t) v u c own handle row q v_ord (on own fits)))
     (λ own s ids fits. goes_turns (each_to c (settled_answers own s ids)) v v_ord (settled_fit v c own s ids v_ord (on own fits)))
     i a all)
   where

@@ -10,7 +10,7 @@ ghost use Rattle.router_trace.specs.Connection.{conn as known, is_ready, is_live
 ghost use Rattle.state_connections.specs.Fits.{IsLeast};
 ghost use Rattle.book_model.specs.Book.{effects};
 ghost use Rattle.twin_journal.specs.Room.{room};
-ghost use Rattle.router_reply.specs.Acts.{planned_acts, event_answer, acts_of, book_after_event, booked, finds_full, journaled};
+ghost use Rattle.router_reply.specs.Acts.{planned_acts, event_answer, acts_of, book_after_event, book_in, booked, finds_full, journaled};
 ghost use Rattle.router_reply.specs.Admitting.{admits, event_admission, without_acts};
 ghost use Rattle.router_reply.specs.Heard.{IsHeard};
 ghost use Rattle.router_reply.specs.Replies.{row_found};
@@ -555,7 +555,7 @@ impl<T: Twin> Core<T> {
         ready: &mut Ready,
         row: Option<RowNumber>,
     ) -> Result<(), AllocError>
-        ensures tables { OnOk result ((t : List Entry) → IsReady (state_of self.old) t event ready.old → row ≡ row_found t
+        ensures tables { OnOk result ((t : List Entry) → IsReady (state_of self.old) t event ready.old → kept_book self.old ≡ book_in t → row ≡ row_found t
             → TablesFit (state_of self.new) (answered (id_of self.old) t (step_of event))) }
         ensures started { OnOk result (self.new.started ≡ true) }
         ensures counted { OnOk result (counts_of self.new ≡ with_event event (counts_of self.old)) }
@@ -568,7 +568,14 @@ impl<T: Twin> Core<T> {
             drop(event);
             return Err(AllocError);
         };
-        reply_to(&mut self.state, &self.id, event, ready, row)?;
+        reply_to(
+            &mut self.state,
+            &self.id,
+            self.store.book(),
+            event,
+            ready,
+            row,
+        )?;
         self.counts = counts;
         self.started = true;
         Ok(())
@@ -703,22 +710,24 @@ impl<T: CrashTwin> Core<T> {
     }
 }
 
-/// The reply to an event that was handled; then the rows that its attach takes up are bound, and last comes what
-/// follows.
+/// The reply to an event that was handled, by the book after its acts; then the rows that its attach takes up are bound,
+/// and last comes what follows.
 fn reply_to(
     state: &mut State,
     id: &RouterId,
+    book: &Book,
     event: Event,
     ready: &mut Ready,
     row: Option<RowNumber>,
 ) -> Result<(), AllocError>
-    ensures { OnOk result ((t : List Entry) → IsReady state.old t event ready.old → row ≡ row_found t → TablesFit state.new (answered id.now t (step_of event))) }
+    ensures { OnOk result ((t : List Entry) → IsReady state.old t event ready.old → book.now ≡ book_in t → row ≡ row_found t → TablesFit state.new (answered id.now t (step_of event))) }
 {
     let mut resumption = mem::replace(&mut ready.resumption, None);
     let ours = told_map(state.alloc(), &mut resumption);
     let Ok(()) = reply(
         state,
         id,
+        book,
         &ready.ends,
         event,
         &ready.answer,

@@ -10,7 +10,7 @@ use Rattle.router_trace.specs.declared.event.Event.TheVariants as event
 use Rattle.router_trace.specs.Trace.{Entry, Put, did, goes, step_of}
 use Rattle.router_trace.specs.Following.{as_long_as_due, tells, sends_due, drains_due}
 use Rattle.router_trace.specs.Numbers.{first_below, first_placed}
-use Rattle.state_messages.specs.Messages.{grants, grants_due, lowest_below}
+use Rattle.state_messages.specs.Messages.{lent, grants_due, lowest_below}
 use Rattle.state_sessions.specs.Windows.{windows}
 use Rattle.router_after.specs.After.{sent, drained, granted}
 use Rattle.router_core.specs.Replies.{handled}
@@ -40,7 +40,7 @@ unfolding first_placed
 no_drain g = refl
 
 no_grant : (g : Beginning) → grants_due (begins g) ≡ []
-unfolding grants lowest_below
+unfolding lent lowest_below
 no_grant g = refl
 
 pub start_is_silent : (id : List ℕ) (g : Beginning) → handled id (beginning g) (step_of event.Start) ≡ begins g

@@ -31,7 +31,7 @@ use Rattle.reply_transfers.specs.Transfers.{part_put, settled_answers}
 use Rattle.router_reply.specs.Resuming.{resumed}
 use Rattle.router_reply.specs.Replies.{closing_of, ends, heard, stolen_by, refused, bound_by, item_row, own_row, replied}
 use Rattle.router_after.specs.After.{widened, followed}
-use Rattle.router_reply.specs.Acts.{answer_of, booked}
+use Rattle.router_reply.specs.Acts.{answer_of, book_in, booked}
 use Rattle.router_core.specs.Replies.{answered, handled}
 use Rattle.core_machine.specs.Moves.{waiting_of}
 use Rattle.router_core.specs.Moves.{IsTrace, outs}
@@ -292,7 +292,7 @@ item_known id t u d i links (Some p) there =
     (stolen_known u links (last_of_key u (key_at u d (answer_to x 0))) (holder u (key_at u d (answer_to x 0))) refl)
     (each_known _ u d (there refl)))
     (λ own handle e x. each_known (refused (largest_frame u d) own handle e x) u d (there refl))
-    (λ own handle row q. each_known (part_put u d own handle row q) u d (there refl))
+    (λ own handle row q. each_known (part_put (book_in t) u d own handle row q) u d (there refl))
     (λ own r ids. each_known (settled_answers own r ids) u d (there refl))
     i (answer_of t d p i)
 

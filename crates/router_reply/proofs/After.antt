@@ -18,7 +18,7 @@ use Rattle.state_messages.specs.Messages.{with_bound}
 use Rattle.reply_rows.specs.declared.answer.Answer.{Answer}
 use Rattle.reply_rows.specs.declared.answer.Answer.TheVariants.{Attach, Refuse, Taken, Settle}
 use Rattle.reply_rows.specs.Rows.{said}
-use Rattle.router_reply.specs.Acts.{answer_of, book_found}
+use Rattle.router_reply.specs.Acts.{answer_of, book_found, book_in}
 use Rattle.router_reply.specs.Resuming.{key_in, attach_within, map_for}
 use Rattle.reply_transfers.specs.Transfers.{part_put, part_bound, disposition_in, given_after}
 use Rattle.router_reply.specs.Replies.{item_row, item_bound, item_put, links_put, put_for_transfer, put_for_disposition, bound_for, settled_put, put_for_attach, put_if_attach, attach_put, row_found, after_answer}
@@ -33,7 +33,7 @@ NotSettled a = (own : ℕ) → a ≡ Settle own → ⊥
 
 -- what is put, by the answer
 taken_put : (t u : List Entry) (c : ℕ) (i : Item) (own handle : ℕ)
-    → links_put t u c i (Taken own handle) ≡ each_to c (part_put u c own handle (row_found t) (part_of i (link_place t c own)))
+    → links_put t u c i (Taken own handle) ≡ each_to c (part_put (book_in t) u c own handle (row_found t) (part_of i (link_place t c own)))
 taken_put t u c (item.Frame true channel (perf.Attach x) payload) own handle = refl
 taken_put t u c (item.Frame true channel (perf.Transfer x) payload) own handle = refl
 taken_put t u c (item.Frame true channel (perf.Disposition x) payload) own handle = refl
@@ -76,9 +76,9 @@ unbound t u c i _ none = refl
 
 -- the trace after it
 pub taken_is : (id : List ℕ) (t after : List Entry) (c : ℕ) (p : Conn) (i : Item) (own handle : ℕ)
-    → after_answer id t after c p i (Taken own handle) ≡ given_after after c own handle (row_found t) (part_of i (link_place t c own))
+    → after_answer id t after c p i (Taken own handle) ≡ given_after (book_in t) after c own handle (row_found t) (part_of i (link_place t c own))
 taken_is id t after c p i own handle =
-    ap (λ (ps : List Put). goes ps (with_bound (part_bound after c own handle (row_found t) (part_of i (link_place t c own))) after)) (taken_put t after c i own handle)
+    ap (λ (ps : List Put). goes ps (with_bound (part_bound (book_in t) after c own handle (row_found t) (part_of i (link_place t c own))) after)) (taken_put t after c i own handle)
 
 pub settled_is : (id : List ℕ) (t after : List Entry) (c : ℕ) (p : Conn) (i : Item) (own : ℕ)
     → after_answer id t after c p i (Settle own) ≡ goes (settled_put t c own (disposition_in i)) after

@@ -20,7 +20,7 @@ use Rattle.router_trace.specs.declared.event.Event.{Event}
 use Rattle.router_trace.specs.declared.event.Event.TheVariants as event
 use Rattle.router_trace.specs.Trace.{Trace}
 use Rattle.resume_core.specs.Resuming.{entries_of, decisions, forgotten_rows}
-use Rattle.reply_rows.specs.Booking.{wanted_key, wants_durable, rows_of, bound_rows}
+use Rattle.reply_rows.specs.Booking.{wanted_key, wants_durable, sent_rows, bound_rows}
 use Rattle.reply_rows.specs.declared.answer.Answer.{Answer}
 use Rattle.reply_rows.specs.declared.answer.Answer.TheVariants.{Attach}
 
@@ -96,7 +96,7 @@ forgotten_of Receiver complete theirs rows = []
 
 abbrev pub all_rows : BookView → Option Terminus → List Row
 all_rows b None = []
-all_rows b (Some x) = rows_of b x
+all_rows b (Some x) = sent_rows b x
 
 abbrev pub forgotten_with : Option AnAttach → List Row → List RowNumber
 forgotten_with None rows = []

@@ -31,13 +31,13 @@ use Rattle.state_links.specs.Fits.{channel_of}
 use Rattle.state_deliveries.specs.declared.change.Change.{Change}
 use Rattle.state_deliveries.specs.declared.change.Change.TheVariants as change
 use Rattle.state_deliveries.specs.declared.change.Gone.TheVariants as gone
-use Rattle.state_deliveries.specs.Deciding.{decided_rows, rows_from}
+use Rattle.state_deliveries.specs.Deciding.{decided_rows}
 use Rattle.state_deliveries.specs.Hearing.{heard_change}
 use Rattle.reply_rows.specs.Booking.{wanted_key, wanted_address, wants_durable, new_terminus}
 use Rattle.reply_rows.specs.declared.answer.Answer.{Answer}
 use Rattle.reply_rows.specs.declared.answer.Answer.TheVariants.{Close, CloseWith, End, Attach, Detach}
 use Rattle.router_reply.specs.Asking.{map_decides, map_forgets}
-use Rattle.router_reply.specs.Joining.{settled_by_transfer}
+use Rattle.router_reply.specs.Joining.{settled_by_transfer, rows_claimed}
 
 -- The changes of the deliveries that an event brings: those by its item, by the ends for full outboxes, and by the links that the answer ends.
 abbrev pub lost : ℕ → Change
@@ -86,9 +86,9 @@ decided b t e answer = map as_kept (decided_rows t (event_changes t e answer)) +
 
 -- The rows that it forgets: those that their producer settles, by a disposition or by a transfer that resumes one; those of a producer that closes its link
 -- for good; and those that the map of a producer's attach lacks.
-abbrev pub settled_on : Trace → ℕ → Option ℕ → Role → ADisposition → List RowNumber
-settled_on t c (Some own) Sender x = if x.settled then rows_from t c own x.first (last_of x) else []
-settled_on t c _ _ x = []
+abbrev pub settled_on : BookView → Trace → ℕ → Option ℕ → Role → ADisposition → List RowNumber
+settled_on b t c (Some own) Sender x = if x.settled then rows_claimed b t c own x.first (last_of x) else []
+settled_on b t c _ _ x = []
 
 abbrev pub sent_by : BookView → LinkRole → ℕ → List RowNumber
 sent_by b Producer n = map (λ r. r.number) (filter (is_from n) b.rows)
@@ -105,7 +105,7 @@ closed_terminus b t c _ = None
 
 abbrev pub forgotten_by : BookView → Trace → ℕ → Option ℕ → Perf → Answer → List RowNumber
 forgotten_by b t c own (perf.Transfer x) answer = settled_by_transfer b t c x answer
-forgotten_by b t c own (perf.Disposition x) answer = settled_on t c own x.role x
+forgotten_by b t c own (perf.Disposition x) answer = settled_on b t c own x.role x
 forgotten_by b t c own (perf.Detach x) answer = sent_from b (closed_terminus b t c answer)
 forgotten_by b t c own _ answer = []
 

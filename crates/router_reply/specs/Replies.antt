@@ -31,7 +31,7 @@ use Rattle.reply_rows.specs.declared.answer.Answer.{Answer}
 use Rattle.reply_rows.specs.declared.answer.Answer.TheVariants.{Attach, Refuse, Taken, Settle}
 use Rattle.reply_rows.specs.Rows.{said, down_reply}
 use Rattle.reply_transfers.specs.Transfers.{settled_answers, part_put, part_bound}
-use Rattle.router_reply.specs.Acts.{answer_of, book_found, found_acts}
+use Rattle.router_reply.specs.Acts.{answer_of, book_found, book_in, found_acts}
 use Rattle.router_reply.specs.Admitting.{row_in}
 use Rattle.router_reply.specs.Asking.{key_taken}
 use Rattle.router_reply.specs.Resuming.{map_for}
@@ -89,16 +89,16 @@ abbrev pub settled_put : Trace → ℕ → ℕ → Option ADisposition → List 
 settled_put t c own None = []
 settled_put t c own (Some x) = put_for_disposition t c x (Settle own)
 
--- the row that the event's acts admit
+-- A transfer that is taken is answered by the book after the event's acts; the row is the one that they admit.
 abbrev pub row_found : Trace → Option RowNumber
 row_found t = row_in (found_acts t)
 
 abbrev pub put_for_transfer : Trace → Trace → ℕ → Item → Answer → List Put
-put_for_transfer t after c i (Taken own handle) = each_to c (part_put after c own handle (row_found t) (part_of i (link_place t c own)))
+put_for_transfer t after c i (Taken own handle) = each_to c (part_put (book_in t) after c own handle (row_found t) (part_of i (link_place t c own)))
 put_for_transfer t after c i _ = []
 
 abbrev pub bound_for : Trace → Trace → ℕ → Item → Answer → Option Binding
-bound_for t after c i (Taken own handle) = part_bound after c own handle (row_found t) (part_of i (link_place t c own))
+bound_for t after c i (Taken own handle) = part_bound (book_in t) after c own handle (row_found t) (part_of i (link_place t c own))
 bound_for t after c i _ = None
 
 -- What an answer to an item puts into outboxes, after the closes because of full outboxes.
@@ -147,7 +147,7 @@ abbrev pub item_bound : Trace → Trace → ℕ → Item → Option Conn → Opt
 item_bound t after c i None = None
 item_bound t after c i (Some p) = bound_for t after c i (answer_of t c p i)
 
--- the message that an event binds, if it completes one and a consumer is chosen for it
+-- what an event binds: a message that it completes, if a consumer is chosen for it, or the row that a resumed delivery joins
 abbrev pub bound_by : Trace → Trace → Event → Option Binding
 bound_by t after (event.Item c i) = item_bound t after c.0 i (standing (found t (event.Item c i) c.0))
 bound_by t after _ = None

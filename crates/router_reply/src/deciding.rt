@@ -11,7 +11,7 @@ ghost use Rattle.state_deliveries.specs.Deciding.{decided_rows};
 ghost use Rattle.state_deliveries.specs.Hearing.{heard_change};
 ghost use Rattle.router_reply.specs.Deciding.{lost, listed, stolen_from, stolen_in, stolen_for, ended_by, event_changes, as_kept, settled_on, sent_by, sent_from, closed_terminus, forgotten_by, forgotten_in, item_forgets};
 
-use crate::joining::settled_by_transfer;
+use crate::joining::{rows_claimed, settled_by_transfer};
 use amqp_model::{Disposition, Item, Perf, Role};
 use book_core::Book;
 use book_model::{Decision, LinkRole, RowNumber, Terminus, TerminusNumber};
@@ -263,14 +263,17 @@ fn all_kept(alloc: Global, rows: &[Decision]) -> Result<Vec<Decision>, AllocErro
 /// The rows that a disposition forgets: those that their producer settles.
 fn settled_on(
     state: &State,
+    book: &Book,
     conn: u64,
     own: Option<u16>,
     disposition: &Disposition,
 ) -> Result<Vec<RowNumber>, AllocError>
-    ensures { IfOk result (λ rows. (t : List Entry) → TablesFind state.now t → rows.items ≡ settled_on t conn own disposition.now.role disposition.now) }
+    ensures { IfOk result (λ rows. (t : List Entry) → TablesFind state.now t → rows.items ≡ settled_on book.now t conn own disposition.now.role disposition.now) }
 {
     match (own, disposition.role) {
-        (Some(own), Role::Sender) if disposition.settled => state.rows_from(
+        (Some(own), Role::Sender) if disposition.settled => rows_claimed(
+            state,
+            book,
             conn,
             own,
             disposition.first,
@@ -346,7 +349,7 @@ fn forgotten_by(
 {
     match perf {
         Perf::Transfer(transfer) => settled_by_transfer(state, book, conn, transfer, answer),
-        Perf::Disposition(disposition) => settled_on(state, conn, own, disposition),
+        Perf::Disposition(disposition) => settled_on(state, book, conn, own, disposition),
         Perf::Detach(_) => {
             let terminus = closed_terminus(state, book, conn, answer);
             sent_from(state.alloc(), book, terminus)

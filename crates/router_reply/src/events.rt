@@ -7,7 +7,7 @@ ghost use Rattle.router_trace.specs.Links.{link_place};
 ghost use Rattle.router_trace.specs.Settling.{part_of};
 ghost use Rattle.state_links.specs.Fits.{channel_of};
 ghost use Rattle.router_state.specs.Tables.{TablesFit, beats};
-ghost use Rattle.router_reply.specs.Acts.{answer_of, answer_to_event};
+ghost use Rattle.router_reply.specs.Acts.{answer_of, answer_to_event, book_in};
 ghost use Rattle.router_reply.specs.Heard.{ids_named, ItemHeard, IsHeard};
 ghost use Rattle.router_reply.specs.Resuming.{told_map};
 ghost use Rattle.reply_transfers.specs.Transfers.{given_after, disposition_in};
@@ -19,6 +19,7 @@ use crate::closing::{close_all, say};
 use crate::heard::Heard;
 use amqp_conn::Conn;
 use amqp_model::{Item, UnsettledDelivery};
+use book_core::Book;
 use book_model::RowNumber;
 use reply_rows::Answer;
 use reply_transfers::{disposition_in, settle, take_part};
@@ -49,6 +50,7 @@ fn on_settle(
 fn begin_item(
     state: &mut State,
     id: &RouterId,
+    book: &Book,
     conn: ConnectionId,
     phase: Conn,
     item: &Item,
@@ -57,12 +59,21 @@ fn begin_item(
     heard: &mut Heard,
 ) -> Result<(), AllocError>
     ensures { OnOk result ((t after : List Entry) → TablesFit state.old after → ItemHeard t conn item.now answer.now heard.old → answer.now ≡ answer_of t conn.0 phase item.now
-        → row ≡ row_found t → (u : List Entry) × TablesFit state.new u
+        → book.now ≡ book_in t → row ≡ row_found t → (u : List Entry) × TablesFit state.new u
         × (goes (attach_put u conn.0 (told_map t (event.Item conn item.now) answer.now) item.now answer.now) u ≡ after_answer id.now t after conn.0 phase item.now answer.now)) }
 {
     match answer {
         Answer::Taken { own, handle } => {
-            take_part(state, id, conn.0, *own, *handle, row, heard.part.take())
+            take_part(
+                state,
+                id,
+                book,
+                conn.0,
+                *own,
+                *handle,
+                row,
+                heard.part.take(),
+            )
         }
         Answer::Settle { own } => on_settle(state, id, conn, *own, item, &heard.ids),
         _ => say(state, id, conn.0, phase, answer),
@@ -73,6 +84,7 @@ fn begin_item(
 fn on_item(
     state: &mut State,
     id: &RouterId,
+    book: &Book,
     conn: ConnectionId,
     item: Item,
     answer: &Answer,
@@ -80,7 +92,8 @@ fn on_item(
     ours: Vec<UnsettledDelivery>,
     heard: &mut Heard,
 ) -> Result<(), AllocError>
-    ensures { OnOk result ((t after : List Entry) → TablesFit state.old after → answer.now ≡ answer_to_event t (event.Item conn item) → row ≡ row_found t
+    ensures { OnOk result ((t after : List Entry) → TablesFit state.old after → answer.now ≡ answer_to_event t (event.Item conn item)
+        → book.now ≡ book_in t → row ≡ row_found t
         → ours.items ≡ told_map t (event.Item conn item) answer.now → ItemHeard t conn item answer.now heard.old → TablesFit state.new (replied_after id.now t after (event.Item conn item))) }
 {
     let Some(phase) = heard.phase else {
@@ -88,7 +101,7 @@ fn on_item(
         drop(ours);
         return Ok(());
     };
-    let Ok(()) = begin_item(state, id, conn, phase, &item, answer, row, heard) else {
+    let Ok(()) = begin_item(state, id, book, conn, phase, &item, answer, row, heard) else {
         drop(item);
         drop(ours);
         return Err(AllocError);
@@ -109,13 +122,14 @@ fn on_tick(state: &mut State, heard: &mut Heard) -> Result<(), AllocError>
 fn own_row(
     state: &mut State,
     id: &RouterId,
+    book: &Book,
     event: Event,
     answer: &Answer,
     row: Option<RowNumber>,
     ours: Vec<UnsettledDelivery>,
     heard: &mut Heard,
 ) -> Result<(), AllocError>
-    ensures { OnOk result ((t after : List Entry) → TablesFit state.old after → answer.now ≡ answer_to_event t event → row ≡ row_found t
+    ensures { OnOk result ((t after : List Entry) → TablesFit state.old after → answer.now ≡ answer_to_event t event → book.now ≡ book_in t → row ≡ row_found t
         → ours.items ≡ told_map t event answer.now → IsHeard t event answer.now heard.old → TablesFit state.new (replied_after id.now t after event)) }
 {
     match event {
@@ -124,7 +138,7 @@ fn own_row(
             drop(ours);
             Ok(())
         }
-        Event::Item(conn, item) => on_item(state, id, conn, item, answer, row, ours, heard),
+        Event::Item(conn, item) => on_item(state, id, book, conn, item, answer, row, ours, heard),
         Event::Down(_) => {
             drop(ours);
             Ok(())
@@ -140,9 +154,9 @@ fn own_row(
     }
 }
 
-/// Replies to an event that was handled (`hear`) with the answer that was planned, the row that its acts admit, and `ours`,
-/// the router's map in the answer to an attach (`told_map`): the closes of these connections, whose outboxes were full,
-/// then the event's own row.
+/// Replies to an event that was handled (`hear`) with the answer that was planned, the book after its acts, the row that
+/// these admit, and `ours`, the router's map in the answer to an attach (`told_map`): the closes of these connections,
+/// whose outboxes were full, then the event's own row.
 ///
 /// # Errors
 ///
@@ -150,6 +164,7 @@ fn own_row(
 pub fn reply(
     state: &mut State,
     id: &RouterId,
+    book: &Book,
     ends: &[u64],
     event: Event,
     answer: &Answer,
@@ -158,7 +173,7 @@ pub fn reply(
     heard: &mut Heard,
 ) -> Result<(), AllocError>
     ensures { OnOk result ((t : List Entry) → TablesFit state.old (did event ∷ t) → ends.now ≡ due t event
-        → answer.now ≡ answer_to_event t event → row ≡ row_found t → ours.items ≡ told_map t event answer.now → IsHeard t event answer.now heard.old
+        → answer.now ≡ answer_to_event t event → book.now ≡ book_in t → row ≡ row_found t → ours.items ≡ told_map t event answer.now → IsHeard t event answer.now heard.old
         → TablesFit state.new (replied id.now t (step_of event))) }
 {
     let Ok(()) = close_all(state, id, ends) else {
@@ -166,5 +181,5 @@ pub fn reply(
         drop(ours);
         return Err(AllocError);
     };
-    own_row(state, id, event, answer, row, ours, heard)
+    own_row(state, id, book, event, answer, row, ours, heard)
 }

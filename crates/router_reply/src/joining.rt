@@ -1,17 +1,18 @@
-//! A resumed delivery of a producer that comes whole: the row that it joins.
-ghost use Rattle.std.specs.Prelude.{◌≡◌, ◌^◌, ◌-◌, List, option_map, IfOk};
+//! The rows that a producer settles: by a resumed delivery that comes whole and settled, and by a disposition.
+ghost use Rattle.std.specs.Prelude.{◌≡◌, ◌^◌, ◌-◌, List, filter_map, option_map, IfOk};
 ghost use Rattle.std.specs.Option.{option_copied};
 ghost use Rattle.journal_store.specs.Acting.{is_among};
 ghost use Rattle.router_trace.specs.Trace.{Entry};
 ghost use Rattle.router_state.specs.Tables.{TablesFind};
-ghost use Rattle.router_reply.specs.Joining.{settled_again, settled_whole, named_row, row_joined, is_held_on, unless_held, settled_on_link, settled_by_transfer};
+ghost use Rattle.router_reply.specs.Joining.{settled_again, settled_whole, is_held_on, unless_held, settled_on_link, settled_by_transfer, rows_claimed};
 
 use crate::deciding::add;
 use amqp_link::Delivery;
 use amqp_model::{DeliveryTag, Transfer};
 use book_core::Book;
-use book_model::{LinkKey, Row, RowNumber, Terminus};
+use book_model::{Row, RowNumber};
 use reply_rows::Answer;
+use reply_transfers::{row_joined, row_under};
 use router_state::State;
 use std::alloc::{AllocError, Global};
 
@@ -53,33 +54,6 @@ fn settled_whole<'a>(
         return None;
     }
     settled_again(transfer, earlier)
-}
-
-/// The unforgotten row of a terminus with this tag.
-fn named_row<'a>(book: &'a Book, terminus: Option<&Terminus>, tag: &DeliveryTag) -> Option<&'a Row>
-    ensures { option_copied result ≡ named_row (option_map (λ x. x.now) terminus.entry) tag.now.items book.now.rows }
-{
-    match terminus {
-        None => None,
-        Some(terminus) => book.row_named(terminus.number, tag),
-    }
-}
-
-/// The same of the terminus of the durable link with this key, if there is one, and the tag, if there is one.
-fn row_joined<'a>(
-    book: &'a Book,
-    key: Option<&LinkKey>,
-    tag: Option<&DeliveryTag>,
-) -> Option<&'a Row>
-    ensures { option_copied result ≡ row_joined book.now (option_map (λ k. k.now) key.entry) (option_map (λ g. g.now.items) tag.entry) }
-{
-    match key {
-        None => None,
-        Some(key) => match tag {
-            None => None,
-            Some(tag) => named_row(book, book.terminus_of(key), tag),
-        },
-    }
 }
 
 /// Whether a row is among these.
@@ -161,4 +135,29 @@ pub(crate) fn settled_by_transfer(
         }
         _ => Ok(Vec::new(state.alloc())),
     }
+}
+
+/// The rows of the deliveries with an id in a range, on a session, that its peer hasn't settled, in order of the ids.
+///
+/// # Errors
+///
+/// `AllocError` if memory was refused.
+pub(crate) fn rows_claimed(
+    state: &State,
+    book: &Book,
+    conn: u64,
+    own: u16,
+    first: u32,
+    last: u32,
+) -> Result<Vec<RowNumber>, AllocError>
+    ensures { IfOk result (λ rows. (t : List Entry) → TablesFind state.now t → rows.items ≡ rows_claimed book.now t conn own first last) }
+{
+    let mut rows = Vec::new(state.alloc());
+    let ids = state.ids_claimed(conn, own, first, last)?;
+    for id in &ids {
+        if let Some(row) = row_under(state, book, conn, own, *id) {
+            add(&mut rows, row.number)?;
+        }
+    }
+    Ok(rows)
 }

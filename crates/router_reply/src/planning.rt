@@ -156,9 +156,8 @@ fn durable_answer(
 {
     let free = state.free_handle(conn, own);
     let key = wanted_key(state, conn, attach)?;
-    let refusal = durable_refusal(state.alloc(), book, full, &key, attach);
-    drop(key);
-    Ok(attach_unless(own, free, refusal?))
+    let refusal = durable_refusal(book, full, &key, attach);
+    Ok(attach_unless(own, free, refusal))
 }
 
 /// The answer to an attach, which its row takes.

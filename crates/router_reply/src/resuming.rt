@@ -157,7 +157,13 @@ fn producer_taken(
     };
     let complete = !attach.incomplete_unsettled;
     let rows = book.rows_of(terminus.number);
-    let plan = producer_plan(alloc, rows, attach.unsettled.as_ref(), complete)?;
+    let plan = producer_plan(
+        alloc,
+        terminus.number,
+        rows,
+        attach.unsettled.as_ref(),
+        complete,
+    )?;
     let ProducerPlan {
         forgotten,
         map,

@@ -1,5 +1,5 @@
 //! All tables, changed together.
-ghost use Rattle.std.specs.Prelude.{◌≡◌, ◌==◌, ◌≤◌, ◌&&◌, nat_lt, if◌then◌else◌, ◌∷◌, ◌++◌, ℕ, List, [], true, false, Option, option_map, OnOk, OnErr, IfOk};
+ghost use Rattle.std.specs.Prelude.{◌≡◌, ◌==◌, ◌≤◌, ◌&&◌, nat_lt, if◌then◌else◌, ◌∷◌, ◌++◌, ℕ, List, [], true, false, Option, option_copied, option_map, OnOk, OnErr, IfOk};
 ghost use Rattle.std.specs.Prelude.{is_some};
 ghost use Rattle.route_table.specs.Places.{FindsAs};
 ghost use Rattle.router_trace.specs.Trace.{Beginning, Trace};
@@ -7,8 +7,9 @@ ghost use Rattle.router_trace.specs.Configuration.{opened, distribution, is_mult
 ghost use Rattle.router_trace.specs.Sessions.{theirs, maps, session};
 ghost use Rattle.router_trace.specs.Frames.{told_of};
 ghost use Rattle.router_trace.specs.Links.{link, place_of, is_attached, durable_key, holds_durable};
-ghost use Rattle.router_trace.specs.Settling.{part_of, middle_on, is_claimed, is_claimed_on, open_ids, unbound};
-ghost use Rattle.router_trace.specs.Deliveries.{acts_found, delivery, ended_first, giving, is_to_tell, sending, named, next_id};
+ghost use Rattle.router_trace.specs.Claims.{claims};
+ghost use Rattle.router_trace.specs.Settling.{part_of, middle_on, is_claimed, is_claimed_on, ids_claimed, open_ids, unbound};
+ghost use Rattle.router_trace.specs.Deliveries.{joined_by, acts_found, delivery, ended_first, giving, is_to_tell, sending, named, next_id};
 ghost use Rattle.router_trace.specs.Following.{link_of, first_delivery, is_unsent_on, is_wide, is_busy, is_used, takes_more};
 ghost use Rattle.state_deliveries.specs.Calling.{Knows};
 ghost use Rattle.state_deliveries.specs.Finding.{IsFirst, is_above};
@@ -36,7 +37,7 @@ ghost use Rattle.router_trace.specs.declared.event.Event.TheVariants as event;
 use crate::durable::none_if_ended;
 use amqp_conn::Conn;
 use amqp_link::{Delivery, Part};
-use amqp_model::{Attach, Item, Perf};
+use amqp_model::{Attach, DeliveryState, Item, Perf};
 use amqp_session::{FlowState, Window};
 use book_model::{Act, LinkKey, RowNumber};
 use bytes::Bytes;
@@ -49,6 +50,7 @@ use state_connections::{Clocks, Connections, Peers, Ready, Refused, Taken};
 use state_deliveries::Delivery as Bound;
 use state_messages::{LinkGrant, Messages};
 use state_sessions::{Place, Sessions};
+use state_unsettled::IncomingDelivery;
 use std::alloc::{AllocError, Global};
 
 /// The router's tables. If an operation fails to allocate, their contents are unspecified.
@@ -371,6 +373,14 @@ impl State {
         self.messages.incoming().is_claimed(conn, own, id)
     }
 
+    /// A peer's claim to a delivery-id: its delivery with this id, if it hasn't settled that.
+    pub fn claim(&self, conn: u64, own: u16, id: u32) -> Option<&IncomingDelivery>
+        ensures now { (t : List Entry) → TablesFit self.now t → option_map (λ c. c.now) result ≡ claims t conn own id }
+        ensures found { (t : List Entry) → TablesFind self.now t → option_map (λ c. c.now) result ≡ claims t conn own id }
+    {
+        self.messages.incoming().get(conn, own, id)
+    }
+
     /// Whether a peer has not settled the delivery with this id of its own, on the link at a handle of the router.
     pub fn is_claimed_on(&self, conn: u64, own: u16, handle: u32, id: u32) -> bool
         ensures { (t : List Entry) → TablesFit self.now t → result ≡ is_claimed_on t conn own handle id }
@@ -391,6 +401,20 @@ impl State {
         ensures { IfOk result (λ ids. (t : List Entry) → TablesFind self.now t → ids.items ≡ open_ids t conn own first last) }
     {
         self.messages.deliveries().open_ids(conn, own, first, last)
+    }
+
+    /// The ids in a disposition's range whose deliveries the peer has not settled, in the range's order. It costs by those that are claimed, not by the
+    /// range.
+    pub fn ids_claimed(
+        &self,
+        conn: u64,
+        own: u16,
+        first: u32,
+        last: u32,
+    ) -> Result<Vec<u32>, AllocError>
+        ensures { IfOk result (λ ids. (t : List Entry) → TablesFind self.now t → ids.items ≡ ids_claimed t conn own first last) }
+    {
+        self.messages.incoming().ids_claimed(conn, own, first, last)
     }
 
     /// How many unsettled deliveries of a link came whole and are bound to no consumer.
@@ -444,6 +468,20 @@ impl State {
         ensures { OnOk result ((t : List Entry) → TablesFit self.old t → TablesFit self.new (BoundTo (taken_up_by t row how format payload consumer) ∷ t)) }
     {
         self.messages.take_up(consumer, row, how, format, payload)?;
+        Ok(())
+    }
+
+    /// Joins a producer's resumed delivery, which came whole, to a row that isn't forgotten, and has this outcome if it is decided: from now on the
+    /// row's outcome is reported to this delivery.
+    pub fn join(
+        &mut self,
+        origin: Origin,
+        row: RowNumber,
+        outcome: Option<&DeliveryState>,
+    ) -> Result<(), AllocError>
+        ensures { OnOk result ((t : List Entry) → TablesFit self.old t → TablesFit self.new (BoundTo (joined_by t origin row (option_copied outcome.entry)) ∷ t)) }
+    {
+        self.messages.join(origin, row, outcome)?;
         Ok(())
     }
 

@@ -20,7 +20,7 @@ use Rattle.router_trace.specs.Trace.{Did, Out, Took, Bound, Booked, Began, Trace
 use Rattle.router_trace.specs.Links.{Link, Happened, sends, receives, link, their_handle, ends_handle_in}
 use Rattle.router_trace.specs.Sessions.{maps, theirs}
 use Rattle.router_trace.specs.declared.binding.Origin.{Origin}
-use Rattle.router_trace.specs.Deliveries.{last_of, stands_on, tag_in}
+use Rattle.router_trace.specs.Deliveries.{last_of, stands_on, tag_in, origin_of}
 
 -- A peer's unsettled delivery: the router's handle of its link, whether it came whole and is bound to no consumer, and the delivery-tag of its first
 -- frame.
@@ -121,6 +121,6 @@ claims [] c o id = None
 claims (Did s ∷ t) c o id = claim_at s.event c o (theirs t c) (their_handle t c o) (link t c o) id (claims t c o id)
 claims (Out d i ∷ t) c o id = if d == c then claim_after i o id (claims t c o id) else claims t c o id
 claims (Took d n ∷ t) c o id = claims t c o id
-claims (Bound b ∷ t) c o id = bind_claim b.origin c o id (claims t c o id)
+claims (Bound b ∷ t) c o id = bind_claim (origin_of b.kind) c o id (claims t c o id)
 claims (Booked acts full ∷ t) c o id = claims t c o id
 claims (Began g ∷ t) c o id = None

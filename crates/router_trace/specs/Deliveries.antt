@@ -16,11 +16,15 @@ use Rattle.book_model.specs.declared.act.Act.{Act}
 use Rattle.book_model.specs.declared.act.Act.TheVariants.{Decide}
 use Rattle.book_model.specs.declared.row.RowNumber.{RowNumber}
 use Rattle.router_trace.specs.declared.binding.Binding.{Binding}
+use Rattle.router_trace.specs.declared.binding.BindingKind.{BindingKind}
+use Rattle.router_trace.specs.declared.binding.BindingKind.TheVariants as kind
 use Rattle.router_trace.specs.declared.binding.DeliveryName.{DeliveryName}
 use Rattle.router_trace.specs.declared.binding.DeliveryName.TheVariants.{Row, Counter}
+use Rattle.router_trace.specs.declared.binding.JoinedTo.{JoinedTo}
+use Rattle.router_trace.specs.declared.binding.JoinedTo.TheVariants.{Standing, New}
 use Rattle.router_trace.specs.declared.binding.Origin.{Origin}
 use Rattle.router_trace.specs.declared.binding.Resumed.{Resumed}
-use Rattle.router_trace.specs.declared.binding.Resumed.TheVariants.{Settled, Anew}
+use Rattle.router_trace.specs.declared.binding.Resumed.TheVariants.{Settled, Anew, Kept}
 use Rattle.router_trace.specs.declared.binding.TakenUp.{TakenUp}
 use Rattle.router_trace.specs.declared.event.Event.{Event}
 use Rattle.router_trace.specs.declared.event.Event.TheVariants as event
@@ -31,13 +35,29 @@ use Rattle.router_trace.specs.Connection.{has}
 use Rattle.router_trace.specs.Links.{ends_handle, ends_handle_in, is_lost}
 use Rattle.router_trace.specs.Sessions.{maps, theirs}
 
--- how many messages were bound
+-- the producer's delivery of what is bound
+abbrev pub origin_of : BindingKind → Option Origin
+origin_of (kind.Message origin) = origin
+origin_of (kind.TakenUp u) = u.origin
+origin_of (kind.Joined p to) = Some p
+
+-- a message that came, and not a row that is bound again
+abbrev pub is_message : BindingKind → Bool
+is_message (kind.Message origin) = true
+is_message _ = false
+
+-- the producer's delivery that is joined to the delivery which has the row
+abbrev pub joins_standing : BindingKind → Option Origin
+joins_standing (kind.Joined p Standing) = Some p
+joins_standing _ = None
+
+-- how many deliveries were bound
 abbrev pub bindings : Trace → ℕ
 bindings [] = 0
 bindings (Did s ∷ t) = bindings t
 bindings (Out d i ∷ t) = bindings t
 bindings (Took d n ∷ t) = bindings t
-bindings (Bound b ∷ t) = bindings t + 1
+bindings (Bound b ∷ t) = if is_none (joins_standing b.kind) then bindings t + 1 else bindings t
 bindings (Booked acts full ∷ t) = bindings t
 bindings (Began g ∷ t) = 0
 
@@ -70,7 +90,7 @@ number_named [] name = None
 number_named (Did s ∷ t) name = number_named t name
 number_named (Out d i ∷ t) name = number_named t name
 number_named (Took d n ∷ t) name = number_named t name
-number_named (Bound b ∷ t) name = if same_name (name_in t b) name then Some (bindings t + 1) else number_named t name
+number_named (Bound b ∷ t) name = if is_none (joins_standing b.kind) && same_name (name_in t b) name then Some (bindings t + 1) else number_named t name
 number_named (Booked acts full ∷ t) name = number_named t name
 number_named (Began g ∷ t) name = None
 
@@ -121,42 +141,80 @@ sender d = either_origin (source d) d.early
 abbrev pub holder : Delivery → Option Origin
 holder d = if is_none d.outcome then sender d else source d
 
--- A row that is taken up again may be decided: it is sent only to settle it then. One that its consumer has is sent as resumed.
+-- A row that is taken up again may be decided: it is sent only to settle it then. One that its consumer has is sent as resumed. One of which an incomplete
+-- map says nothing is kept on the link and not sent.
 abbrev pub outcome_as : Resumed → Option DeliveryState
 outcome_as (Settled outcome) = Some outcome
 outcome_as _ = None
 
 abbrev pub is_resumed : Resumed → Bool
 is_resumed Anew = false
+is_resumed Kept = false
 is_resumed _ = true
 
--- what a row brings along: nothing, if it isn't taken up again
-abbrev pub brought : {A : Type 0} → (TakenUp → Option A) → Option TakenUp → Option A
-brought field None = None
-brought field (Some u) = field u
+abbrev pub goes_out : Resumed → Bool
+goes_out Kept = false
+goes_out _ = true
 
-abbrev pub resumes : Option TakenUp → Bool
-resumes None = false
-resumes (Some u) = is_resumed u.how
+abbrev pub resumes : BindingKind → Bool
+resumes (kind.TakenUp u) = is_resumed u.how
+resumes _ = false
+
+-- the producer's delivery that a row brings along if it is taken up again
+abbrev pub brought : (TakenUp → Option Origin) → BindingKind → Option Origin
+brought field (kind.TakenUp u) = field u
+brought field _ = None
+
+-- The outcome that a row has already. Nothing is sent of a row to which its producer's delivery is joined: if it is undecided, it is suspended until
+-- its consumer's link takes it up again.
+abbrev pub outcome_known : JoinedTo → Option DeliveryState
+outcome_known Standing = None
+outcome_known (New outcome) = outcome
+
+abbrev pub outcome_in : BindingKind → Option DeliveryState
+outcome_in (kind.Message origin) = None
+outcome_in (kind.TakenUp u) = outcome_as u.how
+outcome_in (kind.Joined p to) = outcome_known to
+
+abbrev pub is_sent : BindingKind → Bool
+is_sent (kind.Message origin) = true
+is_sent (kind.TakenUp u) = goes_out u.how
+is_sent (kind.Joined p to) = false
+
+-- it waits until its consumer's link takes it up
+abbrev pub is_put_off : BindingKind → Bool
+is_put_off (kind.Joined p to) = is_none (outcome_known to)
+is_put_off _ = false
+
+abbrev pub presettles : BindingKind → Bool
+presettles (kind.Message origin) = is_none origin
+presettles _ = false
 
 abbrev pub bound : DeliveryName → Binding → Delivery
 bound name b = record {
   name = name;
   link = b.consumer;
-  origin = b.origin;
-  presettled = is_none b.origin && is_none b.taken_up;
+  origin = origin_of b.kind;
+  presettled = presettles b.kind;
   format = b.format;
   payload = b.payload;
   id = None;
   sent = 0;
-  going_on = true;
-  outcome = brought (λ u. outcome_as u.how) b.taken_up;
-  told = brought (λ u. u.told) b.taken_up;
-  early = brought (λ u. u.early) b.taken_up;
+  going_on = is_sent b.kind;
+  outcome = outcome_in b.kind;
+  told = brought (λ u. u.told) b.kind;
+  early = brought (λ u. u.early) b.kind;
   lasting = has_row name && b.lasting;
-  suspended = false;
-  resumed = resumes b.taken_up;
+  suspended = is_put_off b.kind;
+  resumed = resumes b.kind;
 }
+
+-- A producer's resumed delivery is joined to the one that has the row: from now on the outcome is reported to it, and nothing else changes.
+abbrev pub with_origin : Origin → Delivery → Delivery
+with_origin p d = record d { origin = Some p; told = None; early = None }
+
+abbrev pub joined : DeliveryName → Origin → Delivery → Delivery
+joined name p d = if same_name d.name name then with_origin p d else d
 
 -- it is sent only to settle it
 abbrev pub settles : Delivery → Bool
@@ -443,17 +501,21 @@ none_if_ended ends c v = if has c ends then None else v
 abbrev pub channels_found : Trace → ℕ → ℕ → Option PeerChannel
 channels_found t c p = none_if_ended (ended_first t) c (theirs t c p)
 
--- The delivery with a number; none before it is bound, once it is over, and once its row is bound again.
+-- The delivery with a number; none before it is bound, once it is over, and once its row is bound again under another number.
 abbrev pub unless_called : DeliveryName → Option Delivery → Option Delivery
 unless_called name None = None
 unless_called name (Some d) = if same_name d.name name then None else Some d
+
+abbrev pub with_binding : Option Origin → DeliveryName → Binding → Bool → Option Delivery → Option Delivery
+with_binding None name b new v = if new then Some (bound name b) else unless_called name v
+with_binding (Some p) name b new v = option_map (joined name p) v
 
 abbrev pub delivery : Trace → ℕ → Option Delivery
 delivery [] n = None
 delivery (Did s ∷ t) n = option_and_then (λ d. unless_over (after_event s.event (channels_found t) (named t) (acts_found t) n d)) (delivery t n)
 delivery (Out c i ∷ t) n = option_and_then (λ d. unless_over (after_put (number_named t) i c n (sending t c) d)) (delivery t n)
 delivery (Took c k ∷ t) n = delivery t n
-delivery (Bound b ∷ t) n = if bindings t + 1 == n then Some (bound (name_in t b) b) else unless_called (name_in t b) (delivery t n)
+delivery (Bound b ∷ t) n = with_binding (joins_standing b.kind) (name_in t b) b (bindings t + 1 == n) (delivery t n)
 delivery (Booked acts full ∷ t) n = delivery t n
 delivery (Began g ∷ t) n = None
 
@@ -472,6 +534,18 @@ told_in (Some d) = d.told
 abbrev pub early_in : Option Delivery → Option Origin
 early_in None = None
 early_in (Some d) = d.early
+
+-- A producer's resumed delivery is joined to a row with this outcome, if it has one: to the delivery that has the row, or else to a new one. The
+-- producer's link stands in the consumer's place there, and it has no message: a row that is taken up again has both from elsewhere.
+abbrev pub joined_to : Option Delivery → Option DeliveryState → JoinedTo
+joined_to (Some d) outcome = Standing
+joined_to None outcome = New outcome
+
+abbrev pub joining : Origin → RowNumber → JoinedTo → Binding
+joining p row to = record { consumer = p.link; row = Some row; lasting = true; format = 0; payload = []; kind = kind.Joined p to }
+
+abbrev pub joined_by : Trace → Origin → RowNumber → Option DeliveryState → Binding
+joined_by t p row outcome = joining p row (joined_to (called t (Row row)) outcome)
 
 -- Tests of a delivery: it waits to start on a link, it is undecided there, its outcome must be reported to its producer.
 abbrev pub waits_on : ℕ → Option Delivery → Bool

@@ -8,6 +8,7 @@ pub mod Sessions
 pub mod Clocks
 pub mod Peers
 pub mod Durable
+pub mod Tags
 pub mod Links
 pub mod LinkFrames
 pub mod Deliveries

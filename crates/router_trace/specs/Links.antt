@@ -1,7 +1,8 @@
 -- Links in a trace (AMQP 1.0 part 2, section 2.6): the peer's attach and the router's answer make a link, on a handle of the
 -- router and one of the peer. A link that the router takes has an address at the router's own terminus; one that it refuses has none.
-use Rattle.std.specs.Prelude.{ℕ, zero, suc, ◌+◌, Bool, true, false, not, ◌&&◌, ◌==◌, nat_le, if◌then◌else◌, is_none, is_some, List, ◌∷◌, [], Option, Some, None, option_map, unwrap_or}
+use Rattle.std.specs.Prelude.{ℕ, zero, suc, ◌+◌, Bool, true, false, not, ◌&&◌, ◌==◌, nat_le, if◌then◌else◌, is_none, is_some, List, ◌∷◌, [], length, Option, Some, None, option_map, unwrap_or}
 use Rattle.std.specs.BTreeMap.{is_at}
+use Rattle.arrayvec.specs.ArrayVec.{ArrayVec}
 use Rattle.amqp_model.specs.declared.perf.Attach.{Attach}
 use Rattle.amqp_model.specs.declared.perf.Flow.{Flow}
 use Rattle.amqp_model.specs.declared.perf.Perf.{Perf}
@@ -9,6 +10,7 @@ use Rattle.amqp_model.specs.declared.perf.Perf.TheVariants as perf
 use Rattle.amqp_model.specs.declared.perf.Role.{Role}
 use Rattle.amqp_model.specs.declared.perf.Role.TheVariants.{Sender, Receiver}
 use Rattle.amqp_model.specs.declared.perf.Transfer.{Transfer}
+use Rattle.amqp_model.specs.declared.state.UnsettledDelivery.{UnsettledDelivery}
 use Rattle.amqp_model.specs.declared.terminus.Address.{Address}
 use Rattle.amqp_model.specs.declared.terminus.Address.TheVariants as address
 use Rattle.amqp_model.specs.declared.terminus.SourceTerminus.{SourceTerminus}
@@ -25,7 +27,7 @@ use Rattle.amqp_session.specs.Serials.{distance}
 use Rattle.amqp_link.specs.Credit as credit
 use Rattle.amqp_link.specs.Receiving as receiving
 use Rattle.amqp_link.specs.Receiving.{Received}
-use Rattle.amqp_link.specs.Deliveries.{frame}
+use Rattle.amqp_link.specs.Deliveries.{Frame, frame}
 use Rattle.router_trace.specs.declared.event.Event.{Event}
 use Rattle.router_trace.specs.declared.event.Event.TheVariants as event
 use Rattle.router_trace.specs.declared.channel.PeerChannel.{PeerChannel}
@@ -39,10 +41,15 @@ use Rattle.router_trace.specs.Trace.{Did, Out, Took, Bound, Booked, Began, Trace
 use Rattle.router_trace.specs.Sessions.{maps, unless_close, theirs}
 use Rattle.router_trace.specs.Peers.{user, container, container_id, Container}
 use Rattle.router_trace.specs.Durable.{is_durable}
+use Rattle.router_trace.specs.Tags.{tags_of, common, without_tag}
 
--- What the last attach received on a connection asks for; none if the connection is closed or lost.
+-- What the last attach received on a connection asks for; none if the connection is closed or lost. Of a sender's the tags in its map are kept.
+abbrev pub tags_by : Role → Option (List UnsettledDelivery) → List (ArrayVec ℕ)
+tags_by Sender theirs = tags_of theirs
+tags_by Receiver theirs = []
+
 abbrev pub asked_of : Attach → Asked
-asked_of a = record { handle = a.handle; initial = unwrap_or a.initial_delivery_count 0 }
+asked_of a = record { handle = a.handle; initial = unwrap_or a.initial_delivery_count 0; tags = tags_by a.role a.unsettled; incomplete = a.incomplete_unsettled }
 
 abbrev pub asked_in : Perf → Option Asked → Option Asked
 asked_in (perf.Attach a) last = Some (asked_of a)
@@ -208,6 +215,11 @@ pub record Link : Type 0 where
   -- the peer's last flow asks for a drain; it is not yet answered
   pub drains : Bool
   pub owes_drain : Bool
+  -- the peer is a sender: the tags that it may resume and has not resumed yet, and how many credits it is still to be granted for them
+  pub due : List (ArrayVec ℕ)
+  pub owes_due : ℕ
+  -- the peer's attach says that its unsettled map is incomplete
+  pub incomplete : Bool
 
 -- the start of a link, by its attach
 abbrev pub begins : Role → Option ℕ → ℕ → Happened
@@ -217,6 +229,15 @@ begins Receiver initial theirs = receives (receiving.TheirAttach theirs ∷ [])
 abbrev pub initial_of : Option Asked → ℕ
 initial_of None = 0
 initial_of (Some a) = a.initial
+
+-- A sender may resume what stands in its map and in the router's (2.6.13).
+abbrev pub due_in : Option Asked → Option (List UnsettledDelivery) → List (ArrayVec ℕ)
+due_in None ours = []
+due_in (Some a) ours = common a.tags (tags_of ours)
+
+abbrev pub is_incomplete : Option Asked → Bool
+is_incomplete None = false
+is_incomplete (Some a) = a.incomplete
 
 abbrev pub begun_link : ℕ → LinkKey → Attach → Option Asked → List ℕ → Link
 begun_link number key a last address = record {
@@ -228,6 +249,9 @@ begun_link number key a last address = record {
   going_on = false;
   drains = false;
   owes_drain = false;
+  due = due_in last a.unsettled;
+  owes_due = length (due_in last a.unsettled);
+  incomplete = is_incomplete last;
 }
 
 -- A flow of the peer: on a link on which the router sends, the credit that it grants; on another the delivery-count that it has, unless
@@ -247,15 +271,27 @@ flowed_to f (receives h) = receives (with_count f.delivery_count h)
 abbrev pub after_their_flow : Flow → Link → Link
 after_their_flow f l = record l { happened = flowed_to f l.happened; drains = f.drain; owes_drain = f.drain }
 
--- a transfer of the peer, with its payload
+-- a transfer of the peer, with its payload; the first frame of a resumed delivery takes its tag away from those that are due
 abbrev pub came_to : Transfer → List ℕ → Happened → Happened
 came_to x payload (sends h) = sends h
 came_to x payload (receives h) = receives (receiving.behind (frame x payload) h)
 
-abbrev pub after_their_transfer : Transfer → List ℕ → Link → Link
-after_their_transfer x payload l = record l { happened = came_to x payload l.happened }
+abbrev pub without : Option (ArrayVec ℕ) → List (ArrayVec ℕ) → List (ArrayVec ℕ)
+without None due = due
+without (Some tag) due = without_tag tag.items due
 
--- a flow of the router: as a sender its delivery-count, as a receiver the credit that it grants
+abbrev pub due_first : Transfer → List Frame → List (ArrayVec ℕ) → List (ArrayVec ℕ)
+due_first x [] due = if x.resume then without x.delivery_tag due else due
+due_first x (f ∷ fs) due = due
+
+abbrev pub due_after : Transfer → Happened → List (ArrayVec ℕ) → List (ArrayVec ℕ)
+due_after x (sends h) due = due
+due_after x (receives h) due = due_first x (receiving.middle h) due
+
+abbrev pub after_their_transfer : Transfer → List ℕ → Link → Link
+after_their_transfer x payload l = record l { happened = came_to x payload l.happened; due = due_after x l.happened l.due }
+
+-- a flow of the router: as a sender its delivery-count, as a receiver the credit that it grants, with that which it owes for what is due
 abbrev pub with_our_count : Option ℕ → credit.Link → credit.Link
 with_our_count None h = h
 with_our_count (Some n) h = credit.Counted n ∷ h
@@ -269,7 +305,7 @@ flowed_from f (sends h) = sends (with_our_count f.delivery_count h)
 flowed_from f (receives h) = receives (with_our_grant f.delivery_count f.link_credit h)
 
 abbrev pub after_our_flow : Flow → Link → Link
-after_our_flow f l = record l { happened = flowed_from f l.happened; owes_drain = l.owes_drain && not f.drain }
+after_our_flow f l = record l { happened = flowed_from f l.happened; owes_drain = l.owes_drain && not f.drain; owes_due = 0 }
 
 -- a transfer of the router; it starts a delivery unless one is going on
 abbrev pub started : Bool → Happened → Happened

@@ -46,6 +46,10 @@ open_ids t c o first last = filter (is_open_id t c o) (ids_between first last)
 abbrev pub is_claimed : Trace → ℕ → ℕ → ℕ → Bool
 is_claimed t c o id = is_some (claims t c o id)
 
+-- the ids of a range for which this holds, in order
+abbrev pub ids_claimed : Trace → ℕ → ℕ → ℕ → ℕ → List ℕ
+ids_claimed t c o first last = filter (is_claimed t c o) (ids_between first last)
+
 -- ... a delivery of the link on this handle of the router
 abbrev pub is_of_link : ℕ → Option Claim → Bool
 is_of_link h None = false

@@ -46,6 +46,8 @@ pub enum Resumed {
     Again,
     /// The whole message, as a new delivery with the same tag.
     Anew,
+    /// Not at all, as long as this attachment lasts: its incomplete map lacks the row, of which nothing is known.
+    Kept,
 }
 
 /// What a row brings along when its consumer's link takes it up again.
@@ -53,20 +55,39 @@ pub enum Resumed {
 pub struct TakenUp {
     /// How it is sent.
     pub how: Resumed,
+    /// The producer's delivery, to which the outcome is reported; none if no report is due to it, or if the producer's link isn't attached.
+    pub origin: Option<Origin>,
     /// The producer's delivery once its outcome was told, as long as the producer has yet to settle it.
     pub told: Option<Origin>,
     /// The producer's delivery, if the producer settled it before the row was decided.
     pub early: Option<Origin>,
 }
 
+/// The delivery of a row that its producer joins with a resumed one (AMQP 1.0 part 2, section 2.6.13).
+#[derive(Debug, Drop)]
+pub enum JoinedTo {
+    /// The one that has the row now. It keeps its number, its link, its id, and what was sent of it.
+    Standing,
+    /// A new one, since none has the row: it has the row's outcome, or else it is suspended. Nothing of it is sent.
+    New(Option<DeliveryState>),
+}
+
+/// What is bound, and the producer's delivery of it.
+#[derive(Debug, Drop)]
+pub enum BindingKind {
+    /// A message that came: the producer's delivery; none if the producer had settled it.
+    Message(Option<Origin>),
+    /// A row that was bound before, or in an earlier run, and that its consumer's link takes up again. No consumer is chosen.
+    TakenUp(TakenUp),
+    /// A row, to which its producer's resumed delivery is joined: from now on the row's outcome is reported to that. No consumer is chosen.
+    Joined(Origin, JoinedTo),
+}
+
 /// A message bound to a consumer's link.
 #[derive(Debug, Drop)]
 pub struct Binding {
-    /// The consumer's link.
+    /// The consumer's link; the producer's, if a producer's delivery is joined to a row.
     pub consumer: Attachment,
-    /// The producer's delivery; none if the producer had settled it, or, for a row that is taken up again, if the producer's link isn't
-    /// attached.
-    pub origin: Option<Origin>,
     /// Its row in the book, if it is durable.
     pub row: Option<RowNumber>,
     /// Whether the consumer's link is durable: a row then stays undecided if the link is suspended.
@@ -75,7 +96,6 @@ pub struct Binding {
     pub format: u32,
     /// The message.
     pub payload: Bytes,
-    /// What its row brings along, if it was bound before, or in an earlier run, and the consumer's link takes it up again: no consumer is
-    /// chosen then, and the origin is that of the delivery which the row had until now.
-    pub taken_up: Option<TakenUp>,
+    /// What it is: a message that came, or a row that is bound again.
+    pub kind: BindingKind,
 }

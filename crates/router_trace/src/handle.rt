@@ -1,11 +1,14 @@
 //! The state of a peer's handle, and what a peer's attach asks for.
-ghost use Rattle.std.specs.Prelude.{◌≡◌};
-ghost use Rattle.router_trace.specs.Links.{asked_of};
+ghost use Rattle.std.specs.Prelude.{◌≡◌, IfOk};
+ghost use Rattle.std.specs.Option.{option_copied};
+ghost use Rattle.router_trace.specs.Links.{asked_of, tags_by};
 
 use crate::event::ConnectionId;
+use crate::tags::Tags;
 use amqp_link::SendEnd;
-use amqp_model::Attach;
+use amqp_model::{Attach, Role, Unsettled};
 use amqp_session::Serial;
+use std::alloc::{AllocError, Global};
 
 /// What a peer's handle stands for (AMQP 1.0 part 2, section 2.6.2).
 #[derive(Clone, Copy, Debug, PartialEq, Eq)]
@@ -16,13 +19,17 @@ pub enum PeerHandle {
     Detaching,
 }
 
-/// The fields of a peer's attach that the router's answer depends on (AMQP 1.0 part 2, section 2.7.3).
-#[derive(Clone, Copy, Debug, PartialEq, Eq)]
+/// The fields of a peer's attach that the link depends on (AMQP 1.0 part 2, section 2.7.3).
+#[derive(Debug, Drop)]
 pub struct Asked {
     /// The peer's handle.
     pub handle: u32,
     /// The peer's initial delivery-count; 0 if it has none.
     pub initial: u32,
+    /// If the peer is the sender, the tags in its unsettled map.
+    pub tags: Tags,
+    /// Whether it says that its unsettled map is incomplete.
+    pub incomplete: bool,
 }
 
 /// What a peer's handle stands for, with the link's credit state.
@@ -67,12 +74,24 @@ pub struct Attachment {
 
 impl Asked {
     /// The fields of an attach.
-    pub fn of(attach: &Attach) -> Asked
-        ensures { result ≡ asked_of attach.now }
+    pub fn of(alloc: Global, attach: &Attach) -> Result<Asked, AllocError>
+        ensures { IfOk result (λ asked. asked ≡ asked_of attach.now) }
     {
-        Asked {
+        Ok(Asked {
             handle: attach.handle,
             initial: attach.initial_delivery_count.unwrap_or(0),
-        }
+            tags: tags_by(alloc, attach.role, attach.unsettled.as_ref())?,
+            incomplete: attach.incomplete_unsettled,
+        })
+    }
+}
+
+/// The tags in the map of an attach, if it is a sender's.
+fn tags_by(alloc: Global, role: Role, map: Option<&Unsettled>) -> Result<Tags, AllocError>
+    ensures { IfOk result (λ tags. tags ≡ tags_by role (option_copied map.entry)) }
+{
+    match role {
+        Role::Sender => Tags::of(alloc, map),
+        Role::Receiver => Ok(Tags::none(alloc)),
     }
 }

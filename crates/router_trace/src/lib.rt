@@ -10,9 +10,10 @@ mod frames;
 mod handle;
 mod outgoing;
 mod router_id;
+mod tags;
 mod terms;
 
-pub use binding::{Binding, DeliveryName, Origin, Resumed, TakenUp};
+pub use binding::{Binding, BindingKind, DeliveryName, JoinedTo, Origin, Resumed, TakenUp};
 pub use channel::PeerChannel;
 pub use condition::Condition;
 pub use durable::is_durable;
@@ -23,4 +24,5 @@ pub use outgoing::Outgoing;
 pub use router_id::{
     HANDLE_MAX, MAX_FRAME_SIZE, RouterId, SESSION_WINDOW, beat_item, flow_item, header_item,
 };
+pub use tags::Tags;
 pub use terms::Terms;

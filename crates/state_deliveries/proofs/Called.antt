@@ -1,6 +1,6 @@
 -- The names of deliveries: what is there under a name is the last binding with it.
 use Rattle.std.proofs.Common.{◌≡◌, ◌∙◌, ◌≤◌, ◌+◌, ℕ, Bool, true, false, refl, sym, ap, arith, List, [], ◌∷◌, length, Option, Some, None}
-use Rattle.std.specs.Prelude.{◌==◌, ◌&&◌, if◌then◌else◌, not}
+use Rattle.std.specs.Prelude.{◌==◌, ◌&&◌, if◌then◌else◌, is_none, not}
 use Rattle.std.specs.Option.{option_and_then}
 use Rattle.std.proofs.lemmas.Bool.{eqb-true, eq-eqb}
 use Rattle.std.proofs.lemmas.Bool.Decides.{nat_tests}
@@ -15,17 +15,19 @@ use Rattle.book_model.specs.declared.act.Act.{Act}
 use Rattle.router_trace.specs.declared.binding.Binding.{Binding}
 use Rattle.router_trace.specs.declared.binding.DeliveryName.{DeliveryName}
 use Rattle.router_trace.specs.declared.binding.DeliveryName.TheVariants.{Row, Counter}
+use Rattle.router_trace.specs.declared.binding.Origin.{Origin}
 use Rattle.router_trace.specs.declared.event.Event.{Event}
 use Rattle.router_trace.specs.declared.event.Event.TheVariants as event
 use Rattle.router_trace.specs.declared.channel.PeerChannel.{PeerChannel}
 use Rattle.router_trace.specs.declared.handle.Attachment.{Attachment}
 use Rattle.router_trace.specs.Trace.{Trace, Did, Out, Took, Bound, Booked, Began}
-use Rattle.router_trace.specs.Deliveries.{Delivery, called, source, delivery, bindings, bound, same_name, name_in, number_named, unless_over, unless_called, is_over, untold, unsettled, ended, decided_at_end, suspended_at_end, closes, after_ends, is_gone_with, after_frame, put_in, after_put, told, decided, is_undecided, is_meant, is_named, is_number, carried, tag_in, disposed, is_on, is_settled_at, heard_in, heard, after_event, ended_by, lost_with, origin_id, sending, named, decision, terminal, sender, forsaken, channels_found, acts_found}
+use Rattle.router_trace.specs.Deliveries.{Delivery, called, source, delivery, bindings, bound, joins_standing, with_binding, same_name, name_in, number_named, unless_over, unless_called, is_over, untold, unsettled, ended, decided_at_end, suspended_at_end, closes, after_ends, is_gone_with, after_frame, put_in, after_put, told, decided, is_undecided, is_meant, is_named, is_number, carried, tag_in, disposed, is_on, is_settled_at, heard_in, heard, after_event, ended_by, lost_with, origin_id, sending, named, decision, terminal, sender, forsaken, channels_found, acts_found}
 use Rattle.state_deliveries.specs.declared.by_name.ByName.{ByName}
 use Rattle.state_deliveries.specs.declared.change.Change.{Change}
 use Rattle.state_deliveries.specs.declared.change.Change.TheVariants as change
 use Rattle.state_deliveries.specs.Calling.{at_name, is_called, AreCalled, NumbersFit, Knows}
 use Rattle.state_deliveries.specs.Stepping.{changed, is_gone, comes_with_id, is_decided_by}
+use Rattle.state_deliveries.proofs.Joined.{was_joined}
 use Rattle.state_deliveries.proofs.Low.{low_number, low_is}
 
 -- equal names
@@ -156,7 +158,7 @@ there_named (Out c i ∷ t) n d e =
 there_named (Took c k ∷ t) n d e = there_named t n d e
 there_named (Booked acts full ∷ t) n d e = there_named t n d e
 there_named (Began g ∷ t) n d e = absurd cc
-there_named (Bound b ∷ t) n d e = by_test (bindings t + 1 == n) refl (there_named t n d)
+there_named (Bound b ∷ t) n d e = by_kind (joins_standing b.kind) e (there_named t n)
   where
     newest : DeliveryName
     newest = name_in t b
@@ -165,16 +167,23 @@ there_named (Bound b ∷ t) n d e = by_test (bindings t + 1 == n) refl (there_na
     of None = newest
     of (Some x) = x.name
 
-    by_test : (q : Bool) → (bindings t + 1 == n) ≡ q → (delivery t n ≡ Some d → number_named t d.name ≡ Some n) → (if same_name newest d.name then Some (bindings t + 1) else number_named t d.name) ≡ Some n
-    by_test true q rest =
-        let there : Some (bound newest b) ≡ Some d = sym (ap (λ (x : Bool). if x then Some (bound newest b) else unless_called newest (delivery t n)) q) ∙ e in
+    by_test : (q : Bool) → (bindings t + 1 == n) ≡ q → (if bindings t + 1 == n then Some (bound newest b) else unless_called newest (delivery t n)) ≡ Some d
+        → (delivery t n ≡ Some d → number_named t d.name ≡ Some n) → (if same_name newest d.name then Some (bindings t + 1) else number_named t d.name) ≡ Some n
+    by_test true q f rest =
+        let there : Some (bound newest b) ≡ Some d = sym (ap (λ (x : Bool). if x then Some (bound newest b) else unless_called newest (delivery t n)) q) ∙ f in
         let name : newest ≡ d.name = ap of there in
         ap (λ x. if same_name newest x then Some (bindings t + 1) else number_named t x) (sym name)
         ∙ ap (λ x. if x then Some (bindings t + 1) else number_named t newest) (same_itself newest)
         ∙ ap Some (eqb-true (bindings t + 1) n q)
-    by_test false q rest =
-        let old = uncalled newest (delivery t n) d (sym (ap (λ (x : Bool). if x then Some (bound newest b) else unless_called newest (delivery t n)) q) ∙ e) in
+    by_test false q f rest =
+        let old = uncalled newest (delivery t n) d (sym (ap (λ (x : Bool). if x then Some (bound newest b) else unless_called newest (delivery t n)) q) ∙ f) in
         ap (λ x. if x then Some (bindings t + 1) else number_named t d.name) (same_back newest d.name ∙ old.1) ∙ rest old.0
+
+    by_kind : (j : Option Origin) → with_binding j newest b (bindings t + 1 == n) (delivery t n) ≡ Some d
+        → ((x : Delivery) → delivery t n ≡ Some x → number_named t x.name ≡ Some n)
+        → (if is_none j && same_name newest d.name then Some (bindings t + 1) else number_named t d.name) ≡ Some n
+    by_kind None f rest = by_test (bindings t + 1 == n) refl f (rest d)
+    by_kind (Some p) f rest = let was = was_joined newest p (delivery t n) d f in ap (number_named t) was.2 ∙ rest was.0 was.1
 
 -- no binding has two names
 abbrev number_of : Option ℕ → ℕ
@@ -188,7 +197,7 @@ one_name (Out c i ∷ t) a b n e f = one_name t a b n e f
 one_name (Took c k ∷ t) a b n e f = one_name t a b n e f
 one_name (Booked acts full ∷ t) a b n e f = one_name t a b n e f
 one_name (Began g ∷ t) a b n e f = absurd cc
-one_name (Bound x ∷ t) a b n e f = by_tests (same_name (name_in t x) a) (same_name (name_in t x) b) refl refl e f (one_name t a b n)
+one_name (Bound x ∷ t) a b n e f = by_kind (is_none (joins_standing x.kind)) e f (one_name t a b n)
   where
     high : (k n : ℕ) → Some (k + 1) ≡ Some n → n ≤ k → ⊥
     high k n is low = let same : k + 1 ≡ n = ap number_of is in omega (arith, same, low)
@@ -200,6 +209,12 @@ one_name (Bound x ∷ t) a b n e f = by_tests (same_name (name_in t x) a) (same_
     by_tests true false g h e f rest = absurd (high (bindings t) n e (low_is (bindings t) n (number_named t b) (low_number t b) f))
     by_tests false true g h e f rest = absurd (high (bindings t) n f (low_is (bindings t) n (number_named t a) (low_number t a) e))
     by_tests false false g h e f rest = rest e f
+
+    by_kind : (new : Bool) → (if new && same_name (name_in t x) a then Some (bindings t + 1) else number_named t a) ≡ Some n
+        → (if new && same_name (name_in t x) b then Some (bindings t + 1) else number_named t b) ≡ Some n
+        → (number_named t a ≡ Some n → number_named t b ≡ Some n → a ≡ b) → a ≡ b
+    by_kind true e f rest = by_tests (same_name (name_in t x) a) (same_name (name_in t x) b) refl refl e f rest
+    by_kind false e f rest = rest e f
 
 -- so a table with each delivery under its name has the numbers of the trace
 number_there : (name : DeliveryName) (v : Option Delivery) → is_called name v ≡ true → (d : Delivery) × (v ≡ Some d) × (d.name ≡ name)

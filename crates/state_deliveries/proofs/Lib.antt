@@ -7,6 +7,7 @@ mod Keys
 pub mod Puts
 mod Closed
 mod Named
+mod Joined
 mod Bound
 mod Picked
 mod Given
@@ -21,7 +22,6 @@ pub mod Touching
 mod Above
 mod Pairs
 pub mod Unsent
-mod Ranges
 mod Opened
 pub mod Listed
 pub mod Placed

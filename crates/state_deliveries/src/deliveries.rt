@@ -1,12 +1,13 @@
 //! The table of deliveries.
-ghost use Rattle.std.specs.Prelude.{◌≡◌, ◌==◌, ◌&&◌, ◌∷◌, List, ℕ, OnOk, IfOk, false, if◌then◌else◌};
-ghost use Rattle.std.specs.Option.{option_map, is_none, is_some};
+ghost use Rattle.std.specs.Prelude.{◌≡◌, ◌==◌, ◌&&◌, ◌∷◌, List, ℕ, OnOk, IfOk, true, false, if◌then◌else◌};
+ghost use Rattle.std.specs.Option.{option_copied, option_map, is_none, is_some};
 ghost use Rattle.state_collections.specs.NumberMap.{at_number};
 ghost use Rattle.router_trace.specs.Trace.{Beginning, Trace};
 ghost use Rattle.router_trace.specs.Configuration.{opened};
 ghost use Rattle.router_trace.specs.Trace.{Entry, Out, Bound, did};
+ghost use Rattle.router_trace.specs.declared.binding.JoinedTo.TheVariants.{New};
 ghost use Rattle.router_trace.specs.declared.event.Event.TheVariants as event;
-ghost use Rattle.router_trace.specs.Deliveries.{called, origin_in, told_in, early_in, delivery, acts_found, channels_found, giving, name_of, next_id, sending, named, waits_on, undecided_on, held_from, is_to_tell};
+ghost use Rattle.router_trace.specs.Deliveries.{called, joined_by, joining, joins_standing, origin_in, told_in, early_in, delivery, acts_found, channels_found, giving, name_of, next_id, sending, named, waits_on, undecided_on, held_from, is_to_tell};
 ghost use Rattle.router_trace.specs.Sessions.{maps, is_channel};
 ghost use Rattle.router_trace.specs.Following.{first_delivery, is_unsent_on, is_used};
 ghost use Rattle.router_trace.specs.Settling.{open_ids};
@@ -28,9 +29,10 @@ use crate::names::Names;
 use crate::next_ids::NextIds;
 use crate::sending::Sending;
 use crate::store::Store;
-use amqp_model::Item;
+use amqp_model::{DeliveryState, Item, copy_state};
 use book_model::{Act, Decision, RowNumber};
-use router_trace::{Binding, ConnectionId, DeliveryName};
+use bytes::Bytes;
+use router_trace::{Binding, BindingKind, ConnectionId, DeliveryName, JoinedTo, Origin};
 use std::alloc::{AllocError, Global};
 
 /// The deliveries that the router passes on. After an error the table's contents are unspecified.
@@ -216,9 +218,10 @@ impl Deliveries {
         Producers::of(self.store.called(name))
     }
 
-    /// Binds a message to a consumer's link. Fails if memory is refused, and if no binding number is left.
+    /// Binds a message under a new number: one that came, a row that is taken up again, or one that no delivery has. Fails if memory is
+    /// refused, and if no binding number is left.
     pub fn bind(&mut self, binding: Binding) -> Result<(), AllocError>
-        ensures fits { OnOk result ((t : List Entry) → DeliveriesFit self.old t → DeliveriesFit self.new (Bound binding ∷ t)) }
+        ensures fits { OnOk result ((t : List Entry) → is_none (joins_standing binding.kind) ≡ true → DeliveriesFit self.old t → DeliveriesFit self.new (Bound binding ∷ t)) }
         ensures touches { OnOk result (Touches self.old self.new) }
     {
         let Some(number) = self.bindings.checked_add(1) else {
@@ -232,6 +235,25 @@ impl Deliveries {
             .bind(number, name_of(binding.row, counter), binding)?;
         self.bindings = number;
         Ok(())
+    }
+
+    /// Joins a producer's resumed delivery to a row, which has this outcome if it is decided: to the delivery that has the row, in its place, or
+    /// else to a new one. Fails if memory is refused, and if no binding number is left.
+    pub fn join(
+        &mut self,
+        origin: Origin,
+        row: RowNumber,
+        outcome: Option<&DeliveryState>,
+    ) -> Result<(), AllocError>
+        ensures fits { OnOk result ((t : List Entry) → DeliveriesFit self.old t → DeliveriesFit self.new (Bound (joined_by t origin row (option_copied outcome.entry)) ∷ t)) }
+        ensures touches { OnOk result (Touches self.old self.new) }
+    {
+        let stands = self.store.join(DeliveryName::Row(row), origin)?;
+        if stands {
+            return Ok(());
+        }
+        let outcome = copied(outcome)?;
+        self.bind(joining(origin, row, outcome))
     }
 
     /// A connection is lost.
@@ -285,6 +307,30 @@ impl Deliveries {
         self.sending.put(conn, item, &self.store.by_name)?;
         self.next_ids.put(conn, item)?;
         Ok(())
+    }
+}
+
+/// A copy of an outcome, if there is one.
+fn copied(outcome: Option<&DeliveryState>) -> Result<Option<DeliveryState>, AllocError>
+    ensures { IfOk result (λ copy. copy ≡ option_copied outcome.entry) }
+{
+    match outcome {
+        None => Ok(None),
+        Some(outcome) => Ok(Some(copy_state(outcome)?)),
+    }
+}
+
+/// What is bound if a producer's delivery is joined to a row that no delivery has.
+fn joining(origin: Origin, row: RowNumber, outcome: Option<DeliveryState>) -> Binding
+    ensures { result ≡ joining origin row (New outcome) }
+{
+    Binding {
+        consumer: origin.link,
+        row: Some(row),
+        lasting: true,
+        format: 0,
+        payload: Bytes::new(),
+        kind: BindingKind::Joined(origin, JoinedTo::New(outcome)),
     }
 }
 

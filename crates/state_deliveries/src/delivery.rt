@@ -1,7 +1,7 @@
 //! Deliveries as the table keeps them.
-ghost use Rattle.std.specs.Prelude.{◌≡◌, ◌&&◌, OnOk, Some, option_map, if◌then◌else◌};
+ghost use Rattle.std.specs.Prelude.{◌≡◌, ◌&&◌, OnOk, Some, is_none, option_map, if◌then◌else◌};
 ghost use Rattle.router_trace.specs.Settling.{is_open_as};
-ghost use Rattle.router_trace.specs.Deliveries.{bound, brought, origin_in, told_in, early_in, outcome_as, is_resumed, resumes, source, sender, holder, is_over, is_undecided, after_frame, untold, unsettled, forsaken, ended, after_ends};
+ghost use Rattle.router_trace.specs.Deliveries.{bound, brought, origin_in, told_in, early_in, origin_of, presettles, goes_out, is_sent, is_put_off, outcome_as, outcome_known, outcome_in, is_resumed, resumes, with_origin, source, sender, holder, is_over, is_undecided, after_frame, untold, unsettled, forsaken, ended, after_ends};
 ghost use Rattle.state_deliveries.specs.Deciding.{bare, changed_by};
 ghost use Rattle.state_deliveries.specs.Giving.{with_outcome};
 ghost use Rattle.state_deliveries.specs.Stepping.{is_gone, is_decided_by, comes_with_id, changed};
@@ -10,7 +10,7 @@ use crate::change::{Change, Gone, comes_with_id, is_in};
 use crate::state::failed;
 use amqp_model::{DeliveryState, Transfer, copy_state};
 use bytes::Bytes;
-use router_trace::{Attachment, Binding, DeliveryName, Origin, Resumed, TakenUp};
+use router_trace::{Attachment, Binding, BindingKind, DeliveryName, JoinedTo, Origin, Resumed};
 use std::alloc::AllocError;
 use std::marker::Model;
 
@@ -60,12 +60,14 @@ pub struct Producers {
     pub early: Option<Origin>,
 }
 
-/// What a row that is taken up again brings along.
+/// What comes with a binding, by what is bound.
 #[derive(Drop)]
 struct Brought {
+    producers: Producers,
     outcome: Option<DeliveryState>,
-    told: Option<Origin>,
-    early: Option<Origin>,
+    presettled: bool,
+    sent: bool,
+    suspended: bool,
     resumed: bool,
 }
 
@@ -115,26 +117,59 @@ impl Producers {
     }
 }
 
-impl Brought {
-    /// What comes with a binding: nothing, if its row isn't taken up again.
-    fn by(taken_up: Option<TakenUp>) -> Brought
-        ensures outcome { result.outcome ≡ brought (λ u. outcome_as u.how) taken_up }
-        ensures told { result.told ≡ brought (λ u. u.told) taken_up }
-        ensures early { result.early ≡ brought (λ u. u.early) taken_up }
-        ensures resumed { result.resumed ≡ resumes taken_up }
+impl Producers {
+    /// This one, to which the outcome is reported, or none.
+    fn reporting(origin: Option<Origin>) -> Producers
+        ensures { result ≡ record { origin = origin; told = None; early = None } }
     {
-        match taken_up {
-            None => Brought {
+        Producers {
+            origin,
+            told: None,
+            early: None,
+        }
+    }
+}
+
+impl Brought {
+    /// What comes with a binding of this kind.
+    fn by(kind: BindingKind) -> Brought
+        ensures origin { result.producers.origin ≡ origin_of kind }
+        ensures told { result.producers.told ≡ brought (λ u. u.told) kind }
+        ensures early { result.producers.early ≡ brought (λ u. u.early) kind }
+        ensures outcome { result.outcome ≡ outcome_in kind }
+        ensures presettled { result.presettled ≡ presettles kind }
+        ensures sent { result.sent ≡ is_sent kind }
+        ensures suspended { result.suspended ≡ is_put_off kind }
+        ensures resumed { result.resumed ≡ resumes kind }
+    {
+        match kind {
+            BindingKind::Message(origin) => Brought {
+                producers: Producers::reporting(origin),
                 outcome: None,
-                told: None,
-                early: None,
+                presettled: origin.is_none(),
+                sent: true,
+                suspended: false,
                 resumed: false,
             },
-            Some(taken) => Brought {
-                told: taken.told,
-                early: taken.early,
+            BindingKind::TakenUp(taken) => Brought {
+                producers: Producers {
+                    origin: taken.origin,
+                    told: taken.told,
+                    early: taken.early,
+                },
+                presettled: false,
+                sent: goes_out(&taken.how),
+                suspended: false,
                 resumed: is_resumed(&taken.how),
                 outcome: outcome_as(taken.how),
+            },
+            BindingKind::Joined(origin, to) => Brought {
+                producers: Producers::reporting(Some(origin)),
+                presettled: false,
+                sent: false,
+                suspended: is_unknown(&to),
+                resumed: false,
+                outcome: outcome_known(to),
             },
         }
     }
@@ -146,7 +181,38 @@ fn is_resumed(how: &Resumed) -> bool
 {
     match how {
         Resumed::Anew => false,
+        Resumed::Kept => false,
         _ => true,
+    }
+}
+
+/// Whether anything is sent of a row.
+fn goes_out(how: &Resumed) -> bool
+    ensures { result ≡ goes_out how.now }
+{
+    match how {
+        Resumed::Kept => false,
+        _ => true,
+    }
+}
+
+/// Whether a row to which a producer's delivery is joined is known to have no outcome.
+fn is_unknown(to: &JoinedTo) -> bool
+    ensures { result ≡ is_none (outcome_known to.now) }
+{
+    match to {
+        JoinedTo::Standing => true,
+        JoinedTo::New(outcome) => outcome.is_none(),
+    }
+}
+
+/// The outcome that a row has already, to which a producer's delivery is joined.
+fn outcome_known(to: JoinedTo) -> Option<DeliveryState>
+    ensures { result ≡ outcome_known to }
+{
+    match to {
+        JoinedTo::Standing => None,
+        JoinedTo::New(outcome) => outcome,
     }
 }
 
@@ -165,23 +231,22 @@ impl Delivery {
     pub(crate) fn bound(name: DeliveryName, binding: Binding) -> Delivery
         ensures { result ≡ bound name binding }
     {
-        let presettled = binding.origin.is_none() && binding.taken_up.is_none();
-        let brought = Brought::by(binding.taken_up);
+        let brought = Brought::by(binding.kind);
         Delivery {
             name,
             link: binding.consumer,
-            origin: binding.origin,
-            presettled,
+            origin: brought.producers.origin,
+            presettled: brought.presettled,
             format: binding.format,
             payload: binding.payload,
             id: None,
             sent: 0,
-            going_on: true,
+            going_on: brought.sent,
             outcome: brought.outcome,
-            told: brought.told,
-            early: brought.early,
+            told: brought.producers.told,
+            early: brought.producers.early,
             lasting: name.has_row() && binding.lasting,
-            suspended: false,
+            suspended: brought.suspended,
             resumed: brought.resumed,
         }
     }
@@ -286,6 +351,14 @@ impl Delivery {
     {
         self.told = self.source();
         self.origin = None;
+    }
+
+    /// Its outcome is reported to this delivery of its producer from now on, and to none before.
+    pub(crate) fn join(&mut self, origin: Origin)
+        ensures { self.new ≡ with_origin origin self.old }
+    {
+        self.forsake();
+        self.origin = Some(origin);
     }
 
     /// It gets an outcome, if it has none.

@@ -1,13 +1,13 @@
 //! Deliveries by number.
 ghost use Rattle.std.specs.Prelude.{◌≡◌, ◌==◌, ℕ, Some, None, true, if◌then◌else◌, OnOk, IfOk, length, ◌||◌, ◌&&◌, nat_lt, ◌∷◌, [], List, Bool, false};
-ghost use Rattle.std.specs.Option.{option_map, option_and_then};
+ghost use Rattle.std.specs.Option.{option_map, option_and_then, is_some};
 ghost use Rattle.std.specs.Ordering.{nat_cmp};
 ghost use Rattle.std.specs.Map.{keys_of};
 ghost use Rattle.state_collections.specs.NumberMap.{at_number};
 ghost use Rattle.amqp_session.specs.Ranges.{has};
 ghost use Rattle.router_trace.specs.declared.binding.DeliveryName.{DeliveryName as Name};
 ghost use Rattle.router_trace.specs.declared.binding.DeliveryName.TheVariants.{Row};
-ghost use Rattle.router_trace.specs.Deliveries.{unless_over, unless_called, same_name, bound, after_frame, is_number, is_id, delivery, number_named, sending};
+ghost use Rattle.router_trace.specs.Deliveries.{unless_over, unless_called, same_name, bound, joined, with_origin, after_frame, is_number, is_id, delivery, number_named, sending};
 ghost use Rattle.router_trace.specs.Settling.{is_open_as};
 ghost use Rattle.router_trace.specs.Trace.{Entry, Out, did};
 ghost use Rattle.amqp_model.specs.declared.item.Item.TheVariants as item;
@@ -39,7 +39,7 @@ use crate::touched::Touched;
 use amqp_model::{DeliveryState, Item, Perf, Transfer};
 use book_model::Decision;
 use bytes::Bytes;
-use router_trace::{Binding, ConnectionId, DeliveryName};
+use router_trace::{Binding, ConnectionId, DeliveryName, Origin};
 use state_collections::{Boxed, NumberMap};
 use std::alloc::{AllocError, Global};
 use std::collections::BTreeSet;
@@ -339,6 +339,24 @@ impl Store {
         Ok(entries.before.durable)
     }
 
+    /// Joins a delivery of a producer to the one with a name, in its place; whether there is one.
+    pub(crate) fn join(&mut self, name: DeliveryName, origin: Origin) -> Result<bool, AllocError>
+        ensures found { IfOk result (λ found. found ≡ is_some (option_and_then (at_number self.old.deliveries) (at_name self.old.by_name name))) }
+        ensures deliveries { OnOk result (Indexed self.old → (n : ℕ) → at_number self.new.deliveries n ≡ option_map (joined name origin) (at_number self.old.deliveries n)) }
+        ensures indexed { OnOk result (Indexed self.old → Indexed self.new) }
+        ensures touches { OnOk result (StoreTouches self.old self.new) }
+    {
+        let Some(number) = self.by_name.get(name) else {
+            return Ok(false);
+        };
+        let mut entries = Moved::new();
+        if !join_in(&mut self.deliveries, number, origin, &mut entries) {
+            return Ok(false);
+        }
+        self.settle(number, &entries)?;
+        Ok(true)
+    }
+
     /// Changes the delivery with a number.
     pub(crate) fn change(&mut self, number: u64, change: &Change) -> Result<(), AllocError>
         ensures deliveries { OnOk result ((n : ℕ) → at_number self.new.deliveries n
@@ -609,6 +627,27 @@ fn give_to(
     delivery.give(outcome)?;
     entries.note_after(delivery);
     Ok(true)
+}
+
+/// Joins a delivery of a producer to the one with a number, in its place, and notes its entries; whether there is one.
+fn join_in(
+    deliveries: &mut NumberMap<Boxed<Delivery>>,
+    number: u64,
+    origin: Origin,
+    entries: &mut Moved,
+) -> bool
+    ensures deliveries { (n : ℕ) → at_number deliveries.new n
+        ≡ (if number == n then option_map (with_origin origin) (at_number deliveries.old n) else at_number deliveries.old n) }
+    ensures found { (if result then Some entries.new else None) ≡ option_map (λ d. moved (keys d) (with_origin origin d)) (at_number deliveries.old number) }
+{
+    let Some(kept) = deliveries.get_mut(number) else {
+        return false;
+    };
+    let delivery = kept.as_mut();
+    entries.note_before(delivery);
+    delivery.join(origin);
+    entries.note_after(delivery);
+    true
 }
 
 /// Notes a transfer that carries `count` bytes of the delivery with a number, in its place, and notes its entries; whether there is one.

@@ -79,9 +79,9 @@ over true true false n x middle old is was = is ∙ was
 over true true true n x middle old is was = is
 
 pub begun_at : (number : ℕ) (key : LinkKey) (a : Attach) (last : Option Asked) (address : List ℕ) (there : Option (List ℕ)) → Some address ≡ there
-    → Some (begun number key a (initial_of last) address) ≡ option_map link_of (attached number key a last there)
+    → Some (begun number key a last address) ≡ option_map link_of (attached number key a last there)
 begun_at number key a last address None e = absurd cc
-begun_at number key a last address (Some b) e = ap Some (ap (begun number key a (initial_of last)) (same e) ∙ begun_follows number key a last b)
+begun_at number key a last address (Some b) e = ap Some (ap (begun number key a last) (same e) ∙ begun_follows number key a last b)
   where
     text : Option (List ℕ) → List ℕ
     text None = []
@@ -140,7 +140,7 @@ set_owes true true true n x old is new o = ap owes is ∙ new
 
 pub begun_there : (n m : ℕ) (k l : LinkKey) (a : Attach) (last told : Option Asked) (address : List ℕ) (there : Option (List ℕ))
     → n ≡ m → k ≡ l → last ≡ told → Some address ≡ there
-    → Some (begun (n + 1) k a (initial_of last) address) ≡ option_map link_of (attached (m + 1) l a told there)
+    → Some (begun (n + 1) k a last address) ≡ option_map link_of (attached (m + 1) l a told there)
 begun_there n m k l a last told address there count key asked is = rw (count, key, asked) (begun_at (m + 1) l a told address there is)
 
 pub counted : (there : Option (List ℕ)) (n m : ℕ) → is_some there ≡ true → m ≡ (if is_some there then m else n)

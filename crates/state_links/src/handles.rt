@@ -59,10 +59,10 @@ impl HandleTable {
     }
 
     /// What the last attach of a peer asks for.
-    pub fn asked(&self, conn: u64) -> Option<Asked>
-        ensures { result ≡ get nat_cmp self.now.asked conn }
+    pub fn asked(&self, conn: u64) -> Option<&Asked>
+        ensures { option_map (λ a. a.now) result ≡ get nat_cmp self.now.asked conn }
     {
-        self.asked.get(&conn).copied()
+        self.asked.get(&conn)
     }
 
     /// What a handle of the peer stands for.
@@ -174,7 +174,8 @@ impl HandleTable {
         ensures { OnOk result ((t : List Entry) (channel : ℕ) (payload : List ℕ) → HandlesFit self.old t
             → HandlesFit self.new (did (event.Item conn (item.Frame false channel (perf.Attach attach.now) payload)) ∷ t)) }
     {
-        match self.asked.insert(conn.0, Asked::of(attach)) {
+        let asked = Asked::of(self.alloc, attach)?;
+        match self.asked.insert(conn.0, asked) {
             Ok(_) => Ok(()),
             Err(_) => Err(AllocError),
         }
@@ -217,14 +218,13 @@ impl HandleTable {
         ensures { OnOk result ((t : List Entry) (sasl : Bool) (payload : List ℕ) → HandlesFit self.old t
             → HandlesFit self.new (Out conn (item.Frame sasl own (perf.Attach attach.now) payload) ∷ t)) }
     {
-        let Some(asked) = self.asked(conn) else {
+        let Some(theirs) = handle_asked(self.asked(conn)) else {
             let _ = self.answered.remove(conn, own, attach.handle);
             return Ok(());
         };
-        self.answered
-            .insert(conn, own, attach.handle, asked.handle)?;
+        self.answered.insert(conn, own, attach.handle, theirs)?;
         self.theirs
-            .insert(conn, own, asked.handle, PeerHandle::Mapped(attach.handle))
+            .insert(conn, own, theirs, PeerHandle::Mapped(attach.handle))
     }
 
     fn put_detach(&mut self, conn: u64, own: u16, detach: &Detach) -> Result<(), AllocError>
@@ -232,7 +232,7 @@ impl HandleTable {
             → HandlesFit self.new (Out conn (item.Frame sasl own (perf.Detach detach.now) payload) ∷ t)) }
     {
         let answered = self.answered.remove(conn, own, detach.handle);
-        let asked = self.asked(conn);
+        let asked = self.asked.get(&conn);
         await_detach(&mut self.theirs, conn, own, answered, asked)
     }
 
@@ -305,10 +305,10 @@ fn await_detach(
     conn: u64,
     own: u16,
     answered: Option<u32>,
-    asked: Option<Asked>,
+    asked: Option<&Asked>,
 ) -> Result<(), AllocError>
     ensures { OnOk result ((c o p : ℕ) → at theirs.new c o p
-        ≡ (if conn == c then (if own == o then detached answered asked p (at theirs.old c o p) else at theirs.old c o p) else at theirs.old c o p)) }
+        ≡ (if conn == c then (if own == o then detached answered (option_map (λ a. a.now) asked.entry) p (at theirs.old c o p) else at theirs.old c o p) else at theirs.old c o p)) }
 {
     match answered {
         Some(handle) => detach(theirs, conn, own, handle),
@@ -316,6 +316,16 @@ fn await_detach(
             None => Ok(()),
             Some(asked) => theirs.insert(conn, own, asked.handle, PeerHandle::Detaching),
         },
+    }
+}
+
+/// The peer's handle that its last attach names.
+fn handle_asked(asked: Option<&Asked>) -> Option<u32>
+    ensures { result ≡ handle_asked (option_map (λ a. a.now) asked.entry) }
+{
+    match asked {
+        None => None,
+        Some(asked) => Some(asked.handle),
     }
 }
 

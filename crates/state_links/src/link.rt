@@ -1,10 +1,10 @@
 //! Links as the table keeps them.
 ghost use Rattle.std.specs.Prelude.{◌≡◌, List, ℕ, Some, if◌then◌else◌, IfOk, OnOk};
-ghost use Rattle.std.specs.Option.{option_map};
-ghost use Rattle.router_trace.specs.Links.{address_by, source_address, target_address, text_of};
+ghost use Rattle.std.specs.Option.{option_copied, option_map};
+ghost use Rattle.router_trace.specs.Links.{address_by, source_address, target_address, text_of, due_in, initial_of, is_incomplete};
 ghost use Rattle.amqp_link.specs.Figures.{after_start};
 ghost use Rattle.state_links.specs.declared.link.Side.TheVariants.{Peer, Router};
-ghost use Rattle.state_links.specs.Ends.{link_of, begun, begun_end, after_their_flow, after_their_transfer, after_our_flow, after_our_transfer, noted, with_grant, with_count, with_our_count, with_our_grant};
+ghost use Rattle.state_links.specs.Ends.{link_of, begun, begun_end, due_at, after_their_flow, after_their_transfer, after_our_flow, after_our_transfer, noted, with_grant, with_count, with_our_count, with_our_grant};
 ghost use Rattle.state_links.specs.Giving.{given_at, part_noted};
 ghost use Rattle.state_links.specs.Looking.{credit_on, credit_at, unused_on, unused_end, count_on, count_at, sends_at, middle_at, is_new, is_in_middle, durable_at};
 ghost use Rattle.router_trace.specs.Links.{Link as View};
@@ -12,12 +12,12 @@ ghost use Rattle.router_trace.specs.Following.{is_sending};
 
 use amqp_link::{Delivery, Grant, Part, RecvEnd, SendEnd};
 use amqp_model::{
-    Address, Attach, Flow, Perf, Role, SourceTerminus, TargetTerminus, Text, Transfer,
+    Address, Attach, Flow, Perf, Role, SourceTerminus, TargetTerminus, Text, Transfer, Unsettled,
 };
 use amqp_session::Serial;
 use book_model::LinkKey;
 use bytes::Bytes;
-use router_trace::is_durable;
+use router_trace::{Asked, Tags, is_durable};
 use std::alloc::{AllocError, Global};
 
 /// The router's end of a link.
@@ -57,6 +57,12 @@ pub struct Link {
     pub drains: bool,
     /// Whether a drain was asked for and is not yet answered.
     pub owes_drain: bool,
+    /// If the peer is the sender, the tags of its deliveries that it may resume and has not resumed yet.
+    pub due: Tags,
+    /// How many credits the peer is still to be granted for these.
+    pub owes_due: u32,
+    /// Whether the peer's attach says that its unsettled map is incomplete.
+    pub incomplete: bool,
 }
 
 /// The address of the terminus at the router's side of an attach, in this role of the router; none if there is no such terminus.
@@ -159,27 +165,33 @@ impl LinkEnd {
 }
 
 impl Link {
-    /// The link that the router's attach begins.
+    /// The link that the router's attach begins, to answer what the peer's last one asks for.
     pub(crate) fn begun(
         alloc: Global,
         number: u64,
         key: LinkKey,
         attach: &Attach,
-        theirs: u32,
-        address: Text,
-    ) -> Link
-        ensures { result ≡ begun number key attach.now theirs address }
+        last: Option<&Asked>,
+        address: &Text,
+    ) -> Result<Link, AllocError>
+        ensures { IfOk result (λ link. link ≡ begun number key attach.now (option_map (λ a. a.now) last.entry) address.now) }
     {
-        Link {
+        let address = address.clone()?;
+        let due = due_in(alloc, last, attach.unsettled.as_ref())?;
+        let owes_due = small(due.len())?;
+        Ok(Link {
             number,
             key,
             address,
             durable: is_durable(attach.role, attach),
-            end: LinkEnd::begun(alloc, attach, theirs),
+            end: LinkEnd::begun(alloc, attach, initial_of(last)),
             going_on: false,
             drains: false,
             owes_drain: false,
-        }
+            due,
+            owes_due,
+            incomplete: is_incomplete(last),
+        })
     }
 
     /// The link credit left, if the router is the sender; else 0.
@@ -306,11 +318,14 @@ impl Link {
     {
         match &mut self.end {
             LinkEnd::Sends(_) => Ok(None),
-            LinkEnd::Receives(end) => Ok(Some(end.on_transfer(transfer, payload.clone()?)?)),
+            LinkEnd::Receives(end) => {
+                take_due(&mut self.due, transfer, end);
+                Ok(Some(end.on_transfer(transfer, payload.clone()?)?))
+            }
         }
     }
 
-    /// Applies a flow of the router: its delivery-count or the credit that it grants, and a drain that it answers.
+    /// Applies a flow of the router: its delivery-count or the credit that it grants, with that for what is due, and a drain that it answers.
     pub fn on_our_flow(&mut self, flow: &Flow)
         ensures { self.new ≡ after_our_flow flow.now self.old }
     {
@@ -319,6 +334,7 @@ impl Link {
             LinkEnd::Receives(end) => note_grant(end, flow.delivery_count, flow.link_credit),
         }
         self.owes_drain = self.owes_drain && !flow.drain;
+        self.owes_due = 0;
     }
 
     /// Applies a transfer of the router: it starts a delivery unless one is going on.
@@ -329,6 +345,58 @@ impl Link {
             note_start(end, self.going_on);
         }
         self.going_on = transfer.more && !transfer.aborted;
+    }
+}
+
+/// The tags that a sender may resume: those in the map of its attach that the router's map has too.
+fn due_in(alloc: Global, last: Option<&Asked>, ours: Option<&Unsettled>) -> Result<Tags, AllocError>
+    ensures { IfOk result (λ due. due ≡ due_in (option_map (λ a. a.now) last.entry) (option_copied ours.entry)) }
+{
+    match last {
+        None => Ok(Tags::none(alloc)),
+        Some(asked) => asked.tags.common(alloc, ours),
+    }
+}
+
+/// The number in 32 bits.
+fn small(count: usize) -> Result<u32, AllocError>
+    ensures { IfOk result (λ small. small ≡ count) }
+{
+    match u32::try_from(count) {
+        Ok(small) => Ok(small),
+        Err(_) => Err(AllocError),
+    }
+}
+
+/// The peer's initial delivery-count.
+fn initial_of(last: Option<&Asked>) -> u32
+    ensures { result ≡ initial_of (option_map (λ a. a.now) last.entry) }
+{
+    match last {
+        None => 0,
+        Some(asked) => asked.initial,
+    }
+}
+
+/// Whether the peer's map is incomplete.
+fn is_incomplete(last: Option<&Asked>) -> bool
+    ensures { result ≡ is_incomplete (option_map (λ a. a.now) last.entry) }
+{
+    match last {
+        None => false,
+        Some(asked) => asked.incomplete,
+    }
+}
+
+/// Takes the tag of a transfer away from those that are due, if it is the first frame of a resumed delivery.
+fn take_due(due: &mut Tags, transfer: &Transfer, end: &RecvEnd)
+    ensures { due.new ≡ due_at transfer.now end.now due.old }
+{
+    if end.in_middle().is_some() || !transfer.resume {
+        return;
+    }
+    if let Some(tag) = &transfer.delivery_tag {
+        due.remove(tag);
     }
 }
 

@@ -5,7 +5,7 @@ ghost use Rattle.router_trace.specs.Trace.{Beginning, Trace};
 ghost use Rattle.router_trace.specs.Configuration.{opened};
 ghost use Rattle.router_trace.specs.Trace.{Entry, Out, did};
 ghost use Rattle.router_trace.specs.Sessions.{is_channel, maps, theirs};
-ghost use Rattle.router_trace.specs.Links.{link, link_place, found_link, free_handle, holder, place_of, durable_key, holds_durable};
+ghost use Rattle.router_trace.specs.Links.{attachments, link, link_place, found_link, free_handle, holder, place_of, durable_key, holds_durable};
 ghost use Rattle.router_trace.specs.Settling.{part_at, middle_on};
 ghost use Rattle.state_links.specs.Ends.{link_of};
 ghost use Rattle.state_links.specs.Looking.{attachment_on, numbered_link};
@@ -120,6 +120,13 @@ impl Links {
         ensures { (t : List Entry) → LinksFit self.now t → result ≡ place_of t number }
     {
         self.table.place_of(number)
+    }
+
+    /// How many attachments there were; it is the number of the newest.
+    pub fn attachments(&self) -> u64
+        ensures { (t : List Entry) → LinksFit self.now t → result ≡ attachments t }
+    {
+        self.table.attachments()
     }
 
     /// The link of the attachment with a number, if it still has it.
@@ -268,8 +275,8 @@ impl Links {
 }
 
 /// What the peer's last attach asks for, if the router puts an attach.
-fn asked_by(handles: &HandleTable, conn: u64, perf: &Perf) -> Option<Asked>
-    ensures { (t : List Entry) → HandlesFit handles.now t → result ≡ asked_in t conn perf.now }
+fn asked_by<'a>(handles: &'a HandleTable, conn: u64, perf: &Perf) -> Option<&'a Asked>
+    ensures { (t : List Entry) → HandlesFit handles.now t → option_map (λ a. a.now) result ≡ asked_in t conn perf.now }
 {
     match perf {
         Perf::Attach(_) => handles.asked(conn),

@@ -15,7 +15,7 @@ ghost use Rattle.router_trace.specs.Trace.{Beginning, Trace};
 ghost use Rattle.router_trace.specs.Configuration.{opened};
 ghost use Rattle.router_trace.specs.Trace.{Entry, Out, did};
 ghost use Rattle.router_trace.specs.Sessions.{is_channel, maps, theirs};
-ghost use Rattle.router_trace.specs.Links.{is_handle, their_handle, asked, initial_of, key_at, is_attached, if_attached, holder, place_of, is_durable_at, holds_durable};
+ghost use Rattle.router_trace.specs.Links.{is_handle, their_handle, asked, key_at, is_attached, if_attached, holder, place_of, is_durable_at, holds_durable};
 ghost use Rattle.router_trace.specs.declared.event.Event.TheVariants as event;
 ghost use Rattle.state_links.specs.declared.link.Side.TheVariants.{Peer, Router};
 ghost use Rattle.state_links.specs.Ends.{begun, noted};
@@ -207,6 +207,13 @@ impl LinkTable {
         }
     }
 
+    /// How many attachments there were.
+    pub fn attachments(&self) -> u64
+        ensures { result ≡ self.now.count }
+    {
+        self.count
+    }
+
     /// The attachments of the links that owe a drain and on which the router is the sender, by connection and by channel.
     pub fn owed(&self) -> Result<Vec<Attachment>, AllocError>
         ensures { IfOk result (λ xs. xs.items ≡ owed_of (at_number self.now.links.rows) self.now.owing.keys) }
@@ -286,9 +293,9 @@ impl LinkTable {
         perf: &Perf,
         payload: &Bytes,
         key: Option<LinkKey>,
-        last: Option<Asked>,
+        last: Option<&Asked>,
     ) -> Result<(), AllocError>
-        ensures fits { OnOk result ((t : List Entry) (sasl : Bool) → key ≡ key_in t conn perf.now → last ≡ asked_in t conn perf.now
+        ensures fits { OnOk result ((t : List Entry) (sasl : Bool) → key ≡ key_in t conn perf.now → option_map (λ a. a.now) last.entry ≡ asked_in t conn perf.now
             → TableFit self.old t → TableFit self.new (Out conn (item.Frame sasl own perf.now payload.now) ∷ t)) }
         ensures touches { OnOk result (Touched self.old self.new) }
     {
@@ -317,9 +324,9 @@ impl LinkTable {
         own: u16,
         attach: &Attach,
         key: Option<LinkKey>,
-        last: Option<Asked>,
+        last: Option<&Asked>,
     ) -> Result<(), AllocError>
-        ensures fits { OnOk result ((t : List Entry) (sasl : Bool) (payload : List ℕ) → key ≡ Some (key_at t conn attach.now) → last ≡ asked t conn
+        ensures fits { OnOk result ((t : List Entry) (sasl : Bool) (payload : List ℕ) → key ≡ Some (key_at t conn attach.now) → option_map (λ a. a.now) last.entry ≡ asked t conn
             → TableFit self.old t → TableFit self.new (Out conn (item.Frame sasl own (perf.Attach attach.now) payload) ∷ t)) }
         ensures touches { OnOk result (Touched self.old self.new) }
     {
@@ -343,10 +350,10 @@ impl LinkTable {
         attach: &Attach,
         key: LinkKey,
         address: &Text,
-        last: Option<Asked>,
+        last: Option<&Asked>,
     ) -> Result<(), AllocError>
         ensures links { OnOk result ((c o h : ℕ) → at self.new.links c o h
-            ≡ (if conn == c then (if own == o then (if attach.now.handle == h then Some (begun (self.old.count + 1) key attach.now (initial_of last) address.now) else at self.old.links c o h) else at self.old.links c o h) else at self.old.links c o h)) }
+            ≡ (if conn == c then (if own == o then (if attach.now.handle == h then Some (begun (self.old.count + 1) key attach.now (option_map (λ a. a.now) last.entry) address.now) else at self.old.links c o h) else at self.old.links c o h) else at self.old.links c o h)) }
         ensures count { OnOk result (self.new.count ≡ self.old.count + 1) }
         ensures keys { OnOk result ((k : AKey) → get key_cmp self.new.names.keys.entries k
             ≡ (if is_eq (key_cmp key k) then Some (attachment (self.old.count + 1) conn own attach.now.handle) else get key_cmp self.old.names.keys.entries k)) }
@@ -359,10 +366,7 @@ impl LinkTable {
             return Err(AllocError);
         };
         touch(&mut self.touched, number)?;
-        let theirs = initial_of(last);
-        let address = address.clone()?;
-        let kept = copy(&key)?;
-        let link = Link::begun(self.alloc, number, kept, attach, theirs, address);
+        let link = Link::begun(self.alloc, number, copy(&key)?, attach, last, address)?;
         self.links.insert(conn, own, attach.handle, link)?;
         self.names.take(
             key,
@@ -581,16 +585,6 @@ fn mark(marks: &mut BTreeSet<u64>, conn: u64, drains: bool) -> Result<(), AllocE
     match marks.insert(conn) {
         Ok(_) => Ok(()),
         Err(_) => Err(AllocError),
-    }
-}
-
-/// The peer's initial delivery-count.
-fn initial_of(last: Option<Asked>) -> u32
-    ensures { result ≡ initial_of last }
-{
-    match last {
-        None => 0,
-        Some(asked) => asked.initial,
     }
 }
 

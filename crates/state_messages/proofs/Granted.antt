@@ -19,7 +19,7 @@ use Rattle.router_trace.specs.Links.{attachments}
 use Rattle.state_pools.specs.Sharing.{Figure, consumer, producer, demand_at, entry, listed}
 use Rattle.state_pools.proofs.AtAddress.{same_bytes}
 use Rattle.state_messages.specs.Figures.{figure}
-use Rattle.state_messages.specs.Messages.{grants, grants_of_address, grants_on, if_some, lower, lower_of, lowest_below, pool_of, wants}
+use Rattle.state_messages.specs.Messages.{lent, grants_of_address, grants_on, if_some, lower, lower_of, lowest_below, pool_of, wants}
 use Rattle.state_messages.proofs.Seen.{by_test}
 
 -- an address isn't below another
@@ -110,14 +110,14 @@ wants_some t q (s ∷ ss) some = refl
 wants_is : (t : Trace) (q : List ℕ) (v : Option Figure) → is_some (demand_at q v) ≡ true → 0 < length (grants_of (pool_of t q)) → wants t v ≡ Some q
 wants_is t q None e some = absurd cc
 wants_is t q (Some (consumer at free pending)) e some = absurd cc
-wants_is t q (Some (producer at unused kept)) e some = by_test (bytes_eq at q)
+wants_is t q (Some (producer at unused due kept)) e some = by_test (bytes_eq at q)
     (λ is. let same : at ≡ q = same_bytes at q is in ap (λ a. if_some (grants_of (pool_of t a)) a) same ∙ wants_some t q (grants_of (pool_of t q)) some)
     (λ is. absurd (true≢false (sym (rw is at e))))
 
 wants_not : (t : Trace) (q : List ℕ) (v : Option Figure) → ((a : List ℕ) → slice_cmp nat_cmp a q ≡ Less → grants_of (pool_of t a) ≡ []) → IsNotBelow q (wants t v)
 wants_not t q None none = tt
 wants_not t q (Some (consumer at free pending)) none = tt
-wants_not t q (Some (producer at unused kept)) none = by_sums (grants_of (pool_of t at)) refl
+wants_not t q (Some (producer at unused due kept)) none = by_sums (grants_of (pool_of t at)) refl
   where
     by_sums : (sums : List (ℕ × ℕ)) → grants_of (pool_of t at) ≡ sums → IsNotBelow q (if_some sums at)
     by_sums [] is = tt
@@ -129,11 +129,11 @@ wants_not t q (Some (producer at unused kept)) none = by_sums (grants_of (pool_o
 wants_none : (t : Trace) (v : Option Figure) → ((a : List ℕ) → grants_of (pool_of t a) ≡ []) → wants t v ≡ None
 wants_none t None none = refl
 wants_none t (Some (consumer at free pending)) none = refl
-wants_none t (Some (producer at unused kept)) none = ap (λ sums. if_some sums at) (none at)
+wants_none t (Some (producer at unused due kept)) none = ap (λ sums. if_some sums at) (none at)
 
 -- the grants as the table of pools gives them
-pub grants_none : (t : Trace) → ((a : List ℕ) → grants_of (pool_of t a) ≡ []) → grants t ≡ []
-unfolding grants
+pub grants_none : (t : Trace) → ((a : List ℕ) → grants_of (pool_of t a) ≡ []) → lent t ≡ []
+unfolding lent
 grants_none t none = ap (grants_of_address t) (lowest_none (attachments t + 1) (λ n. wants t (figure t n)) (λ k. wants_none t (figure t k) none))
 
 length_by_id : (sums : List (ProducerId × ℕ)) → length (by_id sums) ≡ length sums
@@ -141,8 +141,8 @@ length_by_id [] = refl
 length_by_id (s ∷ ss) = ap suc (length_by_id ss)
 
 pub grants_are : (t : Trace) (q : List ℕ) (sums : List (ProducerId × ℕ)) → by_id sums ≡ grants_of (pool_of t q) → 0 < length sums
-    → ((a : List ℕ) → slice_cmp nat_cmp a q ≡ Less → grants_of (pool_of t a) ≡ []) → grants_on t (by_id sums) ≡ grants t
-unfolding grants
+    → ((a : List ℕ) → slice_cmp nat_cmp a q ≡ Less → grants_of (pool_of t a) ≡ []) → grants_on t (by_id sums) ≡ lent t
+unfolding lent
 grants_are t q sums is some none =
     let filled : 0 < length (grants_of (pool_of t q)) = subst (λ n. 0 < n) (sym (length_by_id sums) ∙ ap length is) some in
     let one : Has (λ n. demand_at q (figure t n)) (attachments t) = listed_has (λ n. demand_at q (figure t n)) (attachments t)

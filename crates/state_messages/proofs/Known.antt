@@ -14,11 +14,12 @@ use Rattle.router_trace.specs.Links.{attachments, if_attached, last_of_key, numb
 use Rattle.router_trace.specs.Trace.{Trace, Out, Bound, did}
 use Rattle.router_trace.specs.declared.binding.Binding.{Binding}
 use Rattle.router_trace.specs.declared.binding.Origin.{Origin}
+use Rattle.router_trace.specs.declared.binding.BindingKind.TheVariants as kind
 use Rattle.router_trace.specs.declared.binding.Resumed.{Resumed}
 use Rattle.router_trace.specs.declared.binding.TakenUp.{TakenUp}
 use Rattle.router_trace.specs.Numbers.{count_below}
 use Rattle.router_trace.specs.Following.{link_of}
-use Rattle.router_trace.specs.Deliveries.{Delivery, called, origin_in, told_in, early_in, bindings, delivery, waits_on, undecided_on, held_from}
+use Rattle.router_trace.specs.Deliveries.{Delivery, called, is_message, joins_standing, origin_in, told_in, early_in, bindings, delivery, waits_on, undecided_on, held_from}
 use Rattle.router_trace.specs.declared.binding.DeliveryName.TheVariants.{Row}
 use Rattle.state_deliveries.specs.declared.deliveries.Deliveries.{Deliveries}
 use Rattle.state_unsettled.specs.Incoming.{IncomingFit}
@@ -96,10 +97,15 @@ pub bound_counts : (b : Binding) (t : Trace) → IsStep t (Bound b ∷ t)
 bound_counts b t = record {
   counts = λ p none same.
       count_alike (bindings t + 1) (λ n. p (delivery t n)) (λ n. p (delivery (Bound b ∷ t) n)) same
-      ∙ more (bindings t + 1) (λ n. p (delivery (Bound b ∷ t) n)) (sym (same (bindings t + 1)) ∙ ap p (none_beyond t (bindings t + 1) (omega arith)) ∙ none);
+      ∙ one_more (is_none (joins_standing b.kind)) (λ n. p (delivery (Bound b ∷ t) n)) (sym (same (bindings t + 1)) ∙ ap p (none_beyond t (bindings t + 1) (omega arith)) ∙ none);
   rises = entry_rises (Bound b) t;
   attached = entry_counts (Bound b) t refl;
 }
+  where
+    -- a binding may get a number
+    one_more : (new : Bool) (q : ℕ → Bool) → q (bindings t + 1) ≡ false → count_below (bindings t + 1) q ≡ count_below ((if new then bindings t + 1 else bindings t) + 1) q
+    one_more true q none = more (bindings t + 1) q none
+    one_more false q none = refl
 
 -- A link that neither table has touched has the same figure in both.
 pub figures_same : (s u : Links) (d e : Deliveries) (t w : Trace) → LinksFit s t → LinksFit u w → DeliveriesFit d t → DeliveriesFit e w
@@ -213,24 +219,24 @@ links_bound s b t fit = record {
     remembers (Some a) w e = e
 
 -- a message that is bound to a consumer that was chosen
-pub bound_fits : (s u : Messages) (b : Binding) (t : Trace) → b.taken_up ≡ None → u.pools ≡ s.pools → u.links ≡ s.links → IncomingFit u.incoming (Bound b ∷ t) → DeliveriesFit u.deliveries (Bound b ∷ t)
+pub bound_fits : (s u : Messages) (b : Binding) (t : Trace) → is_message b.kind ≡ true → u.pools ≡ s.pools → u.links ≡ s.links → IncomingFit u.incoming (Bound b ∷ t) → DeliveriesFit u.deliveries (Bound b ∷ t)
     → deliveries.Touches s.deliveries u.deliveries → NotedFit s t (last_after t (Some b.consumer)) → MessagesFit u (Bound b ∷ t)
 bound_fits s u b t fresh pools same claimed stand other old =
     moved s u t (Bound b ∷ t) (last_after t (Some b.consumer)) (last_chosen (Bound b ∷ t)) pools
     (subst (λ l. LinksFit l (Bound b ∷ t)) (sym same) (links_bound s.links b t old.links)) stand claimed
     (subst (λ l. links.Touches s.links l) (sym same) (record { before = λ k e. e; links = λ k e c o h. refl; numbers = λ k e. refl }))
     other (bound_counts b t) (λ a. refl)
-    (λ a. ap (λ (again : Option TakenUp). if is_none again && is_of a (link_of t b.consumer) b.consumer.number then b.consumer.number else last_chosen t a) fresh) old
+    (λ a. ap (λ (x : Bool). if x && is_of a (link_of t b.consumer) b.consumer.number then b.consumer.number else last_chosen t a) fresh) old
 
--- a row that a link takes up again, for which none was chosen
-pub taken_up_fits : (s u : Messages) (b : Binding) (t : Trace) (brought : TakenUp) → b.taken_up ≡ Some brought → u.pools ≡ s.pools → u.links ≡ s.links → IncomingFit u.incoming (Bound b ∷ t)
+-- a row that is bound again, for which none was chosen
+pub again_fits : (s u : Messages) (b : Binding) (t : Trace) → is_message b.kind ≡ false → u.pools ≡ s.pools → u.links ≡ s.links → IncomingFit u.incoming (Bound b ∷ t)
     → DeliveriesFit u.deliveries (Bound b ∷ t) → deliveries.Touches s.deliveries u.deliveries → MessagesFit s t → MessagesFit u (Bound b ∷ t)
-taken_up_fits s u b t brought again pools same claimed stand other old =
+again_fits s u b t again pools same claimed stand other old =
     moved s u t (Bound b ∷ t) (last_chosen t) (last_chosen (Bound b ∷ t)) pools
     (subst (λ l. LinksFit l (Bound b ∷ t)) (sym same) (links_bound s.links b t old.links)) stand claimed
     (subst (λ l. links.Touches s.links l) (sym same) (record { before = λ k e. e; links = λ k e c o h. refl; numbers = λ k e. refl }))
     other (bound_counts b t) (λ a. refl)
-    (λ a. ap (λ (again : Option TakenUp). if is_none again && is_of a (link_of t b.consumer) b.consumer.number then b.consumer.number else last_chosen t a) again) old
+    (λ a. ap (λ (x : Bool). if x && is_of a (link_of t b.consumer) b.consumer.number then b.consumer.number else last_chosen t a) again) old
 
 -- both tables read the same channel of an item
 pub channel_same : (i : Item) → of_links i ≡ of_deliveries i
@@ -240,7 +246,7 @@ channel_same _ = refl
 -- a message that is bound to the chosen consumer
 abbrev pub message_to : Option Origin → Option RowNumber → Bool → ℕ → List ℕ → Attachment → Binding
 message_to origin row lasting format payload a =
-    record { consumer = a; origin = origin; row = row; lasting = lasting; format = format; payload = payload; taken_up = None }
+    record { consumer = a; row = row; lasting = lasting; format = format; payload = payload; kind = kind.Message origin }
 
 pub passed : (u : Messages) (t : Trace) (a : Attachment) (origin : Option Origin) (row : Option RowNumber) (lasting : Bool) (format : ℕ) (payload : List ℕ) (chosen : Option Attachment) → Some a ≡ chosen → lasting ≡ lasts t a
     → MessagesFit u (Bound (message_to origin row lasting format payload a) ∷ t) → MessagesFit u (with_bound (option_map (binding_to t origin row format payload) chosen) t)
@@ -249,18 +255,19 @@ passed u t a origin row lasting format payload chosen is durable fit =
     (subst (λ l. MessagesFit u (Bound (message_to origin row l format payload a) ∷ t)) durable fit)
 
 -- a row that a link takes up again
-abbrev pub row_to : Option Origin → RowNumber → TakenUp → Bool → ℕ → List ℕ → Attachment → Binding
-row_to origin row brought lasting format payload a =
-    record { consumer = a; origin = origin; row = Some row; lasting = lasting; format = format; payload = payload; taken_up = Some brought }
+abbrev pub row_to : RowNumber → TakenUp → Bool → ℕ → List ℕ → Attachment → Binding
+row_to row brought lasting format payload a =
+    record { consumer = a; row = Some row; lasting = lasting; format = format; payload = payload; kind = kind.TakenUp brought }
 
 pub taken_up : (u : Messages) (t : Trace) (a : Attachment) (origin told early : Option Origin) (row : RowNumber) (how : Resumed) (lasting : Bool) (format : ℕ) (payload sent : List ℕ)
     → origin ≡ origin_in (called t (Row row)) → told ≡ told_in (called t (Row row)) → early ≡ early_in (called t (Row row)) → lasting ≡ lasts t a → sent ≡ payload_as how payload
-    → MessagesFit u (Bound (row_to origin row (record { how = how; told = told; early = early }) lasting format sent a) ∷ t) → MessagesFit u (Bound (taken_up_by t row how format payload a) ∷ t)
+    → MessagesFit u (Bound (row_to row (record { how = how; origin = origin; told = told; early = early }) lasting format sent a) ∷ t) → MessagesFit u (Bound (taken_up_by t row how format payload a) ∷ t)
 taken_up u t a origin told early row how lasting format payload sent from knew settled durable is fit =
-    let as_it_is : TakenUp = record { how = how; told = told; early = early } in
-    let first = subst (λ l. MessagesFit u (Bound (row_to origin row as_it_is l format sent a) ∷ t)) durable fit in
-    let second = subst (λ p. MessagesFit u (Bound (row_to origin row as_it_is (lasts t a) format p a) ∷ t)) is first in
-    let third = subst (λ o. MessagesFit u (Bound (row_to o row as_it_is (lasts t a) format (payload_as how payload) a) ∷ t)) from second in
+    let as_it_is : TakenUp = record { how = how; origin = origin; told = told; early = early } in
+    let first = subst (λ l. MessagesFit u (Bound (row_to row as_it_is l format sent a) ∷ t)) durable fit in
+    let second = subst (λ p. MessagesFit u (Bound (row_to row as_it_is (lasts t a) format p a) ∷ t)) is first in
+    let sent_as : List ℕ = payload_as how payload in
     let o : Option Origin = origin_in (called t (Row row)) in
-    let fourth = subst (λ (v : Option Origin). MessagesFit u (Bound (row_to o row (record { how = how; told = v; early = early }) (lasts t a) format (payload_as how payload) a) ∷ t)) knew third in
-    subst (λ (v : Option Origin). MessagesFit u (Bound (row_to o row (record { how = how; told = told_in (called t (Row row)); early = v }) (lasts t a) format (payload_as how payload) a) ∷ t)) settled fourth
+    let third = subst (λ (v : Option Origin). MessagesFit u (Bound (row_to row (record { how = how; origin = v; told = told; early = early }) (lasts t a) format sent_as a) ∷ t)) from second in
+    let fourth = subst (λ (v : Option Origin). MessagesFit u (Bound (row_to row (record { how = how; origin = o; told = v; early = early }) (lasts t a) format sent_as a) ∷ t)) knew third in
+    subst (λ (v : Option Origin). MessagesFit u (Bound (row_to row (record { how = how; origin = o; told = told_in (called t (Row row)); early = v }) (lasts t a) format sent_as a) ∷ t)) settled fourth

@@ -1,6 +1,6 @@
 -- What a link has, read from the tables.
 use Rattle.std.proofs.Common.{◌≡◌, ◌∙◌, ◌+◌, ℕ, Bool, true, false, refl, sym, ap, Option, Some, None, List, [], ◌∷◌}
-use Rattle.std.specs.Prelude.{◌==◌, if◌then◌else◌, option_map, unwrap_or}
+use Rattle.std.specs.Prelude.{◌==◌, ◌||◌, if◌then◌else◌, length, option_map, unwrap_or}
 use Rattle.std.proofs.lemmas.Bool.{eqb-true}
 use Rattle.amqp_link.specs.Deliveries.{Frame}
 use Rattle.amqp_link.specs.Gathering.{gathered}
@@ -35,8 +35,8 @@ by_test false f g = g refl
 
 -- what a link of the table has, with this many waiting, undecided and held deliveries
 abbrev pub seen_end : ℕ → ℕ → ℕ → Link → LinkEnd → Figure
-seen_end waits pending kept l (ends.Sends e) = consumer l.address (free_of l.drains (left_at e) waits pending) pending
-seen_end waits pending kept l (ends.Receives e) = producer l.address (unused_at e + begun_credit (option_map (λ g. g.delivery) e.middle)) kept
+seen_end waits pending kept l (ends.Sends e) = consumer l.address (free_of (l.drains || l.incomplete) (left_at e) waits pending) pending
+seen_end waits pending kept l (ends.Receives e) = producer l.address (unused_at e + begun_credit (option_map (λ g. g.delivery) e.middle) + l.owes_due) (length l.due) kept
 
 abbrev pub seen_one : ℕ → ℕ → ℕ → Option Link → Option Figure
 seen_one waits pending kept None = None
@@ -52,10 +52,10 @@ told_same (f ∷ fs) = refl
 
 end_same : (t : Trace) (n : ℕ) (l : view.Link) (h : Happened) → l.number ≡ n
     → figure_by t l h ≡ seen_end (waiting t n) (undecided t n) (held t n) (link_of l) (end_of h)
-end_same t n l (sends list) is = ap (λ k. consumer l.address (free_of l.drains (credit.credit list) (waiting t k) (undecided t k)) (undecided t k)) is
+end_same t n l (sends list) is = ap (λ k. consumer l.address (free_of (l.drains || l.incomplete) (credit.credit list) (waiting t k) (undecided t k)) (undecided t k)) is
 end_same t n l (receives list) is =
-    ap (λ k. producer l.address (unused_credit list) (held t k)) is
-    ∙ ap (λ d. producer l.address (receiving.unused list + begun_credit d) (held t n)) (told_same (middle list))
+    ap (λ k. producer l.address (unused_credit list + l.owes_due) (length l.due) (held t k)) is
+    ∙ ap (λ d. producer l.address (receiving.unused list + begun_credit d + l.owes_due) (length l.due) (held t n)) (told_same (middle list))
 
 -- on the handle of its attachment
 on_same : (t : Trace) (n : ℕ) (v : Option view.Link)

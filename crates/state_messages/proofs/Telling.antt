@@ -1,6 +1,6 @@
 -- What pools and producers are told, as the tables give it.
 use Rattle.std.proofs.Common.{◌≡◌, ◌∙◌, ◌+◌, ◌<◌, ◌≤◌, ℕ, Bool, true, false, refl, sym, ap, Option, Some, None, List, [], ◌∷◌, ◌++◌, drop, length, get_or}
-use Rattle.std.specs.Prelude.{if◌then◌else◌, option_map}
+use Rattle.std.specs.Prelude.{◌||◌, if◌then◌else◌, option_map}
 use Rattle.std.proofs.lemmas.List.{at_drop_all, at_drop_more}
 use Rattle.route_credit.specs.Pool.{by_id}
 use Rattle.route_credit.specs.declared.ids.ProducerId.{ProducerId}
@@ -20,40 +20,42 @@ use Rattle.state_messages.proofs.Numbered.{number_is}
 use Rattle.state_messages.proofs.Seen.{figure_there}
 
 consumer_by : (t : Trace) (l : view.Link) (h : Happened) → is_sending h ≡ true
-    → figure_by t l h ≡ consumer l.address (free_of l.drains (credit_on h) (waiting t l.number) (undecided t l.number)) (undecided t l.number)
+    → figure_by t l h ≡ consumer l.address (free_of (l.drains || l.incomplete) (credit_on h) (waiting t l.number) (undecided t l.number)) (undecided t l.number)
 consumer_by t l (sends list) e = refl
 consumer_by t l (receives list) e = absurd cc
 
 pub consumer_is : (t : Trace) (l : view.Link) (n : ℕ) (address : List ℕ) (free waits pending : ℕ) → l.number ≡ n → is_sending l.happened ≡ true → address ≡ l.address
-    → waits ≡ waiting t n → pending ≡ undecided t n → free ≡ free_of l.drains (credit_on l.happened) waits pending
+    → waits ≡ waiting t n → pending ≡ undecided t n → free ≡ free_of (l.drains || l.incomplete) (credit_on l.happened) waits pending
     → Some (figure_by t l l.happened) ≡ Some (consumer address free pending)
 consumer_is t l n address free waits pending number sending same one two three =
     ap Some (
     consumer_by t l l.happened sending
-    ∙ ap (λ k. consumer l.address (free_of l.drains (credit_on l.happened) (waiting t k) (undecided t k)) (undecided t k)) number
-    ∙ ap (λ k. consumer l.address (free_of l.drains (credit_on l.happened) k (undecided t n)) (undecided t n)) (sym one)
-    ∙ ap (λ k. consumer l.address (free_of l.drains (credit_on l.happened) waits k) k) (sym two)
+    ∙ ap (λ k. consumer l.address (free_of (l.drains || l.incomplete) (credit_on l.happened) (waiting t k) (undecided t k)) (undecided t k)) number
+    ∙ ap (λ k. consumer l.address (free_of (l.drains || l.incomplete) (credit_on l.happened) k (undecided t n)) (undecided t n)) (sym one)
+    ∙ ap (λ k. consumer l.address (free_of (l.drains || l.incomplete) (credit_on l.happened) waits k) k) (sym two)
     ∙ ap (λ k. consumer l.address k pending) (sym three)
     ∙ ap (λ a. consumer a free pending) (sym same))
 
-producer_by : (t : Trace) (l : view.Link) (h : Happened) → is_sending h ≡ false → figure_by t l h ≡ producer l.address (unused_by h) (held t l.number)
+producer_by : (t : Trace) (l : view.Link) (h : Happened) → is_sending h ≡ false
+    → figure_by t l h ≡ producer l.address (unused_by h + l.owes_due) (length l.due) (held t l.number)
 producer_by t l (sends list) e = absurd cc
 producer_by t l (receives list) e = refl
 
-pub producer_is : (t : Trace) (l : view.Link) (n : ℕ) (address : List ℕ) (unused kept : ℕ) → l.number ≡ n → is_sending l.happened ≡ false → address ≡ l.address
-    → unused ≡ unused_by l.happened → kept ≡ held t n → Some (figure_by t l l.happened) ≡ Some (producer address unused kept)
-producer_is t l n address unused kept number sending same one two =
+pub producer_is : (t : Trace) (l : view.Link) (n : ℕ) (address : List ℕ) (unused due kept : ℕ) → l.number ≡ n → is_sending l.happened ≡ false → address ≡ l.address
+    → unused ≡ unused_by l.happened + l.owes_due → due ≡ length l.due → kept ≡ held t n → Some (figure_by t l l.happened) ≡ Some (producer address unused due kept)
+producer_is t l n address unused due kept number sending same one two three =
     ap Some (
     producer_by t l l.happened sending
-    ∙ ap (λ k. producer l.address (unused_by l.happened) (held t k)) number
-    ∙ ap (λ k. producer l.address k (held t n)) (sym one)
-    ∙ ap (λ k. producer l.address unused k) (sym two)
-    ∙ ap (λ a. producer a unused kept) (sym same))
+    ∙ ap (λ k. producer l.address (unused_by l.happened + l.owes_due) (length l.due) (held t k)) number
+    ∙ ap (λ k. producer l.address k (length l.due) (held t n)) (sym one)
+    ∙ ap (λ k. producer l.address unused k (held t n)) (sym two)
+    ∙ ap (λ k. producer l.address unused due k) (sym three)
+    ∙ ap (λ a. producer a unused due kept) (sym same))
 
 -- a number without a place is granted nothing
 none_granted : (t : Trace) (n amount : ℕ) (a : Attachment) (v : Option view.Link) → has_number n v ≡ false → grant_on n a amount v ≡ []
 none_granted t n amount a None e = refl
-none_granted t n amount a (Some l) e = ap (λ b. if b then grant_by a amount l.happened else []) e
+none_granted t n amount a (Some l) e = ap (λ b. if b then grant_by a (l.owes_due + amount) l.happened else []) e
 
 gone : (b : Bool) (a : Attachment) → (if b then Some a else None) ≡ None → b ≡ false
 gone true a e = absurd cc
@@ -78,7 +80,7 @@ grant_empty t n amount a place is = ap (grant_at t n amount) (figure_there t n a
 pub record IsGranted (t : Trace) (n amount : ℕ) (a : Attachment) (k : Link) : Type 0 where
   pub link : view.Link
   pub is : k ≡ link_of link
-  pub grant : grant_at t n amount (numbered t n) ≡ grant_by a amount link.happened
+  pub grant : grant_at t n amount (numbered t n) ≡ grant_by a (link.owes_due + amount) link.happened
 
 pub grant_here : (t : Trace) (n amount : ℕ) (a : Attachment) (k : Link) → place_of t n ≡ Some a → Some k ≡ option_map link_of (view_of t a) → IsGranted t n amount a k
 grant_here t n amount a k place is = by_view (view_of t a) is (figure_there t n a place).1 (ap (grant_at t n amount) (figure_there t n a place).0)
@@ -89,7 +91,7 @@ grant_here t n amount a k place is = by_view (view_of t a) is (figure_there t n 
 
     by_view : (w : Option view.Link) → Some k ≡ option_map link_of w → has_number n w ≡ true → grant_at t n amount (numbered t n) ≡ grant_on n a amount w → IsGranted t n amount a k
     by_view None e f g = absurd cc
-    by_view (Some l) e f g = record { link = l; is = ap the_link e; grant = g ∙ ap (λ b. if b then grant_by a amount l.happened else []) f }
+    by_view (Some l) e f g = record { link = l; is = ap the_link e; grant = g ∙ ap (λ b. if b then grant_by a (l.owes_due + amount) l.happened else []) f }
 
 -- grants added one after another
 joined : (xs ys zs : List LinkGrant) → (xs ++ ys) ++ zs ≡ xs ++ (ys ++ zs)

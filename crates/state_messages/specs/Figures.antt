@@ -1,5 +1,5 @@
 -- What each link offers and wants, in a trace (AMQP 1.0 part 2, section 2.6.7): the free credit of consumers, the credit that producers have.
-use Rattle.std.specs.Prelude.{ℕ, Bool, ◌+◌, ◌-◌, ◌==◌, min, if◌then◌else◌, Option, Some, None}
+use Rattle.std.specs.Prelude.{ℕ, Bool, ◌+◌, ◌-◌, ◌==◌, ◌||◌, min, if◌then◌else◌, length, Option, Some, None}
 use Rattle.amqp_link.specs.declared.part.Delivery.{Delivery as Told}
 use Rattle.amqp_link.specs.Credit as credit
 use Rattle.amqp_link.specs.Receiving as receiving
@@ -23,12 +23,13 @@ undecided t number = count_below (bindings t + 1) (λ n. undecided_on number (de
 abbrev pub held : Trace → ℕ → ℕ
 held t number = count_below (bindings t + 1) (λ n. held_from number (delivery t n))
 
--- Free credit: the credit left less the waiting deliveries, at most 64 less the undecided ones; none while the link drains.
+-- Free credit: the credit left less the waiting deliveries, at most 64 less the undecided ones; none while the link drains, and none if its attach had an
+-- incomplete map.
 abbrev pub free_of : Bool → ℕ → ℕ → ℕ → ℕ
-free_of drains left waits pending = if drains then 0 else min (left - waits) (64 - pending)
+free_of stopped left waits pending = if stopped then 0 else min (left - waits) (64 - pending)
 
 abbrev pub free_credit : Trace → Link → credit.Link → ℕ
-free_credit t l list = free_of l.drains (credit.credit list) (waiting t l.number) (undecided t l.number)
+free_credit t l list = free_of (l.drains || l.incomplete) (credit.credit list) (waiting t l.number) (undecided t l.number)
 
 -- A delivery in the middle that isn't resumed has used its producer's credit, but is bound to no consumer yet: it counts as one unused credit.
 abbrev pub begun_credit : Option Told → ℕ
@@ -42,9 +43,10 @@ abbrev pub unused_by : Happened → ℕ
 unused_by (sends list) = 0
 unused_by (receives list) = unused_credit list
 
+-- A producer's: with the credit that it is still to be granted for what is due.
 abbrev pub figure_by : Trace → Link → Happened → Figure
 figure_by t l (sends list) = consumer l.address (free_credit t l list) (undecided t l.number)
-figure_by t l (receives list) = producer l.address (unused_credit list) (held t l.number)
+figure_by t l (receives list) = producer l.address (unused_credit list + l.owes_due) (length l.due) (held t l.number)
 
 -- the link of an attachment's number, while it is attached
 abbrev pub figure_on : Trace → ℕ → Option Link → Option Figure

@@ -1,5 +1,5 @@
 -- Messages that go from a producer to a consumer of its address, and the credit granted to producers.
-use Rattle.std.specs.Prelude.{ℕ, zero, suc, Bool, false, ◌+◌, ◌==◌, ◌&&◌, if◌then◌else◌, List, [], ◌∷◌, ◌++◌, bytes_eq, Option, Some, None, is_none, is_some, option_and_then, option_map}
+use Rattle.std.specs.Prelude.{ℕ, zero, suc, Bool, false, ◌+◌, ◌==◌, ◌&&◌, if◌then◌else◌, List, [], ◌∷◌, ◌++◌, bytes_eq, nat_lt, Option, Some, None, is_some, option_and_then, option_map}
 use Rattle.std.specs.Cmp.Lexicographic.{slice_cmp}
 use Rattle.std.specs.Ordering.{nat_cmp}
 use Rattle.std.specs.declared.cmp.Ordering.{Ordering}
@@ -11,6 +11,7 @@ use Rattle.route_credit.specs.Granting.{choice, grants_of}
 use Rattle.route_credit.specs.Pool.{Sharing}
 use Rattle.state_pools.specs.Sharing.{Figure, producer, sharing}
 use Rattle.router_trace.specs.declared.binding.Binding.{Binding}
+use Rattle.router_trace.specs.declared.binding.BindingKind.TheVariants as kind
 use Rattle.router_trace.specs.declared.binding.DeliveryName.TheVariants.{Row}
 use Rattle.router_trace.specs.declared.binding.Origin.{Origin}
 use Rattle.router_trace.specs.declared.binding.Resumed.{Resumed}
@@ -24,12 +25,13 @@ use Rattle.router_trace.specs.LinkFrames.{link_flow_item}
 use Rattle.router_trace.specs.Links.{Link, Happened, sends, receives, link, numbered, attachments, durable_key}
 use Rattle.router_trace.specs.Sessions.{session}
 use Rattle.router_trace.specs.Following.{link_of}
-use Rattle.router_trace.specs.Deliveries.{called, origin_in, told_in, early_in}
+use Rattle.router_trace.specs.Deliveries.{called, is_message, origin_in, told_in, early_in}
+use Rattle.state_links.specs.Looking.{numbered_link}
 use Rattle.state_messages.specs.declared.grant.LinkGrant.{LinkGrant}
 use Rattle.state_messages.specs.Figures.{figure}
 
--- The consumer last chosen for an address, 0 before the first: that of the last message bound to a link of this address, but for those that a link takes up
--- again.
+-- The consumer last chosen for an address, 0 before the first: that of the last message bound to a link of this address, but for the rows that a link takes up
+-- again, and those to which a producer's delivery is joined.
 abbrev pub is_of : List ℕ → Option Link → ℕ → Bool
 is_of address None number = false
 is_of address (Some l) number = (l.number == number) && bytes_eq l.address address
@@ -39,7 +41,7 @@ last_chosen [] address = 0
 last_chosen (Did s ∷ t) address = last_chosen t address
 last_chosen (Out c i ∷ t) address = last_chosen t address
 last_chosen (Took c n ∷ t) address = last_chosen t address
-last_chosen (Bound b ∷ t) address = if is_none b.taken_up && is_of address (link_of t b.consumer) b.consumer.number then b.consumer.number else last_chosen t address
+last_chosen (Bound b ∷ t) address = if is_message b.kind && is_of address (link_of t b.consumer) b.consumer.number then b.consumer.number else last_chosen t address
 last_chosen (Booked acts full ∷ t) address = last_chosen t address
 last_chosen (Began g ∷ t) address = 0
 
@@ -68,7 +70,7 @@ lasts t at = is_some (durable_key (link_of t at))
 -- a message of a producer's link, bound to the chosen consumer, if there is one; a durable message comes with the number of its row
 abbrev pub binding_to : Trace → Option Origin → Option RowNumber → ℕ → List ℕ → Attachment → Binding
 binding_to t origin row format payload at =
-    record { consumer = at; origin = origin; row = row; lasting = lasts t at; format = format; payload = payload; taken_up = None }
+    record { consumer = at; row = row; lasting = lasts t at; format = format; payload = payload; kind = kind.Message origin }
 
 abbrev pub binding_for : Trace → Attachment → Option Origin → Option RowNumber → ℕ → List ℕ → Option Binding
 binding_for t from origin row format payload = option_map (binding_to t origin row format payload) (consumer_of t (link_of t from))
@@ -80,17 +82,16 @@ payload_as (Settled outcome) payload = []
 payload_as _ payload = payload
 
 abbrev pub brings : Trace → RowNumber → Resumed → TakenUp
-brings t row how = record { how = how; told = told_in (called t (Row row)); early = early_in (called t (Row row)) }
+brings t row how = record { how = how; origin = origin_in (called t (Row row)); told = told_in (called t (Row row)); early = early_in (called t (Row row)) }
 
 abbrev pub taken_up_by : Trace → RowNumber → Resumed → ℕ → List ℕ → Attachment → Binding
 taken_up_by t row how format payload at = record {
   consumer = at;
-  origin = origin_in (called t (Row row));
   row = Some row;
   lasting = lasts t at;
   format = format;
   payload = payload_as how payload;
-  taken_up = Some (brings t row how);
+  kind = kind.TakenUp (brings t row how);
 }
 
 -- the trace with a binding, if there is one
@@ -105,7 +106,8 @@ standing_at c o h l = record { number = l.number; conn = record { 0 = c }; chann
 abbrev pub attachment_at : Trace → ℕ → ℕ → ℕ → Option Attachment
 attachment_at t c o h = option_map (standing_at c o h) (link t c o h)
 
--- A grant gives a producer's delivery-count and all its unused credit, including this much more than before (2.7.4).
+-- A grant gives a producer's delivery-count and all its unused credit, including this much more than before (2.7.4); the first one on a link also what the
+-- link owes for what is due.
 abbrev pub grant_by : Attachment → ℕ → Happened → List LinkGrant
 grant_by a amount (sends list) = []
 grant_by a amount (receives list) =
@@ -113,7 +115,7 @@ grant_by a amount (receives list) =
 
 abbrev pub grant_on : ℕ → Attachment → ℕ → Option Link → List LinkGrant
 grant_on number a amount None = []
-grant_on number a amount (Some l) = if l.number == number then grant_by a amount l.happened else []
+grant_on number a amount (Some l) = if l.number == number then grant_by a (l.owes_due + amount) l.happened else []
 
 abbrev pub grant_at : Trace → ℕ → ℕ → Option Attachment → List LinkGrant
 grant_at t number amount None = []
@@ -129,7 +131,7 @@ if_some [] address = None
 if_some (sum ∷ sums) address = Some address
 
 abbrev pub wants : Trace → Option Figure → Option (List ℕ)
-wants t (Some (producer address unused kept)) = if_some (grants_of (pool_of t address)) address
+wants t (Some (producer address unused due kept)) = if_some (grants_of (pool_of t address)) address
 wants t _ = None
 
 abbrev pub lower_of : Ordering → List ℕ → List ℕ → List ℕ
@@ -149,9 +151,25 @@ abbrev pub grants_of_address : Trace → Option (List ℕ) → List LinkGrant
 grants_of_address t None = []
 grants_of_address t (Some address) = grants_on t (grants_of (pool_of t address))
 
--- the grants that the producers of an address are due
-unfoldable pub grants : Trace → List LinkGrant
-grants t = grants_of_address t (lowest_below (attachments t + 1) (λ n. wants t (figure t n)))
+-- If none are due, a link that owes credit for what is due is granted this alone. Only the newest link can owe any: it is granted by the event of its
+-- attach.
+abbrev pub owes_some : Option Link → Bool
+owes_some None = false
+owes_some (Some l) = nat_lt 0 l.owes_due
+
+abbrev pub owed : Trace → List LinkGrant
+owed t = if owes_some (numbered_link t (attachments t)) then grant_at t (attachments t) 0 (numbered t (attachments t)) else []
+
+abbrev pub or_owed : Trace → List LinkGrant → List LinkGrant
+or_owed t [] = owed t
+or_owed t (g ∷ gs) = g ∷ gs
+
+-- the grants that producers are due: those of an address, or what is owed
+unfoldable pub lent : Trace → List LinkGrant
+lent t = grants_of_address t (lowest_below (attachments t + 1) (λ n. wants t (figure t n)))
+
+abbrev pub grants : Trace → List LinkGrant
+grants t = or_owed t (lent t)
 
 -- the flows that carry them
 abbrev pub grant_flow : LinkGrant → Option Session → List Put

@@ -1,5 +1,5 @@
 //! What each link offers and wants.
-ghost use Rattle.std.specs.Prelude.{◌≡◌, ℕ, List, Option, Some, OnOk, IfOk};
+ghost use Rattle.std.specs.Prelude.{◌≡◌, ◌+◌, ◌||◌, ℕ, List, Option, Some, OnOk, IfOk};
 ghost use Rattle.router_trace.specs.Trace.{Entry};
 ghost use Rattle.router_trace.specs.Links.{Link as View};
 ghost use Rattle.state_links.specs.Ends.{link_of};
@@ -50,9 +50,11 @@ fn tell_link(
         pools.offer(number, address, free, undecided)?;
         return Ok(());
     }
-    let unused = unused(link)?;
+    let granted = unused(link)?;
+    let unused = with_owed(granted, link.owes_due)?;
+    let due = small(link.due.len())?;
     let held = small(deliveries.held(number))?;
-    pools.want(number, address, unused, held)?;
+    pools.want(number, address, unused, due, held)?;
     Ok(())
 }
 
@@ -68,13 +70,23 @@ fn small(count: usize) -> Result<u32, AllocError>
 
 /// The free credit of a consumer's link with this many waiting and undecided deliveries.
 fn free(link: &Link, waiting: u64, undecided: u64) -> u64
-    ensures { (l : View) → link.now ≡ link_of l → result ≡ free_of l.drains (credit_on l.happened) waiting undecided }
+    ensures { (l : View) → link.now ≡ link_of l → result ≡ free_of (l.drains || l.incomplete) (credit_on l.happened) waiting undecided }
 {
-    if link.drains {
+    if link.drains || link.incomplete {
         return 0;
     }
     let left = u64::from(link.credit()).saturating_sub(waiting);
     left.min(UNDECIDED.saturating_sub(undecided))
+}
+
+/// Unused credit with this much that a link is still to be granted.
+fn with_owed(unused: u32, owed: u32) -> Result<u32, AllocError>
+    ensures { IfOk result (λ sum. sum ≡ unused + owed) }
+{
+    match unused.checked_add(owed) {
+        Some(sum) => Ok(sum),
+        None => Err(AllocError),
+    }
 }
 
 /// The unused credit of a producer's link, plus one for a delivery in the middle.

@@ -1,6 +1,7 @@
 //! The choice of the consumer for a message, and the credit that producers are granted.
-ghost use Rattle.std.specs.Prelude.{◌≡◌, ◌++◌, ◌∷◌, ℕ, List, Option, Some, None, IfOk, IfNone, OnOk, is_some, option_and_then};
+ghost use Rattle.std.specs.Prelude.{◌≡◌, ◌++◌, ◌∷◌, ◌+◌, ℕ, List, Option, Some, None, IfOk, IfNone, OnOk, is_some, option_and_then, option_copied, option_map};
 ghost use Rattle.router_trace.specs.Trace.{Bound, Entry};
+ghost use Rattle.router_trace.specs.Deliveries.{joined_by};
 ghost use Rattle.route_table.specs.declared.sections.Distribution.{Distribution};
 ghost use Rattle.router_trace.specs.Configuration.{distribution};
 ghost use Rattle.router_trace.specs.Following.{link_of};
@@ -12,17 +13,19 @@ ghost use Rattle.state_pools.specs.Sharing.{Figure};
 ghost use Rattle.route_credit.specs.Pool.{by_id};
 ghost use Rattle.state_messages.specs.Figures.{figure};
 ghost use Rattle.state_messages.specs.Fits.{NotedFit, MessagesFit, Untouched};
-ghost use Rattle.state_messages.specs.Messages.{choice_of, consumer_of, grant_at, grant_by, grants, grants_on, last_after, last_chosen, binding_for, payload_as, taken_up_by, with_bound};
+ghost use Rattle.state_messages.specs.Messages.{choice_of, consumer_of, grant_at, grant_by, grants, grants_on, lent, or_owed, owed, owes_some, last_after, last_chosen, binding_for, payload_as, taken_up_by, with_bound};
 
 use crate::durable::lasts;
 use crate::figures::tell;
 use crate::grant::LinkGrant;
 use crate::messages::Messages;
+use amqp_model::DeliveryState;
 use book_model::RowNumber;
 use bytes::Bytes;
 use route_credit::ProducerId;
 use router_trace::{
-    Attachment, Binding, ConnectionId, DeliveryName, LinkState, Origin, Resumed, TakenUp,
+    Attachment, Binding, BindingKind, ConnectionId, DeliveryName, LinkState, Origin, Resumed,
+    TakenUp,
 };
 use state_links::{Link, Links};
 use state_pools::Pools;
@@ -89,12 +92,11 @@ impl Messages {
                 let lasting = lasts(&self.links, consumer);
                 self.deliveries.bind(Binding {
                     consumer,
-                    origin,
                     row,
                     lasting,
                     format,
                     payload,
-                    taken_up: None,
+                    kind: BindingKind::Message(origin),
                 })?;
                 self.incoming.bind(origin)?;
                 Ok(true)
@@ -120,18 +122,33 @@ impl Messages {
         let payload = payload_as(&how, payload);
         self.deliveries.bind(Binding {
             consumer,
-            origin,
             row: Some(row),
             lasting,
             format,
             payload,
-            taken_up: Some(TakenUp {
+            kind: BindingKind::TakenUp(TakenUp {
                 how,
+                origin,
                 told: producers.told,
                 early: producers.early,
             }),
         })?;
         self.incoming.bind(origin)?;
+        Ok(())
+    }
+
+    /// Joins a producer's resumed delivery, which came whole, to a row that isn't forgotten, and has this outcome if it is decided: from now on the
+    /// row's outcome is reported to this delivery. Fails if memory is refused, and if no binding number is left.
+    pub fn join(
+        &mut self,
+        origin: Origin,
+        row: RowNumber,
+        outcome: Option<&DeliveryState>,
+    ) -> Result<(), AllocError>
+        ensures { OnOk result ((t : List Entry) → MessagesFit self.old t → MessagesFit self.new (Bound (joined_by t origin row (option_copied outcome.entry)) ∷ t)) }
+    {
+        self.deliveries.join(origin, row, outcome)?;
+        self.incoming.bind(Some(origin))?;
         Ok(())
     }
 
@@ -177,14 +194,50 @@ impl Messages {
         }
     }
 
-    /// The grants that the producers of an address are due; empty if no producer is due any.
+    /// The grants that the producers of an address are due; if there are none, what the newest link owes for what its producer may resume. Empty if no
+    /// producer is due any.
     pub fn grants(&mut self) -> Result<Vec<LinkGrant>, AllocError>
         ensures due { IfOk result (λ due. (t : List Entry) → MessagesFit self.old t → due.items ≡ grants t) }
         ensures fits { OnOk result ((t : List Entry) → MessagesFit self.old t → MessagesFit self.new t) }
     {
         self.tell_all()?;
-        let due = grants_due(self.alloc, &mut self.pools, &self.links)?;
+        let lent = grants_due(self.alloc, &mut self.pools, &self.links)?;
+        let due = or_owed(self.alloc, &self.links, lent)?;
         Ok(due)
+    }
+}
+
+/// These grants; if there are none, what the newest link owes.
+fn or_owed(alloc: Global, links: &Links, lent: Vec<LinkGrant>) -> Result<Vec<LinkGrant>, AllocError>
+    ensures { IfOk result (λ due. (t : List Entry) → LinksFit links.now t → due.items ≡ or_owed t lent.items) }
+{
+    if !lent.is_empty() {
+        return Ok(lent);
+    }
+    drop(lent);
+    let due = owed(alloc, links)?;
+    Ok(due)
+}
+
+/// What the newest link is granted for what its producer may resume, if it owes that.
+fn owed(alloc: Global, links: &Links) -> Result<Vec<LinkGrant>, AllocError>
+    ensures { IfOk result (λ told. (t : List Entry) → LinksFit links.now t → told.items ≡ owed t) }
+{
+    let mut told = Vec::new(alloc);
+    let newest = links.attachments();
+    if owes_some(links.by_number(newest)) {
+        add_grant(&mut told, links, newest, 0)?;
+    }
+    Ok(told)
+}
+
+/// Whether there is a link that owes credit for what its producer may resume.
+fn owes_some(link: Option<&Link>) -> bool
+    ensures { (v : Option View) → option_map (λ l. l.now) link.entry ≡ option_map link_of_view v → result ≡ owes_some v }
+{
+    match link {
+        None => false,
+        Some(link) => link.owes_due > 0,
     }
 }
 
@@ -224,7 +277,7 @@ fn peek_of(pools: &Pools, links: &Links, address: &str) -> Option<Attachment>
 
 /// The grants due to the producers of the first address that has any, after the pools were told of all links.
 fn grants_due(alloc: Global, pools: &mut Pools, links: &Links) -> Result<Vec<LinkGrant>, AllocError>
-    ensures due { IfOk result (λ due. (t : List Entry) → LinksFit links.now t → NoneTouched pools.old → PoolsFit pools.old (distribution t) (figure t) (figure t) (last_chosen t) → due.items ≡ grants t) }
+    ensures due { IfOk result (λ due. (t : List Entry) → LinksFit links.now t → NoneTouched pools.old → PoolsFit pools.old (distribution t) (figure t) (figure t) (last_chosen t) → due.items ≡ lent t) }
     ensures fits { OnOk result ((share : List ℕ → Distribution) (known actual : ℕ → Option Figure) (last : List ℕ → ℕ) → PoolsFit pools.old share known actual last → PoolsFit pools.new share known actual last) }
 {
     match pools.grants()? {
@@ -277,22 +330,27 @@ fn add_grant_on(
     link: &Link,
     amount: u32,
 ) -> Result<(), AllocError>
-    ensures { OnOk result ((l : View) → link.now ≡ link_of_view l → told.new.items ≡ told.old.items ++ grant_by at amount l.happened) }
+    ensures { OnOk result ((l : View) → link.now ≡ link_of_view l → told.new.items ≡ told.old.items ++ grant_by at (l.owes_due + amount) l.happened) }
 {
     if link.is_consumer() {
         return Ok(());
     }
-    match link.unused().checked_add(amount) {
+    let state = LinkState {
+        handle: at.handle,
+        count: link.count(),
+        credit: sum(link.unused(), sum(link.owes_due, amount)?)?,
+        drain: false,
+    };
+    told.push(LinkGrant { at, state })?;
+    Ok(())
+}
+
+/// The sum of two credits.
+fn sum(one: u32, other: u32) -> Result<u32, AllocError>
+    ensures { IfOk result (λ sum. sum ≡ one + other) }
+{
+    match one.checked_add(other) {
+        Some(sum) => Ok(sum),
         None => Err(AllocError),
-        Some(credit) => {
-            let state = LinkState {
-                handle: at.handle,
-                count: link.count(),
-                credit,
-                drain: false,
-            };
-            told.push(LinkGrant { at, state })?;
-            Ok(())
-        }
     }
 }

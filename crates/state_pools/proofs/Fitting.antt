@@ -370,11 +370,11 @@ module _ (apart : ℕ → Bool) (table share : List ℕ → Distribution) (pools
       (λ a. without_ordered (pools a).producers n)
 
   -- a producer's figures
-  pub wanted_fits : (unused held : ℕ) → ((a : List ℕ) → pools' a ≡ with_pool pools q (λ pool. wanted (without_consumer pool n) n unused 0 held) a) → known' n ≡ Some (producer q unused held)
+  pub wanted_fits : (unused owed held : ℕ) → ((a : List ℕ) → pools' a ≡ with_pool pools q (λ pool. wanted (without_consumer pool n) n unused owed held) a) → known' n ≡ Some (producer q unused owed held)
       → Fits apart' table share pools' place due' known' actual last
-  wanted_fits unused held changes is =
-      let demand : Demand = demand_of unused 0 held in
-      changed apart table share pools place due known actual last fits pools' q (λ pool. wanted (without_consumer pool n) n unused 0 held) changes n at due' still_due quiet_here apart' less known' others is_actual
+  wanted_fits unused owed held changes is =
+      let demand : Demand = demand_of unused owed held in
+      changed apart table share pools place due known actual last fits pools' q (λ pool. wanted (without_consumer pool n) n unused owed held) changes n at due' still_due quiet_here apart' less known' others is_actual
       (λ m a. link_without (pools a).consumers n m ∙ ap (λ x. cond (n == m) x (link_at (pools a).consumers m)) (sym (ap (offer_at q) is)))
       (λ m a. link_with (pools a).producers n demand m ∙ ap (λ x. cond (n == m) x (link_at (pools a).producers m)) (sym (ap (demand_at q) is ∙ ap (λ b. if b then Some demand else None) (equal_bytes q q refl))))
       (λ a e. ap (offer_at a) is)
@@ -412,8 +412,8 @@ offers_elsewhere v q a free undecided is other =
     let offer : Offer = record { free = free; undecided = undecided } in
     ap (λ figure. offers figure a) is ∙ ap (λ b. is_some (if b then Some offer else None)) other
 
-pub offers_none : (v : Option Figure) (a q : List ℕ) (unused held : ℕ) → v ≡ Some (producer q unused held) → offers v a ≡ false
-offers_none v a q unused held is = ap (λ figure. offers figure a) is
+pub offers_none : (v : Option Figure) (a q : List ℕ) (unused owed held : ℕ) → v ≡ Some (producer q unused owed held) → offers v a ≡ false
+offers_none v a q unused owed held is = ap (λ figure. offers figure a) is
 
 -- how maps and sets by number describe a change
 pub places_moved : {V : Type 0} (read : V → List ℕ) (f g : ℕ → Option V) (n : ℕ) (x : Option V) → ((q : ℕ) → g q ≡ (if n == q then x else f q))

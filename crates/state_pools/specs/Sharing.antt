@@ -6,22 +6,23 @@ use Rattle.route_credit.specs.declared.demand.Demand.{Demand}
 use Rattle.route_credit.specs.declared.offer.Offer.{Offer}
 use Rattle.route_table.specs.declared.sections.Distribution.{Distribution}
 
--- What a link has: a consumer its address, its free credit and its undecided deliveries; a producer its address, its unused credit and its held deliveries.
+-- What a link has: a consumer its address, its free credit and its undecided deliveries; a producer its address, its unused credit, how much of that is due
+-- for deliveries that it may resume, and its held deliveries.
 pub data Figure : Type 0 where
   consumer : (address : List ℕ) (free undecided : ℕ) → Figure
-  producer : (address : List ℕ) (unused held : ℕ) → Figure
+  producer : (address : List ℕ) (unused due held : ℕ) → Figure
 
 -- what a link offers to an address
 abbrev pub offer_at : List ℕ → Option Figure → Option Offer
 offer_at address None = None
 offer_at address (Some (consumer at free undecided)) = if bytes_eq at address then Some (record { free = free; undecided = undecided }) else None
-offer_at address (Some (producer at unused held)) = None
+offer_at address (Some (producer at unused due held)) = None
 
 -- and what it wants from the address
 abbrev pub demand_at : List ℕ → Option Figure → Option Demand
 demand_at address None = None
 demand_at address (Some (consumer at free undecided)) = None
-demand_at address (Some (producer at unused held)) = if bytes_eq at address then Some (demand_of unused 0 held) else None
+demand_at address (Some (producer at unused due held)) = if bytes_eq at address then Some (demand_of unused due held) else None
 
 -- a number with what it has
 abbrev pub entry : {X : Type 0} → ℕ → Option X → List (ℕ × X)

@@ -81,17 +81,18 @@ impl ByAddress {
         address: &str,
         number: u64,
         unused: u32,
+        due: u32,
         held: u32,
     ) -> Result<bool, AllocError>
         requires { digest ≡ digest_of address.now }
         ensures quiet { IfOk result (λ may. may ≡ false → (share : List ℕ → Distribution) → grants_of (pool_in share self.new address.now) ≡ []) }
-        ensures changed { OnOk result ((share : List ℕ → Distribution) → distribution_of table.now address.now ≡ share address.now → (a : List ℕ) → pool_in share self.new a ≡ with_pool (pool_in share self.old) address.now (λ pool. wanted (without_consumer pool number) number unused 0 held) a) }
+        ensures changed { OnOk result ((share : List ℕ → Distribution) → distribution_of table.now address.now ≡ share address.now → (a : List ℕ) → pool_in share self.new a ≡ with_pool (pool_in share self.old) address.now (λ pool. wanted (without_consumer pool number) number unused due held) a) }
     {
         if let Some(row) = self.rows.get_mut(digest) {
-            return row.want(table, address, number, unused, held);
+            return row.want(table, address, number, unused, due, held);
         }
         let mut row = Row::new(self.alloc);
-        row.want(table, address, number, unused, held)?;
+        row.want(table, address, number, unused, due, held)?;
         self.put(digest, row)?;
         Ok(true)
     }

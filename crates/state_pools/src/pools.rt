@@ -115,16 +115,17 @@ impl Pools {
         Ok(())
     }
 
-    /// Sets what a producer has: its unused credit and its deliveries that the router holds, at an address.
+    /// Sets what a producer has: its unused credit, how much of that is due, and its deliveries that the router holds, at an address.
     pub fn want(
         &mut self,
         number: u64,
         address: &str,
         unused: u32,
+        due: u32,
         held: u32,
     ) -> Result<(), AllocError>
         ensures fits { OnOk result ((share : List ℕ → Distribution) (known other actual : ℕ → Option Figure) (last : List ℕ → ℕ) → PoolsFit self.old share known actual last
-            → other number ≡ Some (producer address.now unused held) → actual number ≡ other number → AgreeBut number other known → PoolsFit self.new share other actual last) }
+            → other number ≡ Some (producer address.now unused due held) → actual number ≡ other number → AgreeBut number other known → PoolsFit self.new share other actual last) }
         ensures touched { OnOk result ((n : ℕ) → is_touched self.new n ≡ (not (number == n) && is_touched self.old n)) }
         ensures fewer { OnOk result (is_touched self.old number ≡ true → touched_count self.new < touched_count self.old) }
     {
@@ -132,7 +133,7 @@ impl Pools {
         let digest = self.place(number, place)?;
         let may = self
             .pools
-            .want(&self.table, digest, address, number, unused, held)?;
+            .want(&self.table, digest, address, number, unused, due, held)?;
         self.due.add_if(place, may)?;
         self.touched.remove(number);
         Ok(())

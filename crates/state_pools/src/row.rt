@@ -71,19 +71,20 @@ impl Row {
         address: &str,
         number: u64,
         unused: u32,
+        due: u32,
         held: u32,
     ) -> Result<bool, AllocError>
         ensures quiet { IfOk result (λ may. may ≡ false → (share : List ℕ → Distribution) → grants_of (pool_in_row share self.new address.now) ≡ []) }
-        ensures changed { OnOk result ((share : List ℕ → Distribution) → distribution_of table.now address.now ≡ share address.now → (a : List ℕ) → pool_in_row share self.new a ≡ with_pool (pool_in_row share self.old) address.now (λ pool. wanted (without_consumer pool number) number unused 0 held) a) }
+        ensures changed { OnOk result ((share : List ℕ → Distribution) → distribution_of table.now address.now ≡ share address.now → (a : List ℕ) → pool_in_row share self.new a ≡ with_pool (pool_in_row share self.old) address.now (λ pool. wanted (without_consumer pool number) number unused due held) a) }
     {
         let place = address.as_bytes();
         if let Some(there) = self.pools.get_mut(place) {
             there.drop_consumer(ConsumerId(number));
-            there.want(ProducerId(number), unused, 0, held)?;
+            there.want(ProducerId(number), unused, due, held)?;
             return Ok(there.is_short());
         }
         let mut pool = Pool::new(self.alloc, table.distribution(address));
-        pool.want(ProducerId(number), unused, 0, held)?;
+        pool.want(ProducerId(number), unused, due, held)?;
         self.put(place, pool)?;
         Ok(true)
     }

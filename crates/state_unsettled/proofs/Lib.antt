@@ -2,3 +2,4 @@ mod Counted
 mod Claimed
 mod Marked
 mod Tagged
+mod Ranged

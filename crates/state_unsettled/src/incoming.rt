@@ -6,8 +6,8 @@ ghost use Rattle.router_trace.specs.Configuration.{opened};
 ghost use Rattle.router_trace.specs.Trace.{Entry, Out, Bound, did};
 ghost use Rattle.router_trace.specs.declared.binding.Binding.{Binding};
 ghost use Rattle.router_trace.specs.Claims.{claims, claim, unless_claimed, claimed_later, bound_claim, claim_after_in};
-ghost use Rattle.router_trace.specs.Deliveries.{tag_in};
-ghost use Rattle.router_trace.specs.Settling.{is_claimed, is_claimed_on, unbound, is_tag, is_tagged_on, uses_tag};
+ghost use Rattle.router_trace.specs.Deliveries.{origin_of, tag_in};
+ghost use Rattle.router_trace.specs.Settling.{ids_claimed, is_claimed, is_claimed_on, unbound, is_tag, is_tagged_on, uses_tag};
 ghost use Rattle.router_trace.specs.Sessions.{theirs, maps, is_channel};
 ghost use Rattle.router_trace.specs.Links.{their_handle, link};
 ghost use Rattle.router_trace.specs.Channels.{channel_of};
@@ -69,6 +69,7 @@ pub struct Receiving {
 /// connection, so that it doesn't grow with links that once were. After an error the table's contents are unspecified.
 #[derive(Drop)]
 pub struct IncomingDeliveries {
+    alloc: Global,
     ids: BySession<IncomingDelivery>,
     // the ids of all claims by link, and how many are unbound
     by_link: ByLink,
@@ -80,6 +81,7 @@ impl IncomingDeliveries {
         ensures { (g : Beginning) (below : Trace) → IncomingFit result (opened g below) }
     {
         IncomingDeliveries {
+            alloc,
             ids: BySession::new(alloc),
             by_link: ByLink::new(alloc),
         }
@@ -97,6 +99,25 @@ impl IncomingDeliveries {
         ensures { (t : List Entry) → IncomingFit self.now t → result ≡ is_claimed t conn own id }
     {
         self.ids.get(conn, own, id).is_some()
+    }
+
+    /// The ids in a disposition's range whose deliveries the peer has not settled, in the range's order (AMQP 1.0 part 2, section 2.7.6). In a range of
+    /// more than 64 ids it looks only at those that are claimed, never at each id. Fails if memory is refused.
+    pub fn ids_claimed(
+        &self,
+        conn: u64,
+        own: u16,
+        first: u32,
+        last: u32,
+    ) -> Result<Vec<u32>, AllocError>
+        ensures { IfOk result (λ ids. (t : List Entry) → IncomingFit self.now t → ids.items ≡ ids_claimed t conn own first last) }
+    {
+        let mut found = Vec::new(self.alloc);
+        let ids = self.ids.in_range(conn, own, first, last)?;
+        for id in &ids {
+            found.push(id.number())?;
+        }
+        Ok(found)
     }
 
     /// Whether a peer has not settled the delivery with this id of its own, on the link at a handle of the router.
@@ -124,9 +145,9 @@ impl IncomingDeliveries {
         }
     }
 
-    /// A message of a peer was bound to a consumer; the origin is its delivery, unless the peer settled it.
+    /// A message of a peer was bound to a consumer, or joined to a row; the origin is its delivery, unless the peer settled it.
     pub fn bind(&mut self, origin: Option<Origin>) -> Result<(), AllocError>
-        ensures { OnOk result ((t : List Entry) (b : Binding) → b.origin ≡ origin → IncomingFit self.old t → IncomingFit self.new (Bound b ∷ t)) }
+        ensures { OnOk result ((t : List Entry) (b : Binding) → origin_of b.kind ≡ origin → IncomingFit self.old t → IncomingFit self.new (Bound b ∷ t)) }
     {
         let Some(origin) = origin else {
             return Ok(());

@@ -1,6 +1,9 @@
 -- Over every list of runs, what the book has as accepted was accepted by its consumer, and a producer is told accepted only after that.
-use Rattle.std.proofs.Common.{◌≡◌, ◌∙◌, sym, ap, refl, subst, ◌⊎◌, inl, inr, ℕ, Bool, true, false, List, [], ◌∷◌, ◌++◌}
-use Rattle.std.specs.Prelude.{◌==◌, Option, Some, None, is_some, filter_map, if◌then◌else◌}
+use Rattle.std.proofs.Common.{◌≡◌, ◌∙◌, sym, ap, refl, subst, ◌⊎◌, inl, inr, ℕ, Bool, true, false, List, [], ◌∷◌, ◌++◌, length}
+use Rattle.std.specs.Prelude.{◌==◌, nat_lt, Option, Some, None, is_some, option_map, filter_map, if◌then◌else◌}
+use Rattle.amqp_model.specs.PerfSpelling.{state_spelling}
+use Rattle.journal_store.specs.Acting.{journal_outcome}
+use Rattle.router_trace.specs.DeliveryFrames.{bare, kept_outcome, undescribed}
 use Rattle.std.proofs.lemmas.Bool.{eqb-true}
 use Rattle.amqp_model.specs.declared.perf.Disposition.{Disposition}
 use Rattle.amqp_model.specs.declared.perf.Perf.{Perf}
@@ -229,12 +232,37 @@ row_there n (x ∷ rows) r e = by (x.number.0 == n) refl e (λ later. let rest =
     by true test e more = (inl (some_same e), ap (λ (y : ARow). y.number.0) (sym (some_same e)) ∙ eqb-true x.number.0 n test)
     by false test e more = more e
 
+-- what is told as accepted is accepted
+kept_accepted : (s : DeliveryState) → state.Accepted ≡ kept_outcome s → s ≡ state.Accepted
+kept_accepted s is = by s (nat_lt 400 (length (state_spelling (undescribed s)))) is
+  where
+    by : (s : DeliveryState) (q : Bool) → state.Accepted ≡ (if q then bare (undescribed s) else undescribed s) → s ≡ state.Accepted
+    by state.Accepted q is = refl
+    by state.Released true is = absurd cc
+    by state.Released false is = absurd cc
+    by (state.Rejected r) true is = absurd cc
+    by (state.Rejected r) false is = absurd cc
+    by (state.Modified m) true is = absurd cc
+    by (state.Modified m) false is = absurd cc
+    by (state.Received r) true is = absurd cc
+    by (state.Received r) false is = absurd cc
+    by (state.Other v) true is = absurd cc
+    by (state.Other v) false is = absurd cc
+
+told_accepted : (o : Option DeliveryState) → Some state.Accepted ≡ option_map kept_outcome o → o ≡ Some state.Accepted
+told_accepted None is = absurd (none_not_some (sym is))
+told_accepted (Some s) is = ap (λ (x : DeliveryState). Some x) (kept_accepted s (some_same is))
+
 told_truly : (t : Trace) (row : RowNumber) (v : Option ARow) → row_at row.0 (book_in t).rows ≡ v → IsDecidedAs v (Some state.Accepted) → Accepted t → WasAccepted t row
 told_truly t row None there is all = absurd is
 told_truly t row (Some r) there is all =
     let found = row_there row.0 (book_in t).rows r there in
     subst (λ (n : RowNumber). WasAccepted t n) (same_row r.number row found.1)
-    (all r found.0 (is ∙ ap (λ (s : DeliveryState). Some s) accepted_itself))
+    (all r found.0 (by is))
+  where
+    by : (r.outcome ≡ Some (journal_outcome state.Accepted)) ⊎ (Some state.Accepted ≡ option_map kept_outcome r.outcome) → r.outcome ≡ Some state.Accepted
+    by (inl kept) = kept ∙ ap (λ (s : DeliveryState). Some s) accepted_itself
+    by (inr told) = told_accepted r.outcome told
 
 role_true : (r : Role) (t : Trace) (c own : ℕ) (x : Disposition) → role_is_decided r t c own x → Accepted t → role_tells_accepted r t c own x
 role_true Receiver t c own x kept all = λ accepted report row name.

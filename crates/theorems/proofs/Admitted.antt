@@ -22,12 +22,15 @@ use Rattle.journal_store.specs.Lost.{failure_of, is_lost, start_acts}
 use Rattle.journal_store.specs.declared.acting.TerminusAct.{TerminusAct}
 use Rattle.journal_store.specs.declared.acting.TerminusAct.TheVariants as terminus
 use Rattle.router_trace.specs.declared.binding.Binding.{Binding}
+use Rattle.router_trace.specs.declared.binding.BindingKind.{BindingKind}
+use Rattle.router_trace.specs.declared.binding.BindingKind.TheVariants as kind
 use Rattle.router_trace.specs.declared.binding.Origin.{Origin}
 use Rattle.router_trace.specs.declared.event.ConnectionId.{ConnectionId}
 use Rattle.router_trace.specs.declared.event.Event.{Event}
 use Rattle.router_trace.specs.declared.event.Event.TheVariants as event
 use Rattle.router_trace.specs.declared.handle.Attachment.{Attachment}
 use Rattle.router_trace.specs.Connection.{due, found, standing}
+use Rattle.router_trace.specs.Deliveries.{is_message, origin_of as producer_of}
 use Rattle.router_trace.specs.Following.{link_of}
 use Rattle.router_trace.specs.Links.{Link, link, link_place, durable_key, free_handle, first_free_below}
 use Rattle.router_trace.specs.Sessions.{free_channel, theirs}
@@ -38,7 +41,8 @@ use Rattle.reply_rows.specs.declared.answer.Answer.{Answer}
 use Rattle.reply_rows.specs.declared.answer.Answer.TheVariants.{Nothing, Taken}
 use Rattle.reply_rows.specs.Booking.{answer_at}
 use Rattle.router_reply.specs.Acts.{live_answer, event_answer, planned_acts, admitted_acts, or_admits, event_acts, finds_full, journaled, book_in, acts_of, booked, answer_of}
-use Rattle.reply_transfers.specs.Transfers.{claimed_id, from_link, origin_of, lasts_on, may_pass, fresh_bound, whole_bound, part_bound}
+use Rattle.reply_transfers.specs.Transfers.{claimed_id, from_link, origin_of, lasts_on, may_pass, fresh_bound, join_from, joined_if, resumed_bound, whole_bound, part_bound}
+use Rattle.reply_transfers.specs.Joining.{row_under}
 use Rattle.router_reply.specs.Admitting.{terminus_for, admitted_to, whole_admission, part_admission, taken_admission, unless_ends, event_admission, admits, row_in, without_acts}
 use Rattle.router_reply.specs.Deciding.{decided, forgotten, terminus_of_event}
 use Rattle.router_reply.specs.Replies.{row_found, ends, heard, bound_for, item_bound, bound_by}
@@ -166,28 +170,44 @@ whole_admitted b u c own handle d payload x is =
           carried = sym (ap (λ (y : Admission). y.payload) same);
         }
 
--- what is bound of a whole delivery
+-- a row that is taken up again
+abbrev pub is_taken_up : BindingKind → Bool
+is_taken_up (kind.TakenUp brought) = true
+is_taken_up _ = false
+
+-- what is bound of a whole delivery, if that is a message
 
 record BoundWhole (after : List Entry) (c own handle : ℕ) (d : Told) (row : Option RowNumber) (payload : List ℕ) (x : Binding) : Type 0 where
   place : Link
   named : x.row ≡ row
   at : link after c own handle ≡ Some place
-  origin : x.origin ≡ option_map (origin_of (from_link c own handle place)) (claimed_id after c own handle d.id)
+  origin : producer_of x.kind ≡ option_map (origin_of (from_link c own handle place)) (claimed_id after c own handle d.id)
   chosen : consumer_of after (link after c own handle) ≡ Some x.consumer
   format : x.format ≡ unwrap_or d.format 0
   carried : x.payload ≡ payload
-  fresh : x.taken_up ≡ None
   lasting : x.lasting ≡ lasts after x.consumer
 
-whole_is_bound : (after : List Entry) (c own handle : ℕ) (d : Told) (row : Option RowNumber) (payload : List ℕ) (x : Binding) → whole_bound after c own handle d row payload ≡ Some x
-    → BoundWhole after c own handle d row payload x
-whole_is_bound after c own handle d row payload x is =
+-- a row that a resumed delivery joins is none
+pub joins_kind : (b : BookView) (after : List Entry) (c own handle : ℕ) (q : Option ℕ) (v : Option Link) (x : Binding) → resumed_bound b after c own handle q v ≡ Some x → (is_message x.kind ≡ false) × (is_taken_up x.kind ≡ false)
+joins_kind b after c own handle None v x is = absurd (none_not_some is)
+joins_kind b after c own handle (Some id) v x is = by (row_under b after c own id) v is
+  where
+    by : (r : Option Row) (v : Option Link) → joined_if after c own handle id r v ≡ Some x → (is_message x.kind ≡ false) × (is_taken_up x.kind ≡ false)
+    by None v is = absurd (none_not_some is)
+    by (Some r) None is = absurd (none_not_some is)
+    by (Some r) (Some l) is = let same = some_same is in (sym (ap (λ (y : Binding). is_message y.kind) same), sym (ap (λ (y : Binding). is_taken_up y.kind) same))
+
+whole_is_bound : (b : BookView) (after : List Entry) (c own handle : ℕ) (d : Told) (row : Option RowNumber) (payload : List ℕ) (x : Binding) → whole_bound b after c own handle d row payload ≡ Some x
+    → is_message x.kind ≡ true → BoundWhole after c own handle d row payload x
+whole_is_bound b after c own handle d row payload x is fresh =
     by d.resume (link after c own handle) (may_pass (lasts_on (link after c own handle)) (claimed_id after c own handle d.id) row) (consumer_of after (link after c own handle)) refl refl
-    (ap (λ (o : Option Binding). if d.resume then None else o) (sym (bound_there after c own handle d row payload (link after c own handle) refl)) ∙ is)
+    (ap (λ (o : Option Binding). if d.resume then resumed_bound b after c own handle (claimed_id after c own handle d.id) (link after c own handle) else o)
+    (sym (bound_there after c own handle d row payload (link after c own handle) refl)) ∙ is)
   where
     by : (resumed : Bool) (v : Option Link) (passes : Bool) (at : Option Attachment) → link after c own handle ≡ v → consumer_of after (link after c own handle) ≡ at
-        → (if resumed then None else bound_on after c own handle d row payload v passes at) ≡ Some x → BoundWhole after c own handle d row payload x
-    by true v passes at e f is = absurd (none_not_some is)
+        → (if resumed then resumed_bound b after c own handle (claimed_id after c own handle d.id) (link after c own handle) else bound_on after c own handle d row payload v passes at) ≡ Some x
+        → BoundWhole after c own handle d row payload x
+    by true v passes at e f is = absurd (clash (sym (joins_kind b after c own handle (claimed_id after c own handle d.id) (link after c own handle) x is).0 ∙ fresh))
     by false None passes at e f is = absurd (none_not_some is)
     by false (Some l) false at e f is = absurd (none_not_some is)
     by false (Some l) true None e f is = absurd (none_not_some is)
@@ -197,13 +217,29 @@ whole_is_bound after c own handle d row payload x is =
           place = l;
           named = sym (ap (λ (y : Binding). y.row) same);
           at = e;
-          origin = sym (ap (λ (y : Binding). y.origin) same);
+          origin = sym (ap (λ (y : Binding). producer_of y.kind) same);
           chosen = f ∙ ap (λ (y : Binding). Some y.consumer) same;
           format = sym (ap (λ (y : Binding). y.format) same);
           carried = sym (ap (λ (y : Binding). y.payload) same);
-          fresh = sym (ap (λ (y : Binding). y.taken_up) same);
           lasting = sym (ap (λ (y : Binding). y.lasting) same) ∙ ap (λ (y : Binding). lasts after y.consumer) same;
         }
+
+-- it isn't a row that is taken up again
+whole_not_taken : (b : BookView) (after : List Entry) (c own handle : ℕ) (d : Told) (row : Option RowNumber) (payload : List ℕ) (x : Binding) → whole_bound b after c own handle d row payload ≡ Some x
+    → is_taken_up x.kind ≡ false
+whole_not_taken b after c own handle d row payload x is =
+    by d.resume (link after c own handle) (may_pass (lasts_on (link after c own handle)) (claimed_id after c own handle d.id) row) (consumer_of after (link after c own handle))
+    (ap (λ (o : Option Binding). if d.resume then resumed_bound b after c own handle (claimed_id after c own handle d.id) (link after c own handle) else o)
+    (sym (bound_there after c own handle d row payload (link after c own handle) refl)) ∙ is)
+  where
+    by : (resumed : Bool) (v : Option Link) (passes : Bool) (at : Option Attachment)
+        → (if resumed then resumed_bound b after c own handle (claimed_id after c own handle d.id) (link after c own handle) else bound_on after c own handle d row payload v passes at) ≡ Some x
+        → is_taken_up x.kind ≡ false
+    by true v passes at is = (joins_kind b after c own handle (claimed_id after c own handle d.id) (link after c own handle) x is).1
+    by false None passes at is = absurd (none_not_some is)
+    by false (Some l) false at is = absurd (none_not_some is)
+    by false (Some l) true None is = absurd (none_not_some is)
+    by false (Some l) true (Some a) is = sym (ap (λ (y : Binding). is_taken_up y.kind) (some_same is))
 
 -- after the event that completed it
 
@@ -275,7 +311,7 @@ admitted_there t e c own handle d payload x row y alone applies number came whol
   payload = whole.carried ∙ sym is.carried;
 }
   where
-    origin : x.origin ≡ Some (origin_of (from_link c own handle is.place) whole.id)
+    origin : producer_of x.kind ≡ Some (origin_of (from_link c own handle is.place) whole.id)
     origin =
         is.origin ∙ ap (option_map (origin_of (from_link c own handle is.place))) (claimed_after (acts_of t e) e t c own handle d.id ∙ whole.claimed)
 
@@ -309,16 +345,16 @@ whole_row : (id : List ℕ) (t : List Entry) (from : ConnectionId) (i : Item) (p
     → standing (found t (event.Item from i) from.0) ≡ Some p
     → answer_at (finds_full (journaled t) t (event.Item from i)) (book_in t) t from.0 p i ≡ Taken own handle
     → part_of i (link_place t from.0 own) ≡ Some (part.Whole d payload)
-    → whole_bound (heard id (booked t (event.Item from i)) (step_of (event.Item from i))) from.0 own handle d (row_found (booked t (event.Item from i))) payload ≡ Some x
-    → (row : Option RowNumber) → x.row ≡ row → IsAdmittedUnder (heard id (booked t (event.Item from i)) (step_of (event.Item from i))) x row
-whole_row id t from i p own handle d payload x stands answer part is None none = tt
-whole_row id t from i p own handle d payload x stands answer part is (Some row) its =
+    → whole_bound (book_in (booked t (event.Item from i))) (heard id (booked t (event.Item from i)) (step_of (event.Item from i))) from.0 own handle d (row_found (booked t (event.Item from i))) payload ≡ Some x
+    → is_message x.kind ≡ true → (row : Option RowNumber) → x.row ≡ row → IsAdmittedUnder (heard id (booked t (event.Item from i)) (step_of (event.Item from i))) x row
+whole_row id t from i p own handle d payload x stands answer part is fresh None none = tt
+whole_row id t from i p own handle d payload x stands answer part is fresh (Some row) its =
     let e : Event = event.Item from i in
     let b : BookView = book_in t in
     let full : Bool = finds_full (journaled t) t e in
     let at : List Entry = booked t e in
     let after : List Entry = heard id at (step_of e) in
-    let first : BoundWhole after from.0 own handle d (row_found at) payload x = whole_is_bound after from.0 own handle d (row_found at) payload x is in
+    let first : BoundWhole after from.0 own handle d (row_found at) payload x = whole_is_bound (book_in at) after from.0 own handle d (row_found at) payload x is fresh in
     let found_row : row_in (acts_of t e) ≡ Some row = sym first.named ∙ its in
     let adm : Admits full b t e (acts_of t e) row = event_admits full b t e row found_row in
     let y : Admission = adm.admission in
@@ -331,7 +367,8 @@ whole_row id t from i p own handle d payload x stands answer part is (Some row) 
     sym (ap (part_admission b (without_acts t e) from.0 own handle) part) ∙ open_ended.1 in
     let same : after ≡ did e ∷ at = ap (λ (ds : List ℕ). ends id ds (did e ∷ at)) open_ended.0 in
     let now : BoundWhole (did e ∷ at) from.0 own handle d (row_found at) payload x =
-    whole_is_bound (did e ∷ at) from.0 own handle d (row_found at) payload x (subst (λ (w : List Entry). whole_bound w from.0 own handle d (row_found at) payload ≡ Some x) same is) in
+    whole_is_bound (book_in at) (did e ∷ at) from.0 own handle d (row_found at) payload x
+    (subst (λ (w : List Entry). whole_bound (book_in at) w from.0 own handle d (row_found at) payload ≡ Some x) same is) fresh in
     subst (λ (w : List Entry). IsAdmitted w x row) (sym same)
     (admitted_there t e from.0 own handle d payload x row y adm.alone adm.applies adm.number
     (subst (λ (bytes : List ℕ). CameAt at (did e ∷ at) from.0 own handle d bytes) (sym now.carried) (came_there t from i p own handle d payload answer part))
@@ -345,7 +382,8 @@ Comes id t from i x Q =
     (p : Conn) (own handle : ℕ) (d : Told) (payload : List ℕ) → standing (found t (event.Item from i) from.0) ≡ Some p
     → answer_at (finds_full (journaled t) t (event.Item from i)) (book_in t) t from.0 p i ≡ Taken own handle
     → part_of i (link_place t from.0 own) ≡ Some (part.Whole d payload)
-    → whole_bound (heard id (booked t (event.Item from i)) (step_of (event.Item from i))) from.0 own handle d (row_found (booked t (event.Item from i))) payload ≡ Some x → Q
+    → whole_bound (book_in (booked t (event.Item from i))) (heard id (booked t (event.Item from i)) (step_of (event.Item from i))) from.0 own handle d (row_found (booked t (event.Item from i))) payload
+    ≡ Some x → Q
 
 item_elim : (id : List ℕ) (t : List Entry) (from : ConnectionId) (i : Item) (x : Binding) (Q : Type 0) → Comes id t from i x Q
     → item_bound (booked t (event.Item from i)) (heard id (booked t (event.Item from i)) (step_of (event.Item from i))) from.0 i (standing (found t (event.Item from i) from.0)) ≡ Some x → Q
@@ -358,7 +396,7 @@ item_elim id t from i x Q comes is = by (standing (found t e from.0)) refl is
     after = heard id (booked t e) (step_of e)
 
     by_part : (p : Conn) (own handle : ℕ) (q : Option Part) → standing (found t e from.0) ≡ Some p → answer_at (finds_full (journaled t) t e) (book_in t) t from.0 p i ≡ Taken own handle
-        → part_of i (link_place t from.0 own) ≡ q → part_bound after from.0 own handle (row_found (booked t e)) q ≡ Some x → Q
+        → part_of i (link_place t from.0 own) ≡ q → part_bound (book_in (booked t e)) after from.0 own handle (row_found (booked t e)) q ≡ Some x → Q
     by_part p own handle (Some (part.Whole d payload)) stands answer part is = comes p own handle d payload stands answer part is
     by_part p own handle _ stands answer part is = absurd (none_not_some is)
 
@@ -372,36 +410,44 @@ item_elim id t from i x Q comes is = by (standing (found t e from.0)) refl is
     by (Some p) stands is =
         by_answer p (answer_of (booked t e) from.0 p i) stands (sym (answer_after (acts_of t e) (due t e) t (finds_full (journaled t) t e) (book_in t) from.0 p i)) is
 
-pub bound_row : (id : List ℕ) (t : List Entry) (e : Event) (x : Binding) → bound_by (booked t e) (heard id (booked t e) (step_of e)) e ≡ Some x
+pub bound_row : (id : List ℕ) (t : List Entry) (e : Event) (x : Binding) → bound_by (booked t e) (heard id (booked t e) (step_of e)) e ≡ Some x → is_message x.kind ≡ true
     → IsAdmittedUnder (heard id (booked t e) (step_of e)) x x.row
-bound_row id t (event.Item from i) x is =
+bound_row id t (event.Item from i) x is fresh =
     item_elim id t from i x (RowAt id t (event.Item from i) x)
-    (λ p own handle d payload stands answer part is. whole_row id t from i p own handle d payload x stands answer part is x.row refl) is
-bound_row id t _ x is = absurd (none_not_some is)
+    (λ p own handle d payload stands answer part is. whole_row id t from i p own handle d payload x stands answer part is fresh x.row refl) is
+bound_row id t _ x is fresh = absurd (none_not_some is)
 
--- it isn't taken up again, and its row is the one that the acts admit
-pub bound_fresh : (id : List ℕ) (t : List Entry) (e : Event) (x : Binding) → bound_by (booked t e) (heard id (booked t e) (step_of e)) e ≡ Some x → x.taken_up ≡ None
-bound_fresh id t (event.Item from i) x is =
-    item_elim id t from i x (x.taken_up ≡ None)
+-- it isn't taken up again
+pub bound_not_taken : (id : List ℕ) (t : List Entry) (e : Event) (x : Binding) → bound_by (booked t e) (heard id (booked t e) (step_of e)) e ≡ Some x → is_taken_up x.kind ≡ false
+bound_not_taken id t (event.Item from i) x is =
+    item_elim id t from i x (is_taken_up x.kind ≡ false)
     (λ p own handle d payload stands answer part is.
-    (whole_is_bound (heard id (booked t (event.Item from i)) (step_of (event.Item from i))) from.0 own handle d (row_found (booked t (event.Item from i))) payload x is).fresh) is
-bound_fresh id t _ x is = absurd (none_not_some is)
+    whole_not_taken (book_in (booked t (event.Item from i))) (heard id (booked t (event.Item from i)) (step_of (event.Item from i))) from.0 own handle d (row_found (booked t (event.Item from i))) payload x is) is
+bound_not_taken id t _ x is = absurd (none_not_some is)
+
+-- what is bound, if it is a message
+item_bound_whole : (id : List ℕ) (t : List Entry) (from : ConnectionId) (i : Item) (x : Binding) (Q : Type 0) → is_message x.kind ≡ true
+    → ((own handle : ℕ) (d : Told) (payload : List ℕ)
+    → BoundWhole (heard id (booked t (event.Item from i)) (step_of (event.Item from i))) from.0 own handle d (row_found (booked t (event.Item from i))) payload x → Q)
+    → item_bound (booked t (event.Item from i)) (heard id (booked t (event.Item from i)) (step_of (event.Item from i))) from.0 i (standing (found t (event.Item from i) from.0)) ≡ Some x → Q
+item_bound_whole id t from i x Q fresh gives is =
+    item_elim id t from i x Q
+    (λ p own handle d payload stands answer part is. gives own handle d payload
+    (whole_is_bound (book_in (booked t (event.Item from i))) (heard id (booked t (event.Item from i)) (step_of (event.Item from i))) from.0 own handle d (row_found (booked t (event.Item from i))) payload x is fresh)) is
 
 -- it outlives its consumer's connection if its consumer's link is durable
-pub bound_lasting : (id : List ℕ) (t : List Entry) (e : Event) (x : Binding) → bound_by (booked t e) (heard id (booked t e) (step_of e)) e ≡ Some x
+pub bound_lasting : (id : List ℕ) (t : List Entry) (e : Event) (x : Binding) → bound_by (booked t e) (heard id (booked t e) (step_of e)) e ≡ Some x → is_message x.kind ≡ true
     → x.lasting ≡ lasts (heard id (booked t e) (step_of e)) x.consumer
-bound_lasting id t (event.Item from i) x is =
-    item_elim id t from i x (x.lasting ≡ lasts (heard id (booked t (event.Item from i)) (step_of (event.Item from i))) x.consumer)
-    (λ p own handle d payload stands answer part is.
-    (whole_is_bound (heard id (booked t (event.Item from i)) (step_of (event.Item from i))) from.0 own handle d (row_found (booked t (event.Item from i))) payload x is).lasting) is
-bound_lasting id t _ x is = absurd (none_not_some is)
+bound_lasting id t (event.Item from i) x is fresh =
+    item_bound_whole id t from i x (x.lasting ≡ lasts (heard id (booked t (event.Item from i)) (step_of (event.Item from i))) x.consumer) fresh (λ own handle d payload whole. whole.lasting) is
+bound_lasting id t _ x is fresh = absurd (none_not_some is)
 
-pub row_of_bound : (id : List ℕ) (t : List Entry) (e : Event) (x : Binding) → bound_by (booked t e) (heard id (booked t e) (step_of e)) e ≡ Some x → x.row ≡ row_in (acts_of t e)
-row_of_bound id t (event.Item from i) x is =
-    item_elim id t from i x (x.row ≡ row_in (acts_of t (event.Item from i)))
-    (λ p own handle d payload stands answer part is.
-    (whole_is_bound (heard id (booked t (event.Item from i)) (step_of (event.Item from i))) from.0 own handle d (row_found (booked t (event.Item from i))) payload x is).named) is
-row_of_bound id t _ x is = absurd (none_not_some is)
+-- its row is the one that the acts admit
+pub row_of_bound : (id : List ℕ) (t : List Entry) (e : Event) (x : Binding) → bound_by (booked t e) (heard id (booked t e) (step_of e)) e ≡ Some x → is_message x.kind ≡ true
+    → x.row ≡ row_in (acts_of t e)
+row_of_bound id t (event.Item from i) x is fresh =
+    item_bound_whole id t from i x (x.row ≡ row_in (acts_of t (event.Item from i))) fresh (λ own handle d payload whole. whole.named) is
+row_of_bound id t _ x is fresh = absurd (none_not_some is)
 
 -- and where they admit one, the message is bound
 
@@ -418,6 +464,7 @@ terminus_of_link b (Some l) n is = (l, refl)
 pub record BindsNext (id : List ℕ) (t : List Entry) (e : Event) (row : RowNumber) : Type 0 where
   pub binding : Binding
   pub is : bound_by (booked t e) (heard id (booked t e) (step_of e)) e ≡ Some binding
+  pub fresh : is_message binding.kind ≡ true
   pub number : row.0 ≡ (book_in t).next_row
   pub next : (effects (book_in t) (acts_of t e)).next_row ≡ (book_in t).next_row + 1
 
@@ -425,12 +472,12 @@ one_more : (b : BookView) (x : Admission) → (effects b (Admit x ∷ [])).next_
 unfolding effects
 one_more b x = refl
 
-whole_next : (u : List Entry) (c own handle : ℕ) (d : Told) (payload : List ℕ) (row : RowNumber) (l : Link) (a : Attachment) → d.resume ≡ false → link u c own handle ≡ Some l
+whole_next : (b : BookView) (u : List Entry) (c own handle : ℕ) (d : Told) (payload : List ℕ) (row : RowNumber) (l : Link) (a : Attachment) → d.resume ≡ false → link u c own handle ≡ Some l
     → consumer_of u (link u c own handle) ≡ Some a
-    → whole_bound u c own handle d (Some row) payload
+    → whole_bound b u c own handle d (Some row) payload
     ≡ Some (binding_to u (option_map (origin_of (from_link c own handle l)) (claimed_id u c own handle d.id)) (Some row) (unwrap_or d.format 0) payload a)
-whole_next u c own handle d payload row l a fresh at chosen =
-    ap (λ (r : Bool). if r then None else fresh_bound u c own handle d (Some row) payload (link u c own handle)) fresh
+whole_next b u c own handle d payload row l a fresh at chosen =
+    ap (λ (r : Bool). if r then resumed_bound b u c own handle (claimed_id u c own handle d.id) (link u c own handle) else fresh_bound u c own handle d (Some row) payload (link u c own handle)) fresh
     ∙ bound_there u c own handle d (Some row) payload (link u c own handle) refl
     ∙ ap (λ (v : Option Link). bound_on u c own handle d (Some row) payload v (may_pass (lasts_on (link u c own handle)) (claimed_id u c own handle d.id) (Some row)) (consumer_of u (link u c own handle))) at
     ∙ ap (λ (m : Bool). bound_on u c own handle d (Some row) payload (Some l) m (consumer_of u (link u c own handle))) (passes_row (lasts_on (link u c own handle)) (claimed_id u c own handle d.id) row)
@@ -460,10 +507,11 @@ item_next id t from i row p own handle d payload adm stands answer part open_end
     record {
       binding = binding_to u (option_map (origin_of (from_link from.0 own handle there.0)) (claimed_id u from.0 own handle d.id)) (Some row) (unwrap_or d.format 0) payload whole.at;
       is =
-          ap (item_bound at after from.0 i) stands ∙ ap (bound_for at after from.0 i) answered ∙ ap (part_bound after from.0 own handle (row_found at)) part
-          ∙ ap (λ (w : List Entry). whole_bound w from.0 own handle d (row_found at) payload) same
-          ∙ ap (λ (r : Option RowNumber). whole_bound u from.0 own handle d r payload) named
-          ∙ whole_next u from.0 own handle d payload row there.0 whole.at whole.fresh there.1 chosen;
+          ap (item_bound at after from.0 i) stands ∙ ap (bound_for at after from.0 i) answered ∙ ap (part_bound (book_in at) after from.0 own handle (row_found at)) part
+          ∙ ap (λ (w : List Entry). whole_bound (book_in at) w from.0 own handle d (row_found at) payload) same
+          ∙ ap (λ (r : Option RowNumber). whole_bound (book_in at) u from.0 own handle d r payload) named
+          ∙ whole_next (book_in at) u from.0 own handle d payload row there.0 whole.at whole.fresh there.1 chosen;
+      fresh = refl;
       number = sym (ap (λ (r : RowNumber). r.0) adm.number) ∙ whole.row;
       next = ap (λ (acts : List Act). (effects b acts).next_row) adm.alone ∙ one_more b y;
     }

@@ -39,10 +39,12 @@ use Rattle.router_core.specs.Moves.{Goes, IsTrace}
 use Rattle.core_machine.specs.Moves.{Move, handles, takes}
 use Rattle.router_core.proofs.Booking.{booked_keeps}
 use Rattle.router_core.proofs.Following.{Steps, passed_on, passed_keeps}
+use Rattle.theorems.specs.Admitted.{RowIsAdmitted}
 use Rattle.theorems.specs.Each.{EachBound}
-use Rattle.theorems.specs.Came.{Handled, just_handled, BindsOrTakesUp, CameAndWasBound}
+use Rattle.theorems.specs.Came.{Handled, just_handled, BindsByKind, CameAndWasBound}
 use Rattle.theorems.proofs.Bindings.{of_messages, each_bound}
 use Rattle.theorems.proofs.Resumed.{resumed_takes, replied_found}
+use Rattle.theorems.proofs.Rows.{Rows, start_rows, took_rows, resumed_rows, handled_rows}
 use Rattle.theorems.proofs.Sound.{Sound, sound_start, did_sound, took_sound, batch_sound, taken_sound, goes_sound, quiet_sound, QuietPut, quiet_both, quiet_to, still_handled}
 use Rattle.theorems.proofs.Quiet.{closing_of_quiet, said_quiet, taken_quiet, refused_quiet, settled_quiet, beats_quiet, windows_quiet, drains_quiet, grants_quiet}
 use Rattle.theorems.proofs.Transfers.{IfTaken, transfer_taken}
@@ -53,12 +55,20 @@ use Rattle.theorems.proofs.Tells.{tells_lawful}
 
 -- what follows an event's rows
 
-passed_sound : Steps Sound
+-- (items bind nothing)
+goes_each : (P : List Entry → Binding → Type 0) (ps : List Put) (t : List Entry) → EachBound P t → EachBound P (goes ps t)
+goes_each P [] t each = each
+goes_each P (p ∷ ps) t each = goes_each P ps (Out p.conn p.item ∷ t) each
+
+abbrev SoundRows : List Entry → Type 0
+SoundRows t = Sound t × EachBound RowIsAdmitted t
+
+passed_sound : Steps SoundRows
 passed_sound = record {
-  telling = λ t sound. goes_sound (tells t) t (tells_lawful t) sound;
-  sending = λ t sound. goes_sound (sends_due t) t (sends_lawful t sound.unstarted (names_told t)) sound;
-  draining = λ t sound. quiet_sound (drains_due t) t (drains_quiet t) sound;
-  granting = λ t sound. quiet_sound (grants_due t) t (grants_quiet t) sound;
+  telling = λ t was. (goes_sound (tells t) t (tells_lawful t was.1) was.0, goes_each RowIsAdmitted (tells t) t was.1);
+  sending = λ t was. (goes_sound (sends_due t) t (sends_lawful t was.0.unstarted (names_told t)) was.0, goes_each RowIsAdmitted (sends_due t) t was.1);
+  draining = λ t was. (quiet_sound (drains_due t) t (drains_quiet t) was.0, goes_each RowIsAdmitted (drains_due t) t was.1);
+  granting = λ t was. (quiet_sound (grants_due t) t (grants_quiet t) was.0, goes_each RowIsAdmitted (grants_due t) t was.1);
 }
 
 -- closes because of full outboxes
@@ -69,7 +79,7 @@ ends_sound id (c ∷ cs) t sound =
     let items : List Item = closing_of id (conn t c) ResourceLimitExceeded
     in ends_sound id cs (puts c items t) (quiet_sound (each_to c items) t (quiet_to c items (closing_of_quiet id (conn t c) ResourceLimitExceeded)) sound)
 
-ends_handled : (id : List ℕ) (cs : List ℕ) (t : List Entry) (v : Option Handled) → just_handled t ≡ v → just_handled (ends id cs t) ≡ v
+pub ends_handled : (id : List ℕ) (cs : List ℕ) (t : List Entry) (v : Option Handled) → just_handled t ≡ v → just_handled (ends id cs t) ≡ v
 ends_handled id [] t v is = is
 ends_handled id (c ∷ cs) t v is =
     let items : List Item = closing_of id (conn t c) ResourceLimitExceeded
@@ -154,16 +164,16 @@ row_sound id t after s (event.Tick ms) sound is just = quiet_sound _ after (beat
 row_sound id t after s (event.Up c p) sound is just = sound
 row_sound id t after s event.Start sound is just = sound
 
-answered_sound : (id : List ℕ) (t : List Entry) (s : Step) → Sound t → Sound (answered id t s)
-answered_sound id t s sound =
+answered_sound : (id : List ℕ) (t : List Entry) (s : Step) → Sound t → EachBound RowIsAdmitted (resumed t s.event (replied id t s)) → Sound (answered id t s)
+answered_sound id t s sound admitted =
     let u : List Entry = heard id t s
     in let behind : Sound u = ends_sound id (due t s.event) (Did s ∷ t) (did_sound s t sound)
     in let just : just_handled u ≡ Some (record { step = s; found = t }) = ends_handled id (due t s.event) (Did s ∷ t) (Some (record { step = s; found = t })) refl
     in let rows : Sound (replied id t s) = row_sound id t u s s.event behind refl just
     in let bound : List Entry = resumed t s.event (replied id t s)
     in let resumes : Sound bound = resumed_takes Sound t s.event (replied id t s) (λ u b takes known was. taken_sound u b takes was) (replied_found id t s) rows
-    in let all : Sound (passed_on bound) = passed_keeps Sound passed_sound bound resumes
-    in quiet_sound (windows (passed_on bound)) (passed_on bound) (windows_quiet (passed_on bound)) all
+    in let all : SoundRows (passed_on bound) = passed_keeps SoundRows passed_sound bound (resumes, admitted)
+    in quiet_sound (windows (passed_on bound)) (passed_on bound) (windows_quiet (passed_on bound)) all.0
 
 -- what an event binds before that is a message that just came
 
@@ -171,29 +181,33 @@ each_goes : (P : List Entry → Binding → Type 0) (ps : List Put) (t : List En
 each_goes P [] t each = each
 each_goes P (p ∷ ps) t each = each_goes P ps (Out p.conn p.item ∷ t) each
 
-pub event_binds : (id : List ℕ) (t : List Entry) (s : Step) (b : Binding) → Sound t → bound_by t (heard id t s) s.event ≡ Some b → BindsOrTakesUp (heard id t s) b
+pub event_binds : (id : List ℕ) (t : List Entry) (s : Step) (b : Binding) → Sound t → bound_by t (heard id t s) s.event ≡ Some b → BindsByKind (heard id t s) b
 event_binds id t s b sound is =
     let u : List Entry = heard id t s
     in let behind : Sound u = ends_sound id (due t s.event) (Did s ∷ t) (did_sound s t sound)
     in let just : just_handled u ≡ Some (record { step = s; found = t }) = ends_handled id (due t s.event) (Did s ∷ t) (Some (record { step = s; found = t })) refl
     in let rows : Sound (replied id t s) = row_sound id t u s s.event behind refl just
-    in (subst (λ (v : Option Binding). EachBound BindsOrTakesUp (with_bound v u)) is (each_goes BindsOrTakesUp (own_row id t u s.event) (with_bound (bound_by t u s.event) u) rows.binds)).0
+    in (subst (λ (v : Option Binding). EachBound BindsByKind (with_bound v u)) is (each_goes BindsByKind (own_row id t u s.event) (with_bound (bound_by t u s.event) u) rows.binds)).0
 
 -- moves
 
-pub handled_sound : (id : List ℕ) (t : List Entry) (s : Step) → Sound t → Sound (handled id t s)
-handled_sound id t s sound = answered_sound id (booked t s.event) s (booked_keeps Sound t s.event (λ acts w. batch_sound t acts w) sound)
+pub acted_sound : (t : List Entry) (e : Event) → Sound t → Sound (booked t e)
+acted_sound t e sound = booked_keeps Sound t e (λ acts w. batch_sound t acts w) sound
 
-pub moves_sound : (id : List ℕ) (ms : List Move) (t u : List Entry) → Sound t → Goes id ms t u → Sound u
-moves_sound id [] t u sound went = subst (λ (w : List Entry). Sound w) (sym went) sound
-moves_sound id (handles s ∷ ms) t u sound went = moves_sound id ms (handled id t s) u (handled_sound id t s sound) went.1
-moves_sound id (takes x ∷ ms) t u sound went = moves_sound id ms (took_one x t) u (took_sound _ _ t sound) went
+pub handled_sound : (id : List ℕ) (t : List Entry) (s : Step) → Rows t → Sound t → Sound (handled id t s)
+handled_sound id t s rows sound =
+    answered_sound id (booked t s.event) s (acted_sound t s.event sound) (resumed_rows id t s rows).admitted
+
+pub moves_sound : (id : List ℕ) (ms : List Move) (t u : List Entry) → Rows t → Sound t → Goes id ms t u → Sound u
+moves_sound id [] t u rows sound went = subst (λ (w : List Entry). Sound w) (sym went) sound
+moves_sound id (handles s ∷ ms) t u rows sound went = moves_sound id ms (handled id t s) u (handled_rows id t s rows) (handled_sound id t s rows sound) went.1
+moves_sound id (takes x ∷ ms) t u rows sound went = moves_sound id ms (took_one x t) u (took_rows _ _ t rows) (took_sound _ _ t sound) went
 
 pub trace_sound : (id : List ℕ) (g : Beginning) (u : List Entry) → IsTrace id g u → Sound u
-trace_sound id g u trace = moves_sound id trace.0 (beginning g) u (sound_start g) trace.1
+trace_sound id g u trace = moves_sound id trace.0 (beginning g) u (start_rows g) (sound_start g) trace.1
 
 -- each delivery is of a message that was received
-pub all_came : (u : List Entry) → EachBound BindsOrTakesUp u → (n : ℕ) (d : Delivery) → delivery u n ≡ Some d → CameAndWasBound u n d
+pub all_came : (u : List Entry) → EachBound BindsByKind u → (n : ℕ) (d : Delivery) → delivery u n ≡ Some d → CameAndWasBound u n d
 all_came u each n d there =
     let message = of_messages u n d there
-    in record { message = message; binds = each_bound BindsOrTakesUp message.later message.before message.binding (subst (λ (t : List Entry). EachBound BindsOrTakesUp t) message.trace each) }
+    in record { message = message; binds = each_bound BindsByKind message.later message.before message.binding (subst (λ (t : List Entry). EachBound BindsByKind t) message.trace each) }

@@ -1,5 +1,5 @@
 -- What the answer to an item is put to, and the message that an event binds.
-use Rattle.std.proofs.Common.{◌≡◌, ◌∙◌, sym, ap, refl, subst, ℕ, ◌+◌, ◌<◌, Bool, true, false, ◌&&◌, List, [], ◌∷◌, ◌++◌, arith}
+use Rattle.std.proofs.Common.{◌≡◌, ◌∙◌, sym, ap, refl, subst, inr, ℕ, ◌+◌, ◌<◌, Bool, true, false, ◌&&◌, List, [], ◌∷◌, ◌++◌, arith}
 use Rattle.std.specs.Prelude.{◌==◌, nat_lt, Option, Some, None, Result, Ok, Err, is_some, is_none, option_map, if◌then◌else◌}
 use Rattle.std.proofs.lemmas.Bool.{eqb-true, eq-eqb}
 use Rattle.amqp_model.specs.declared.perf.Attach.{Attach as AnAttach}
@@ -22,11 +22,13 @@ use Rattle.book_model.specs.declared.terminus.LinkRole.TheVariants.{Producer, Co
 use Rattle.book_model.specs.declared.terminus.Terminus.{Terminus}
 use Rattle.book_model.specs.declared.terminus.TerminusNumber.{TerminusNumber}
 use Rattle.book_model.specs.Book.{BookView, row_at, terminus_at, terminus_of, same_role, has_role, may_bind as may_be_bound, admitted, effect, effects}
+use Rattle.book_model.specs.Sound.{IsSound}
 use Rattle.book_core.specs.Rising.{Rises, AllAbove, AllBelow}
 use Rattle.gate_journal.specs.Ordered.{IsOrdered, number_of_row, number_of_terminus}
 use Rattle.journal_store.proofs.Conditions.{holds, next_holds}
 use Rattle.router_trace.specs.declared.binding.Binding.{Binding}
-use Rattle.router_trace.specs.declared.binding.TakenUp.{TakenUp}
+use Rattle.router_trace.specs.declared.binding.BindingKind.{BindingKind}
+use Rattle.router_trace.specs.declared.binding.BindingKind.TheVariants as kind
 use Rattle.router_trace.specs.declared.binding.Origin.{Origin}
 use Rattle.router_trace.specs.declared.condition.Condition.{Condition}
 use Rattle.router_trace.specs.declared.condition.Condition.TheVariants.{ResourceLimitExceeded}
@@ -38,7 +40,7 @@ use Rattle.router_trace.specs.declared.handle.PeerHandle.{PeerHandle}
 use Rattle.router_trace.specs.declared.handle.PeerHandle.TheVariants.{Mapped, Detaching}
 use Rattle.router_trace.specs.Trace.{Trace, Did, Out, Step, puts}
 use Rattle.router_trace.specs.Connection.{Connection, conn, standing, found, due, has}
-use Rattle.router_trace.specs.Deliveries.{either_origin, bound, brought, outcome_as, name_in}
+use Rattle.router_trace.specs.Deliveries.{either_origin, bound, brought, is_message, origin_of, outcome_in, presettles, name_in}
 use Rattle.router_trace.specs.Following.{link_of, is_sending}
 use Rattle.router_trace.specs.Frames.{open_item, close_item}
 use Rattle.router_trace.specs.Links.{Link, LinkPlace, nowhere, detaching, on, asked, asked_at, asked_of, answered_handle, is_lost, link, link_place, link_place_by, on_link, their_handle, last_of_key, free_handle, durable_key}
@@ -55,15 +57,17 @@ use Rattle.router_reply.specs.Admitting.{terminus_for}
 use Rattle.router_reply.specs.Replies.{closing_of, ends, heard, bound_by}
 use Rattle.state_connections.proofs.Lists.{by_test}
 use Rattle.router_core.proofs.Replied.{FoundLive, found_live}
-use Rattle.theorems.specs.Came.{BindsAs}
+use Rattle.theorems.specs.Came.{BindsAs, BindsByKind, BindsMessage}
 use Rattle.theorems.specs.Admitted.{IsFromTerminus, IsAdmitted, IsAdmittedUnder}
-use Rattle.theorems.proofs.Admitted.{bound_row, bound_fresh}
+use Rattle.theorems.proofs.Admitted.{is_taken_up, bound_row, bound_not_taken}
 use Rattle.theorems.proofs.AllSound.{event_binds}
 use Rattle.theorems.proofs.Attaching.{AttachAt}
-use Rattle.theorems.proofs.Facts.{FromTerminus, ForConsumer, Agrees, RowFact, kept_form}
+use Rattle.theorems.proofs.Claimed.{HasClaim}
+use Rattle.theorems.proofs.Facts.{FromTerminus, Agrees, RowFact}
+use Rattle.theorems.proofs.Joins.{CanBind, can_join}
 use Rattle.theorems.proofs.Keeping.{Stands, key_there, attach_stands}
 use Rattle.theorems.proofs.Looking.{found_new}
-use Rattle.theorems.proofs.Rowing.{Receives, MayBind}
+use Rattle.theorems.proofs.Rowing.{Receives, MayBind, can_message}
 use Rattle.theorems.proofs.Rows.{since}
 use Rattle.theorems.proofs.Settling.{found_at_number}
 use Rattle.theorems.proofs.Sound.{Sound}
@@ -282,25 +286,6 @@ from_terminus u b c p n ordered same role (Some key) durable is = by (terminus_o
         let number : x.number.0 ≡ n.0 = ap (λ (k : TerminusNumber). k.0) (some_same is) in
         record { key = key; durable = durable; at = x; found = ap (terminus_of key) same ∙ found; number = number; role = role_of x number found }
 
--- the terminus to which a row may be bound is a consumer's
-below_found : (n m : ℕ) (ts : List Terminus) (x : Terminus) → AllBelow number_of_terminus m ts → terminus_at n ts ≡ Some x → n < m
-below_found n m [] x below is = absurd (none_not_some is)
-below_found n m (t ∷ ts) x below is =
-    by_test (t.number.0 == n)
-    (λ e. subst (λ (k : ℕ). k < m) (eqb-true t.number.0 n e) below.0)
-    (λ e. below_found n m ts x below.1 (rw e at is))
-
-waits_for : (b c : BookView) (v : Option TerminusNumber) → IsOrdered b → b.termini ≡ c.termini → may_be_bound v c.termini ≡ true → ForConsumer b v
-waits_for b c None ordered same binds = tt
-waits_for b c (Some n) ordered same binds = by (terminus_at n.0 b.termini) refl (ap (λ (ts : List Terminus). has_role Consumer (terminus_at n.0 ts)) same ∙ binds)
-  where
-    by : (v : Option Terminus) → terminus_at n.0 b.termini ≡ v → has_role Consumer v ≡ true → ForConsumer b (Some n)
-    by None there is = absurd cc
-    by (Some y) there is = (
-      below_found n.0 b.next_terminus b.termini y ordered.termini_below there,
-      λ x found. subst (λ (z : Terminus). same_role z.key.role Consumer ≡ true) (some_same (sym there ∙ found)) is,
-    )
-
 origin_is : (o : Option Origin) (p : Origin) → either_origin o None ≡ Some p → o ≡ Some p
 origin_is None p is = absurd (none_not_some is)
 origin_is (Some q) p is = is
@@ -333,16 +318,16 @@ admitted_row u b r adm ordered = record {
     below : AllBelow number_of_row x.row.0 before.rows
     below = rises_last before.rows (admitted x) (let P : BookView → Type 0 = λ c. Rises number_of_row c.rows in subst P now ordered.rows_rise)
 
-row_fact : (u : Trace) (b : Binding) (r : RowNumber) → b.taken_up ≡ None → IsAdmitted u b r → IsOrdered (book_in u) → RowFact u (book_in u) r (bound (name_in u b) b)
-row_fact u b r fresh adm ordered = record {
-  settled = unsettled b.origin adm.producer;
+row_fact : (u : Trace) (b : Binding) (o : Option Origin) (r : RowNumber) → b.kind ≡ kind.Message o → (adm : IsAdmitted u b r)
+    → ((p : Origin) → origin_of b.kind ≡ Some p → HasClaim u p adm.admission.tag.items) → IsOrdered (book_in u) → RowFact u (book_in u) r (bound (name_in u b) b)
+row_fact u b o r fresh adm tagged ordered = record {
+  settled = ap presettles fresh ∙ unsettled o (subst (λ (k : BindingKind). IsFromTerminus (origin_of k) u (book_in adm.before) adm.admission.producer) fresh adm.producer);
   known = (admitted_row u b r adm ordered).known;
   agrees = subst (λ (v : Option ARow). Agrees u (book_in u) v (bound (name_in u b) b)) (sym (admitted_row u b r adm ordered).found) (record {
-    outcome = λ p from. ap (λ (up : Option TakenUp). option_map kept_form (brought (λ v. outcome_as v.how) up)) (sym fresh);
-    form = λ p from. refl;
+    outcome = inr (ap outcome_in (sym fresh));
     waits = λ p from. refl;
-    from = λ p from. producer p (origin_is b.origin p (ap (λ (up : Option TakenUp). either_origin b.origin (brought (λ v. v.told) up)) (sym fresh) ∙ from));
-    consumer = λ p from. waits_for (book_in u) before x.consumer ordered (ap (λ (c : BookView). c.termini) now) binds;
+    from = λ p from. producer p (origin_is (origin_of b.kind) p (ap (λ (k : BindingKind). either_origin (origin_of b.kind) (brought (λ v. v.told) k)) (sym fresh) ∙ from));
+    claimed = λ p from. tagged p (origin_is (origin_of b.kind) p (ap (λ (k : BindingKind). either_origin (origin_of b.kind) (brought (λ v. v.told) k)) (sym fresh) ∙ from));
   });
 }
   where
@@ -355,32 +340,41 @@ row_fact u b r fresh adm ordered = record {
     now : book_in u ≡ effect before (Admit x)
     now = (since u adm.came.handled 0 adm.came.just).book ∙ ap book_in adm.acts ∙ one_effect before (Admit x)
 
-    unsettled : (o : Option Origin) → IsFromTerminus o u before x.producer → (is_none o && is_none b.taken_up) ≡ false
+    unsettled : (o : Option Origin) → IsFromTerminus o u before x.producer → is_none o ≡ false
     unsettled None is = absurd is
     unsettled (Some p) is = refl
-
-    binds : may_be_bound x.consumer before.termini ≡ true
-    binds = holds (may_be_bound x.consumer before.termini) NoTerminus _ (next_holds (has_role Producer (terminus_at x.producer.0 before.termini)) NoTerminus _ adm.applies)
 
     role : has_role Producer (terminus_at x.producer.0 before.termini) ≡ true
     role = holds (has_role Producer (terminus_at x.producer.0 before.termini)) NoTerminus _ adm.applies
 
-    producer : (p : Origin) → b.origin ≡ Some p → FromTerminus u (book_in u) p x.producer.0
+    producer : (p : Origin) → origin_of b.kind ≡ Some p → FromTerminus u (book_in u) p x.producer.0
     producer p is =
         from_terminus u (book_in u) before p x.producer ordered (ap (λ (c : BookView). c.termini) now) role (durable_key (link_of u p.link)) refl
         (subst (λ (o : Option Origin). IsFromTerminus o u before x.producer) is adm.producer)
 
-pub may_bind : (id : List ℕ) (t : Trace) (s : Step) → Sound (booked t s.event) → IsOrdered (book_in (heard id (booked t s.event) s))
+-- the claim of a message that is bound has its tag
+abbrev pub MessageClaims : List ℕ → Trace → Step → Type 0
+MessageClaims id t s = (b : Binding) → bound_by (booked t s.event) (heard id (booked t s.event) s) s.event ≡ Some b → (r : RowNumber) (adm : IsAdmitted (heard id (booked t s.event) s) b r)
+    → BindsMessage (heard id (booked t s.event) s) b → (p : Origin) → origin_of b.kind ≡ Some p → HasClaim (heard id (booked t s.event) s) p adm.admission.tag.items
+
+pub may_bind : (id : List ℕ) (t : Trace) (s : Step) → Sound (booked t s.event) → MessageClaims id t s → IsOrdered (book_in (heard id (booked t s.event) s)) → IsSound (book_in (heard id (booked t s.event) s))
     → MayBind (heard id (booked t s.event) s) (bound_by (booked t s.event) (heard id (booked t s.event) s) s.event)
-may_bind id t s sound ordered = by (bound_by (booked t s.event) u s.event) refl
+may_bind id t s sound claiming ordered book = by (bound_by (booked t s.event) u s.event) refl
   where
     u : Trace
     u = heard id (booked t s.event) s
 
+    clash : true ≡ false → ⊥
+    clash e = cc
+
+    by_kind : (b : Binding) → bound_by (booked t s.event) u s.event ≡ Some b → (k : BindingKind) → b.kind ≡ k → BindsAs k u b → CanBind u b
+    by_kind b is (kind.Message o) of binds =
+        can_message u b o of binds
+        (λ r named. let adm : IsAdmitted u b r = subst (λ (o : Option RowNumber). IsAdmittedUnder u b o) named (bound_row id t s.event b is (ap is_message of)) in
+        row_fact u b o r of adm (claiming b is r adm binds) ordered)
+    by_kind b is (kind.TakenUp brought) of binds = absurd (clash (sym (ap is_taken_up of) ∙ bound_not_taken id t s.event b is))
+    by_kind b is (kind.Joined p to) of binds = can_join u b p binds ordered book
+
     by : (v : Option Binding) → bound_by (booked t s.event) u s.event ≡ v → MayBind u v
     by None is = tt
-    by (Some b) is = (
-      bound_fresh id t s.event b is,
-      subst (λ (up : Option TakenUp). BindsAs (is_some up) u b) (bound_fresh id t s.event b is) (event_binds id (booked t s.event) s b sound is),
-      λ r named. row_fact u b r (bound_fresh id t s.event b is) (subst (λ (o : Option RowNumber). IsAdmittedUnder u b o) named (bound_row id t s.event b is)) ordered,
-    )
+    by (Some b) is = by_kind b is b.kind refl (event_binds id (booked t s.event) s b sound is)

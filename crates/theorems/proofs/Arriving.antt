@@ -1,5 +1,6 @@
 -- What a transfer that is taken causes: a complete message is bound, or released.
 use Rattle.std.proofs.Common.{◌≡◌, ◌∙◌, sym, ap, refl, subst, inl, inr, ℕ, Bool, true, false, not, List, [], ◌∷◌, ◌++◌, length}
+use Rattle.std.proofs.lemmas.Bool.{eqb-true}
 use Rattle.std.specs.Prelude.{Option, Some, None, option_map, if◌then◌else◌, nat_lt, unwrap_or}
 use Rattle.amqp_model.specs.PerfSpelling.{state_spelling}
 use Rattle.amqp_model.specs.declared.perf.Perf.TheVariants as perf
@@ -13,6 +14,8 @@ use Rattle.amqp_link.specs.declared.part.Part.{Part}
 use Rattle.amqp_link.specs.declared.part.Part.TheVariants as part
 use Rattle.amqp_link.specs.Deliveries.{Frame, frame, bytes, delivery, is_too_large}
 use Rattle.amqp_link.specs.Receiving.{Received, middle, given, is_beyond}
+use Rattle.book_model.specs.Book.{BookView}
+use Rattle.book_model.specs.declared.row.Row.{Row}
 use Rattle.book_model.specs.declared.row.RowNumber.{RowNumber}
 use Rattle.router_trace.specs.declared.binding.Binding.{Binding}
 use Rattle.router_trace.specs.declared.binding.Origin.{Origin}
@@ -23,14 +26,18 @@ use Rattle.router_trace.specs.declared.handle.Attachment.{Attachment}
 use Rattle.router_trace.specs.Trace.{Entry, Step, Did, Out, Took, Bound, Booked, Began, goes, each_to}
 use Rattle.router_trace.specs.DeliveryFrames.{kept_outcome, outcome_item}
 use Rattle.router_trace.specs.Sessions.{theirs}
-use Rattle.router_trace.specs.Links.{Link, LinkPlace, Happened, link, link_place}
-use Rattle.router_trace.specs.Settling.{is_claimed_on, unbound, part_on, part_by, part_of}
+use Rattle.router_trace.specs.Claims.{Claim, claims}
+use Rattle.router_trace.specs.Links.{Link, LinkPlace, Happened, link, link_place, durable_key}
+use Rattle.router_trace.specs.Settling.{is_claimed_on, is_of_link, unbound, part_on, part_by, part_of}
 use Rattle.state_messages.specs.Messages.{consumer_of, binding_to, with_bound}
-use Rattle.reply_transfers.specs.Transfers.{claimed_id, from_link, origin_of, lasts_on, may_pass, fresh_bound, whole_put, whole_bound, part_put, part_bound, let_go, released_by, released, unbound_put, ignored_put}
+use Rattle.reply_transfers.specs.Transfers.{claimed_id, from_link, origin_of, lasts_on, may_pass, fresh_bound, join_from, resumed_bound, resumed_put, whole_put, whole_bound, part_put, part_bound, let_go, released_by, released, unbound_put, ignored_put}
+use Rattle.reply_transfers.specs.Joining.{row_under}
+use Rattle.router_reply.specs.Acts.{book_in}
 use Rattle.router_reply.specs.Replies.{row_found}
-use Rattle.theorems.specs.Came.{Handled, just_handled, bound_since, CameWhole, ComesFrom, HasRowOn}
+use Rattle.theorems.specs.Came.{Handled, just_handled, bound_since, CameWhole, ComesFrom, HasRowOn, JoinsRow}
 use Rattle.theorems.specs.Told.{IsUnbound}
 use Rattle.state_connections.proofs.Lists.{by_test}
+use Rattle.theorems.proofs.Claimed.{ClaimedRow, claimed_row}
 use Rattle.theorems.proofs.Tests.{some_same, none_not_some}
 use Rattle.theorems.proofs.Sound.{Sound, Lawful, AllLawful, quiet_lawful, goes_sound, bound_sound, quiet_sound, quiet_to}
 use Rattle.theorems.proofs.Quiet.{let_go_quiet, ignored_quiet}
@@ -190,6 +197,81 @@ has_row false f (Some id) row e = tt
 has_row true f None row e = tt
 has_row false f None row e = tt
 
+-- the book since the last event handled
+pub book_since : (t : List Entry) (h : Handled) → just_handled t ≡ Some h → book_in t ≡ book_in h.found
+book_since [] h just = absurd (none_not_some just)
+book_since (Did s ∷ t) h just = ap (λ (k : Handled). book_in k.found) (some_same just)
+book_since (Out c i ∷ t) h just = book_since t h just
+book_since (Took c k ∷ t) h just = absurd (none_not_some just)
+book_since (Bound b ∷ t) h just = absurd (none_not_some just)
+book_since (Booked acts full ∷ t) h just = absurd (none_not_some just)
+book_since (Began g ∷ t) h just = absurd (none_not_some just)
+
+-- a resumed one that joins its row
+
+-- a claim of a link has its handle
+on_handle : (v : Option Claim) (handle : ℕ) (claim : Claim) → v ≡ Some claim → is_of_link handle v ≡ true → claim.handle ≡ handle
+on_handle None handle claim is of = absurd (none_not_some is)
+on_handle (Some x) handle claim is of = ap (λ (y : Claim). y.handle) (sym (some_same is)) ∙ eqb-true x.handle handle of
+
+joins_row : (after : List Entry) (c own handle : ℕ) (d : Told) (payload : List ℕ) (l : Link) (id : ℕ) (r : Row) → CameWhole after c own handle d payload → d.resume ≡ true
+    → link after c own handle ≡ Some l → claimed_id after c own handle d.id ≡ Some id → row_under (book_in after) after c own id ≡ Some r
+    → JoinsRow after (join_from after (from_link c own handle l) id r) (origin_of (from_link c own handle l) id)
+joins_row after c own handle d payload l id r came again at claimed joins =
+    let is = claimed_is after c own handle d.id id claimed in
+    let row : ClaimedRow (book_in after) after c own id r = claimed_row (book_in after) after c own id r joins in
+    let same : row.claim.handle ≡ handle = on_handle (claims after c own id) handle row.claim row.claimed is.1 in
+    record {
+      conn = c;
+      own = own;
+      handle = handle;
+      message = d;
+      payload = payload;
+      came = came;
+      once = none_since after came.handled came.just;
+      resumed = again;
+      producer = l;
+      attached = at;
+      from = from_is after c own handle l d (Some id) claimed;
+      claim = row.claim;
+      claimed = row.claimed;
+      on_link = same;
+      key = row.joined.of_link;
+      durable = ap durable_key (sym at ∙ ap (link after c own) (sym same)) ∙ row.joined.durable;
+      terminus = row.joined.terminus;
+      of_key = row.joined.of_key;
+      row = r;
+      earlier = row.joined.earlier;
+      later = row.joined.later;
+      kept = row.joined.kept;
+      its_producer = row.joined.its_producer;
+      same_tag = row.joined.same_tag;
+      unforgotten = row.joined.unforgotten;
+      joins = refl;
+    }
+
+abbrev ResumedSound : List Entry → ℕ → ℕ → ℕ → Option ℕ → Option Link → Type 0
+ResumedSound after c own handle q v =
+    Sound (goes (each_to c (resumed_put (book_in after) after c own handle q)) (with_bound (resumed_bound (book_in after) after c own handle q v) after))
+
+resumed_sound : (after : List Entry) (c own handle : ℕ) (d : Told) (payload : List ℕ) (v : Option Link) (q : Option ℕ) → Sound after → CameWhole after c own handle d payload → d.resume ≡ true
+    → link after c own handle ≡ v → claimed_id after c own handle d.id ≡ q → ResumedSound after c own handle q v
+resumed_sound after c own handle d payload v None sound came again at claimed = by v
+  where
+    by : (v : Option Link) → ResumedSound after c own handle None v
+    by None = sound
+    by (Some l) = sound
+resumed_sound after c own handle d payload v (Some id) sound came again at claimed = by v at (row_under (book_in after) after c own id) refl
+  where
+    quiet : Sound (goes (each_to c (ignored_put after c own handle (Some id))) after)
+    quiet = quiet_sound (each_to c (ignored_put after c own handle (Some id))) after (quiet_to c (ignored_put after c own handle (Some id)) (ignored_quiet after c own handle (Some id))) sound
+
+    by : (v : Option Link) → link after c own handle ≡ v → (r : Option Row) → row_under (book_in after) after c own id ≡ r → ResumedSound after c own handle (Some id) v
+    by None at None joins = rw joins quiet
+    by None at (Some r) joins = rw joins sound
+    by (Some l) at None joins = rw joins quiet
+    by (Some l) at (Some r) joins = rw joins (bound_sound (join_from after (from_link c own handle l) id r) after (joins_row after c own handle d payload l id r came again at claimed joins) sound)
+
 -- a complete message, whether its link is attached or not, by whether it may be bound and the consumer chosen for it
 
 abbrev pub bound_on : List Entry → ℕ → ℕ → ℕ → Told → Option RowNumber → List ℕ → Option Link → Bool → Option Attachment → Option Binding
@@ -199,9 +281,9 @@ bound_on after c own handle d row payload (Some l) passes x =
 
 abbrev WholeSound : List Entry → ℕ → ℕ → ℕ → Told → Option RowNumber → List ℕ → Option Link → Bool → Bool → Option Attachment → Type 0
 WholeSound after c own handle d row payload v resumed passes x =
-    Sound (goes (each_to c (if resumed then ignored_put after c own handle (claimed_id after c own handle d.id)
+    Sound (goes (each_to c (if resumed then resumed_put (book_in after) after c own handle (claimed_id after c own handle d.id)
     else unbound_put after c own handle (claimed_id after c own handle d.id) (if passes then x else None)))
-    (with_bound (if resumed then None else bound_on after c own handle d row payload v passes x) after))
+    (with_bound (if resumed then resumed_bound (book_in after) after c own handle (claimed_id after c own handle d.id) v else bound_on after c own handle d row payload v passes x) after))
 
 whole_cases : (after : List Entry) (c own handle : ℕ) (d : Told) (row : Option RowNumber) (payload : List ℕ) (v : Option Link) (resumed passes : Bool) (x : Option Attachment)
     → Sound after → (came : CameWhole after c own handle d payload) → row ≡ row_found came.handled.found → link after c own handle ≡ v → d.resume ≡ resumed
@@ -244,7 +326,7 @@ whole_cases after c own handle d row payload v resumed passes x sound came its a
     by : (v : Option Link) (resumed passes : Bool) (x : Option Attachment) → link after c own handle ≡ v → d.resume ≡ resumed
         → may_pass (lasts_on (link after c own handle)) claimed row ≡ passes → consumer_of after (link after c own handle) ≡ x
         → WholeSound after c own handle d row payload v resumed passes x
-    by v true passes x at fresh may chosen = quiet_sound (each_to c (ignored_put after c own handle claimed)) after (quiet_to c (ignored_put after c own handle claimed) (ignored_quiet after c own handle claimed)) sound
+    by v true passes x at fresh may chosen = resumed_sound after c own handle d payload v claimed sound came fresh at refl
     by None false false x at fresh may chosen = let_off fresh (no_row may)
     by (Some l) false false x at fresh may chosen = let_off fresh (no_row may)
     by None false true None at fresh may none = let_off fresh (inl none)
@@ -261,19 +343,22 @@ bound_there after c own handle d row payload (Some l) at = refl
 
 whole_sound : (after : List Entry) (c own handle : ℕ) (d : Told) (row : Option RowNumber) (payload : List ℕ) → Sound after → (came : CameWhole after c own handle d payload)
     → row ≡ row_found came.handled.found
-    → Sound (goes (each_to c (whole_put after c own handle d row)) (with_bound (whole_bound after c own handle d row payload) after))
+    → Sound (goes (each_to c (whole_put (book_in after) after c own handle d row)) (with_bound (whole_bound (book_in after) after c own handle d row payload) after))
 whole_sound after c own handle d row payload sound came its =
-    subst (λ (b : Option Binding). Sound (goes (each_to c (whole_put after c own handle d row)) (with_bound (if d.resume then None else b) after)))
+    subst (λ (b : Option Binding). Sound (goes (each_to c (whole_put (book_in after) after c own handle d row))
+    (with_bound (if d.resume then resumed_bound (book_in after) after c own handle (claimed_id after c own handle d.id) (link after c own handle) else b) after)))
     (sym (bound_there after c own handle d row payload (link after c own handle) refl))
     (whole_cases after c own handle d row payload (link after c own handle) d.resume (may_pass (lasts_on (link after c own handle)) (claimed_id after c own handle d.id) row)
     (consumer_of after (link after c own handle)) sound came its refl refl refl refl)
 
 part_sound : (t after : List Entry) (c own handle : ℕ) (row : Option RowNumber) (q : Option Part) → Sound after → row ≡ row_found t
     → ((d : Told) (payload : List ℕ) → q ≡ Some (part.Whole d payload) → CameAt t after c own handle d payload)
-    → Sound (goes (each_to c (part_put after c own handle row q)) (with_bound (part_bound after c own handle row q) after))
+    → Sound (goes (each_to c (part_put (book_in t) after c own handle row q)) (with_bound (part_bound (book_in t) after c own handle row q) after))
 part_sound t after c own handle row (Some (part.Whole d payload)) sound its came =
-    let here = came d payload refl
-    in whole_sound after c own handle d row payload sound here.came (its ∙ sym (ap row_found here.at))
+    let here = came d payload refl in
+    let same : book_in after ≡ book_in t = book_since after here.came.handled here.came.just ∙ ap book_in here.at in
+    subst (λ (b : BookView). Sound (goes (each_to c (whole_put b after c own handle d row)) (with_bound (whole_bound b after c own handle d row payload) after))) same
+    (whole_sound after c own handle d row payload sound here.came (its ∙ sym (ap row_found here.at)))
 part_sound t after c own handle row (Some part.TooLarge) sound its came =
     quiet_sound (each_to c (let_go after c own handle MessageSizeExceeded)) after (quiet_to c (let_go after c own handle MessageSizeExceeded) (let_go_quiet after c own handle MessageSizeExceeded)) sound
 part_sound t after c own handle row _ sound its came = sound
@@ -281,8 +366,8 @@ part_sound t after c own handle row _ sound its came = sound
 pub transfer_sound : (t after : List Entry) (s : Step) (conn : ConnectionId) (sasl : Bool) (channel : ℕ) (x : Transfer) (carried : List ℕ) (own handle : ℕ) → Sound after
     → s.event ≡ event.Item conn (item.Frame sasl channel (perf.Transfer x) carried) → just_handled after ≡ Some (record { step = s; found = t })
     → IsOn sasl (theirs t conn.0 channel) (link_place t conn.0 own x.handle) own handle
-    → Sound (goes (each_to conn.0 (part_put after conn.0 own handle (row_found t) (part_of (item.Frame sasl channel (perf.Transfer x) carried) (link_place t conn.0 own))))
-    (with_bound (part_bound after conn.0 own handle (row_found t) (part_of (item.Frame sasl channel (perf.Transfer x) carried) (link_place t conn.0 own))) after))
+    → Sound (goes (each_to conn.0 (part_put (book_in t) after conn.0 own handle (row_found t) (part_of (item.Frame sasl channel (perf.Transfer x) carried) (link_place t conn.0 own))))
+    (with_bound (part_bound (book_in t) after conn.0 own handle (row_found t) (part_of (item.Frame sasl channel (perf.Transfer x) carried) (link_place t conn.0 own))) after))
 transfer_sound t after s conn sasl channel x carried own handle sound came just here =
     part_sound t after conn.0 own handle (row_found t) (part_of (item.Frame sasl channel (perf.Transfer x) carried) (link_place t conn.0 own)) sound refl
     (λ d payload is. came_whole t after s conn sasl channel x carried own handle d payload came just here is)

@@ -1,5 +1,5 @@
 -- What an attach puts keeps what holds: the older link with its key is detached, and the new one is attached where nothing was.
-use Rattle.std.proofs.Common.{◌≡◌, ◌∙◌, sym, ap, refl, subst, ℕ, zero, suc, ◌+◌, Bool, true, false, not, ◌&&◌, List, [], ◌∷◌}
+use Rattle.std.proofs.Common.{◌||◌, ◌≡◌, ◌∙◌, sym, ap, refl, subst, ℕ, zero, suc, ◌+◌, Bool, true, false, not, ◌&&◌, List, [], ◌∷◌}
 use Rattle.std.specs.Prelude.{◌==◌, nat_le, Option, Some, None, is_some, is_none, unwrap_or, if◌then◌else◌}
 use Rattle.std.proofs.lemmas.Bool.{eqb-true, eq-eqb}
 use Rattle.amqp_model.specs.declared.perf.Attach.{Attach as AnAttach}
@@ -34,7 +34,8 @@ use Rattle.theorems.proofs.Changing.{Alike, leaves_changed, alike_ends}
 use Rattle.theorems.proofs.Facts.{RowFact, fact_moved}
 use Rattle.theorems.proofs.Keeping.{mapped_key, mapped_handle}
 use Rattle.theorems.proofs.Keeps.{Kept, quiet_kept, next_kept}
-use Rattle.theorems.proofs.Standing.{Standing, WasLink}
+use Rattle.theorems.proofs.Owning.{is_ending, gone_owned}
+use Rattle.theorems.proofs.Standing.{Standing, WasLink, place}
 use Rattle.theorems.proofs.Tests.{some_same, none_not_some}
 
 clash : true ≡ false → ⊥
@@ -130,10 +131,21 @@ drop_kept u c o h none was = record {
   standing = was.standing;
   named = was.named;
   ordered = was.ordered;
+  owned = gone_owned u (x ∷ []) [] (λ a b k over left. gone_link a b k over) was.owned;
 }
   where
     x : Change
     x = change.Ends (gone.Link c o h) false
+
+    gone_link : (a b k : ℕ) → is_ending (x ∷ []) (place a b k) ≡ true → link u a b k ≡ None
+    gone_link a b k over = by (a == c) refl (o == b) refl (h == k) refl over
+      where
+        by : (p : Bool) → (a == c) ≡ p → (q : Bool) → (o == b) ≡ q → (r : Bool) → (h == k) ≡ r → ((p && (q && r)) || false) ≡ true → link u a b k ≡ None
+        by true e true f true g over =
+            ap (λ (n : ℕ). link u n b k) (eqb-true a c e) ∙ ap (λ (n : ℕ). link u c n k) (sym (eqb-true o b f)) ∙ ap (link u c o) (sym (eqb-true h k g)) ∙ none
+        by true e true f false g over = absurd (clash (sym over))
+        by true e false f r g over = absurd (clash (sym over))
+        by false e q f r g over = absurd (clash (sym over))
 
     fact : (n : ℕ) (d : Delivery) (r : RowNumber) → delivery u n ≡ Some d → RowFact u (book_in u) r (changed x d) → RowFact u (book_in u) r d
     fact n d r there known =
@@ -149,7 +161,7 @@ drop_kept u c o h none was = record {
               let at = attached_link p.link (link u p.link.conn.0 p.link.channel p.link.handle) (was.standing.producers n d p there from) in
               source_spared false (is_gone (gone.Link c o h)) d p from (not_on u c o h p.link at.0 none at.1);
         })
-        (λ p key from durable. durable) known
+        (λ p key from durable. durable) (λ p tag from has. has) known
 
 -- what the closes leave of the connection on which an attach came
 
@@ -269,7 +281,7 @@ taken_kept t u c own ours a at was = by (holder u (key_at u c (answer_to a 0))) 
         let out : Item = detach_item x.channel x.handle false (Some Stolen) in
         let first : Kept u (change.Ends (gone.Link x.conn.0 x.channel x.handle) false ∷ []) = subst (λ (v : Option Attachment). Kept u (stolen_from v)) (held_before x holds) was in
         put_answer (Out x.conn.0 out ∷ u) c own (largest_frame u c) ours a key (key_then x) (none_then x holds) (asked_then x)
-        (next_kept x.conn.0 out u (change.Ends (gone.Link x.conn.0 x.channel x.handle) false) [] tt refl tt (λ n d. refl) first)
+        (next_kept x.conn.0 out u (change.Ends (gone.Link x.conn.0 x.channel x.handle) false) [] tt refl tt (λ n d. refl) (λ a e. e) first)
 
 -- an attach that is refused
 

@@ -1,11 +1,16 @@
 -- The acts of an event make of the book what its changes will make of the deliveries.
-use Rattle.std.proofs.Common.{◌≡◌, ◌∙◌, sym, ap, refl, subst, ℕ, ◌≤◌, ◌<◌, Bool, true, false, not, ◌&&◌, List, [], ◌∷◌, ◌++◌, arith, append-nil, ◌⊎◌, inl, inr}
-use Rattle.std.specs.Prelude.{Option, Some, None, map, is_some, is_none, option_map, if◌then◌else◌}
+use Rattle.std.proofs.Common.{◌≡◌, ◌∙◌, sym, ap, refl, subst, inl, inr, ℕ, ◌≤◌, ◌<◌, Bool, true, false, not, ◌&&◌, ◌||◌, List, [], ◌∷◌, ◌++◌, arith, append_assoc, append-nil, ◌⊎◌}
+use Rattle.std.specs.Prelude.{◌==◌, Option, Some, None, map, filter, find, is_some, is_none, option_map, if◌then◌else◌}
 use Rattle.std.specs.Option.{option_and_then}
+use Rattle.std.proofs.lemmas.Bool.{eqb-true, eq-eqb}
 use Rattle.amqp_model.specs.declared.perf.Attach.{Attach as AnAttach}
 use Rattle.amqp_model.specs.declared.perf.Perf.{Perf}
 use Rattle.amqp_model.specs.declared.perf.Perf.TheVariants as perf
+use Rattle.amqp_model.specs.declared.perf.Role.{Role}
+use Rattle.amqp_model.specs.declared.perf.Role.TheVariants.{Sender, Receiver}
+use Rattle.amqp_model.specs.declared.perf.Transfer.{Transfer as ATransfer}
 use Rattle.amqp_model.specs.declared.state.DeliveryState.{DeliveryState}
+use Rattle.amqp_model.specs.declared.state.UnsettledDelivery.{UnsettledDelivery}
 use Rattle.amqp_model.specs.declared.item.Item.{Item}
 use Rattle.amqp_model.specs.declared.item.Item.TheVariants as item
 use Rattle.amqp_conn.specs.declared.conn.Conn.{Conn}
@@ -14,9 +19,14 @@ use Rattle.book_model.specs.declared.act.Admission.{Admission}
 use Rattle.book_model.specs.declared.act.Decision.{Decision}
 use Rattle.book_model.specs.declared.row.Row.{Row as ARow}
 use Rattle.book_model.specs.declared.row.RowNumber.{RowNumber}
+use Rattle.book_model.specs.declared.terminus.LinkKey.{LinkKey}
+use Rattle.book_model.specs.declared.terminus.LinkRole.{LinkRole}
+use Rattle.book_model.specs.declared.terminus.LinkRole.TheVariants.{Producer, Consumer}
+use Rattle.book_model.specs.declared.terminus.Terminus.{Terminus}
 use Rattle.book_model.specs.declared.terminus.TerminusNumber.{TerminusNumber}
-use Rattle.book_model.specs.Book.{BookView, row_at, terminus_at, terminus_of, is_undecided as is_open_row, decided, forgotten, effects, first_fault}
-use Rattle.gate_journal.specs.Ordered.{IsOrdered}
+use Rattle.book_model.specs.Book.{BookView, row_at, row_named, has_tag, terminus_at, terminus_of, is_from, is_for, is_for_by, is_of, same_role, same_bytes, is_undecided as is_open_row, decided, forgotten, effects, first_fault}
+use Rattle.book_core.specs.Rising.{Rises, AllAbove}
+use Rattle.gate_journal.specs.Ordered.{IsOrdered, number_of_row}
 use Rattle.journal_store.specs.declared.acting.TerminusAct.{TerminusAct}
 use Rattle.journal_store.specs.Acting.{journal_outcome, outcome_for, is_among, settles, decided_to, decided_by, forgotten_by, rows_after, terminus_acts, event_acts as settled_acts}
 use Rattle.journal_store.proofs.Makes.{effects_more}
@@ -31,67 +41,68 @@ use Rattle.router_trace.specs.declared.event.Event.TheVariants as event
 use Rattle.router_trace.specs.Connection.{standing, found, due}
 use Rattle.router_trace.specs.DeliveryFrames.{kept_outcome}
 use Rattle.router_trace.specs.Deliveries.{Delivery, source, delivery, is_undecided, outcome_or, outcome_among, outcome_named, given}
+use Rattle.router_trace.specs.Following.{link_of}
+use Rattle.router_trace.specs.LinkFrames.{other}
+use Rattle.router_trace.specs.Links.{way_of, link, link_place, holder, durable_key}
+use Rattle.router_trace.specs.Settling.{middle_on}
+use Rattle.router_trace.specs.declared.handle.Attachment.{Attachment}
 use Rattle.router_trace.specs.Trace.{Trace, Booked}
 use Rattle.state_deliveries.specs.declared.change.Change.{Change}
+use Rattle.state_deliveries.specs.declared.change.Change.TheVariants as change
+use Rattle.state_deliveries.specs.declared.change.Gone.TheVariants as gone
 use Rattle.state_deliveries.specs.Deciding.{changed_by, decided_rows}
+use Rattle.state_deliveries.specs.Hearing.{disposed_change}
+use Rattle.state_deliveries.specs.Stepping.{is_gone, changed}
 use Rattle.reply_rows.specs.declared.answer.Answer.{Answer}
+use Rattle.resume_core.specs.Resuming.{entries_of, is_forgotten_by, forgotten_rows}
+use Rattle.reply_rows.specs.declared.answer.Answer.TheVariants.{Attach, Detach, Taken}
+use Rattle.reply_rows.specs.Booking.{wanted_key, wants_durable, rows_of}
 use Rattle.router_reply.specs.Acts.{live_answer, event_answer, answer_acts, planned_acts, admitted_acts, or_admits, event_acts, finds_full, journaled, book_in, acts_of}
 use Rattle.router_reply.specs.Admitting.{event_admission, admits}
-use Rattle.router_reply.specs.Asking.{receives, resumed_key, attach_in, decided_for, map_decides}
-use Rattle.router_reply.specs.Deciding.{as_kept, lost, event_changes, decided as decided_in, forgotten as forgotten_at, terminus_of_event}
+use Rattle.router_reply.specs.Asking.{key_taken, receives, resumed_key, attach_in, decided_for, map_decides, forgotten_of, all_rows, forgotten_for, map_forgets}
+use Rattle.router_reply.specs.Deciding.{as_kept, lost, listed, ended_by, stolen_from, session_found, event_changes, decided as decided_in, sent_by, sent_from, closed_terminus, item_forgets, forgotten as forgotten_at, terminus_of_event}
 use Rattle.theorems.proofs.Applying.{settled_apply, admission_applies, ordered_after}
 use Rattle.theorems.proofs.Changing.{Leaves, leaves_by, undecided_is}
-use Rattle.theorems.proofs.Decisions.{decided_of, none_for, either_for}
+use Rattle.theorems.proofs.Decisions.{decided_of, none_for}
 use Rattle.theorems.proofs.Ended.{IsEnded, ended_by_all, event_gives}
-use Rattle.theorems.proofs.Facts.{ForConsumer, IsKeptForm, IsHeld, Agrees, RowFact, Facts, FactsOf}
+use Rattle.theorems.proofs.Claimed.{OneTag}
+use Rattle.theorems.proofs.Facts.{FromTerminus, KeptAs, kept_none, kept_some, IsHeld, Agrees, RowFact, Facts, FactsOf}
 use Rattle.theorems.proofs.Forgetting.{IsFrom, is_from_one, resumed_is_done, forgotten_is_done}
 use Rattle.theorems.proofs.Giving.{row_given, acts_give, map_form, kept_is_form}
 use Rattle.theorems.proofs.Hearing.{gives}
 use Rattle.theorems.proofs.KeptForm.{kept_form, kept_twice}
-use Rattle.theorems.proofs.Looking.{found_number, found_below}
-use Rattle.theorems.proofs.Settling.{settled, settled_row, Stays, stays_it, terminus_stays, admission_stays}
-use Rattle.theorems.proofs.Standing.{Standing}
+use Rattle.theorems.proofs.Looking.{found_number, found_below, none_above}
+use Rattle.theorems.proofs.Settling.{settled, settled_row, found_at_number, found_key, Stays, stays_it, terminus_stays, admission_stays}
+use Rattle.theorems.proofs.Standing.{Standing, one_place, holds_key}
 use Rattle.theorems.proofs.Tests.{some_same, none_not_some}
+use Rattle.theorems.proofs.Undecided.{ends_keep}
 
 clash : false ≡ true → ⊥
 clash e = cc
 
 -- a row after what is decided and forgotten
 
--- nothing is asked of a delivery that has no producer
-no_source : (t : Trace) (b : BookView) (v : Option ARow) (e : Delivery) → source e ≡ None → Agrees t b v e
-no_source t b None e none = λ p from. absurd (none_not_some (sym none ∙ from))
-no_source t b (Some row) e none = record {
-  outcome = λ p from. absurd (none_not_some (sym none ∙ from));
-  form = λ p from. absurd (none_not_some (sym none ∙ from));
-  waits = λ p from. absurd (none_not_some (sym none ∙ from));
-  from = λ p from. absurd (none_not_some (sym none ∙ from));
-  consumer = λ p from. absurd (none_not_some (sym none ∙ from));
-}
-
--- one that has one
-decide_from : (t : Trace) (b : BookView) (ds : List Decision) (r : ℕ) (row : ARow) (d e : Delivery) → Leaves d e → d.presettled ≡ false → row.number.0 ≡ r
-    → outcome_for r ds ≡ option_map kept_outcome (if is_undecided d then e.outcome else None) → (d.outcome ≡ None → IsEnded e.outcome) → IsHeld t b row d
-    → row.outcome ≡ option_map kept_form d.outcome → IsKeptForm row → Agrees t b (decided_by ds row) e
-decide_from t b ds r row d e leaves open_one number outcome ended held had form = by d.outcome refl
+-- by the changes of an event
+decide_step : (t : Trace) (b : BookView) (ds : List Decision) (r : ℕ) (row : ARow) (d e : Delivery) → Leaves d e → d.presettled ≡ false → row.number.0 ≡ r
+    → outcome_for r ds ≡ option_map kept_outcome (if is_undecided d then e.outcome else None) → (d.outcome ≡ None → IsEnded e.outcome) → IsHeld t b row d → Agrees t b (decided_by ds row) e
+decide_step t b ds r row d e leaves open_one number outcome ended held = by d.outcome refl
   where
     named : outcome_for row.number.0 ds ≡ option_map kept_outcome (if is_undecided d then e.outcome else None)
     named = ap (λ (n : ℕ). outcome_for n ds) number ∙ outcome
 
-    stays : (s : Option DeliveryState) → row.outcome ≡ option_map kept_form s → e.outcome ≡ s → Agrees t b (Some row) e
-    stays s is same = record {
-      outcome = λ q comes. is ∙ ap (option_map kept_form) (sym same);
-      form = λ q comes. form;
+    stays : e.outcome ≡ d.outcome → Agrees t b (Some row) e
+    stays same = record {
+      outcome = subst (KeptAs row.outcome) (sym same) held.outcome;
       waits = λ q comes. held.waits q (leaves.comes q comes);
       from = λ q comes. held.from q (leaves.comes q comes);
-      consumer = λ q comes. held.consumer q (leaves.comes q comes);
+      claimed = λ q comes. held.claimed q (leaves.comes q comes);
     }
 
     shut : (s : DeliveryState) → d.outcome ≡ Some s → is_open_row row ≡ false
-    shut s is = ap is_none (had ∙ ap (option_map kept_form) is)
+    shut s is = kept_some row.outcome d.outcome s held.outcome is
 
     open_row : d.outcome ≡ None → is_open_row row ≡ true
-    open_row is = ap is_none (had ∙ ap (option_map kept_form) is)
+    open_row is = ap is_none (kept_none row.outcome d.outcome held.outcome is)
 
     -- it is decided now
     now : (s : DeliveryState) → d.outcome ≡ None → e.outcome ≡ Some s → Agrees t b (decided (kept_form s) row) e
@@ -100,40 +111,31 @@ decide_from t b ds r row d e leaves open_one number outcome ended held had form 
         gone_or_not : (f : Bool) → row.forgotten ≡ f → Agrees t b (if f then None else Some (record row { outcome = Some (kept_form s) })) e
         gone_or_not true f = λ p from. clash (sym (held.waits p (leaves.comes p from)) ∙ f)
         gone_or_not false f = record {
-          outcome = λ q comes. ap (option_map kept_form) (sym is);
-          form = λ q comes. ap (λ (x : DeliveryState). Some x) (sym (kept_twice s (subst IsEnded is (ended none))));
+          outcome = inl (ap (option_map kept_form) (sym is));
           waits = λ q comes. f;
           from = λ q comes. held.from q (leaves.comes q comes);
-          consumer = λ q comes. held.consumer q (leaves.comes q comes);
+          claimed = λ q comes. held.claimed q (leaves.comes q comes);
         }
 
     undecided : d.outcome ≡ None → (u : Bool) → is_undecided d ≡ u → Agrees t b (decided_to (option_map kept_outcome (if u then e.outcome else None)) row) e
     undecided none true is = made e.outcome refl
       where
         made : (o : Option DeliveryState) → e.outcome ≡ o → Agrees t b (decided_to (option_map kept_outcome o) row) e
-        made None same = stays None (had ∙ ap (option_map kept_form) none) same
+        made None same = stays (same ∙ sym none)
         made (Some s) same = now s none same
     undecided none false is = asleep d.suspended refl
       where
         asleep : (q : Bool) → d.suspended ≡ q → Agrees t b (Some row) e
-        asleep true f = stays None (had ∙ ap (option_map kept_form) none) (leaves.sleeps none f).0
+        asleep true f = stays ((leaves.sleeps none f).0 ∙ sym none)
         asleep false f = absurd (clash (sym is ∙ (let open_now : is_undecided d ≡ true = rw (none, open_one, f) refl in open_now)))
 
     by : (o : Option DeliveryState) → d.outcome ≡ o → Agrees t b (decided_by ds row) e
     by (Some s) is =
         subst (λ (q : Bool). Agrees t b (if q then decided_to (outcome_for row.number.0 ds) row else Some row) e) (sym (shut s is))
-        (stays (Some s) (had ∙ ap (option_map kept_form) is) (leaves.stays s is))
+        (stays (leaves.stays s is ∙ sym is))
     by None is =
         subst (λ (q : Bool). Agrees t b (if q then decided_to (outcome_for row.number.0 ds) row else Some row) e) (sym (open_row is))
         (subst (λ (o : Option DeliveryState). Agrees t b (decided_to o row) e) (sym named) (undecided is (is_undecided d) refl))
-
-decide_step : (t : Trace) (b : BookView) (ds : List Decision) (r : ℕ) (row : ARow) (d e : Delivery) → Leaves d e → d.presettled ≡ false → row.number.0 ≡ r
-    → outcome_for r ds ≡ option_map kept_outcome (if is_undecided d then e.outcome else None) → (d.outcome ≡ None → IsEnded e.outcome) → IsHeld t b row d → Agrees t b (decided_by ds row) e
-decide_step t b ds r row d e leaves open_one number outcome ended held = by_source (source e) refl
-  where
-    by_source : (o : Option Origin) → source e ≡ o → Agrees t b (decided_by ds row) e
-    by_source None none = no_source t b (decided_by ds row) e none
-    by_source (Some p) from = decide_from t b ds r row d e leaves open_one number outcome ended held (held.outcome p (leaves.comes p from)) (held.form p (leaves.comes p from))
 
 forget_step : (t : Trace) (b : BookView) (numbers : List RowNumber) (r : ℕ) (row : ARow) (e : Delivery) → row.number.0 ≡ r
     → (is_among r numbers ≡ true → (p : Origin) → source e ≡ Some p → ⊥) → IsHeld t b row e → Agrees t b (forgotten_by numbers row) e
@@ -145,11 +147,10 @@ forget_step t b numbers r row e number done held = by row.forgotten (is_among ro
     now : ((p : Origin) → source e ≡ Some p → ⊥) → (o : Bool) → Agrees t b (if o then None else Some (record row { forgotten = true })) e
     now none true = none
     now none false = record {
-      outcome = λ p from. absurd (none p from);
-      form = λ p from. absurd (none p from);
+      outcome = held.outcome;
       waits = λ p from. absurd (none p from);
       from = λ p from. absurd (none p from);
-      consumer = λ p from. absurd (none p from);
+      claimed = λ p from. absurd (none p from);
     }
 
     by : (f m : Bool) → row.forgotten ≡ f → is_among row.number.0 numbers ≡ m → Agrees t b (if not f && m then forgotten row else Some row) e
@@ -188,18 +189,10 @@ settle_step t b ds numbers r (Some row) d e comes number decides done was =
 
 -- over the book after all acts of the event, and the trace after them
 
-for_stays : (b c : BookView) (v : Option TerminusNumber) → Stays b c → ForConsumer b v → ForConsumer c v
-for_stays b c None stays was = tt
-for_stays b c (Some n) stays was = (under n.0 b.next_terminus c.next_terminus was.0 stays.more, λ x there. was.1 x (stays.older n.0 x was.0 there))
-  where
-    under : (n j k : ℕ) → n < j → j ≤ k → n < k
-    under n j k low most = omega (arith, low, most)
-
 book_step : (t : Trace) (acts : List Act) (full : List ℕ) (b c : BookView) (r : ℕ) (v : Option ARow) (e : Delivery) → row_at r b.rows ≡ v → Stays b c → Agrees t b v e → Agrees (Booked acts full ∷ t) c v e
 book_step t acts full b c r None e found stays was = was
 book_step t acts full b c r (Some row) e found stays was = record {
   outcome = was.outcome;
-  form = was.form;
   waits = was.waits;
   from = λ p from. let at = was.from p from in
       record {
@@ -210,23 +203,18 @@ book_step t acts full b c r (Some row) e found stays was = record {
         number = at.number;
         role = at.role;
       };
-  consumer = λ p from. for_stays b c row.consumer stays (was.consumer p from);
+  claimed = λ p from. let has = was.claimed p from in record { claim = has.claim; there = has.there; on_link = has.on_link; tagged = has.tagged; apart = has.apart };
 }
 
 -- the same termini
-for_same : (b c : BookView) (v : Option TerminusNumber) → c.termini ≡ b.termini → c.next_terminus ≡ b.next_terminus → ForConsumer b v → ForConsumer c v
-for_same b c None same next was = tt
-for_same b c (Some n) same next was = (subst (λ (m : ℕ). n.0 < m) (sym next) was.0, λ x there. was.1 x (sym (ap (terminus_at n.0) same) ∙ there))
-
 termini_step : (t : Trace) (b c : BookView) (v : Option ARow) (e : Delivery) → c.termini ≡ b.termini → c.next_terminus ≡ b.next_terminus → Agrees t b v e → Agrees t c v e
 termini_step t b c None e same next was = was
 termini_step t b c (Some row) e same next was = record {
   outcome = was.outcome;
-  form = was.form;
   waits = was.waits;
   from = λ p from. let at = was.from p from in
       record { key = at.key; durable = at.durable; at = at.at; found = ap (terminus_of at.key) same ∙ at.found; number = at.number; role = at.role };
-  consumer = λ p from. for_same b c row.consumer same next (was.consumer p from);
+  claimed = was.claimed;
 }
 
 -- the book after what is decided and forgotten, and that after all acts
@@ -335,11 +323,11 @@ facts_with full t e g planned ordered before decides done was n d r there name =
     under r k n low most = omega (arith, low, most)
 
 -- of an event whose item is no attach: its changes decide all that its acts do
-facts_after : (full : Bool) (t : Trace) (e : Event) → IsPlanned full t e → map_decides (book_in t) t e (event_answer full (book_in t) t e) ≡ [] → Standing t → IsOrdered (book_in t) → Facts t []
+facts_after : (full : Bool) (t : Trace) (e : Event) → IsPlanned full t e → map_decides (book_in t) t e (event_answer full (book_in t) t e) ≡ [] → Standing t → OneTag t → IsOrdered (book_in t) → Facts t []
     → Facts (Booked (event_acts full (book_in t) t e) (due t e) ∷ t) (event_changes t e (event_answer full (book_in t) t e))
-facts_after full t e planned unmapped standing ordered was =
+facts_after full t e planned unmapped standing one ordered was =
     facts_with full t e (λ d. d) planned ordered (λ d. record { settled = refl; comes = λ p from. from }) decides
-    (λ n d r there name from among. forgotten_is_done t b n d r e answer standing ordered from there name among) was
+    (λ n d r there name from among. forgotten_is_done t b n d r e answer standing one ordered from there name among) was
   where
     b : BookView
     b = book_in t
@@ -371,8 +359,8 @@ none_given acts d r name none is = ap (λ (o : Option DeliveryState). record d {
 
 attach_step : (t : Trace) (b : BookView) (acts : List Act) (ds : List Decision) (xs : List Change) (r : RowNumber) (row : ARow) (d : Delivery) → d.name ≡ Row r → row.number.0 ≡ r.0
     → outcome_among acts r ≡ row_given ds (Some row) → (d.outcome ≡ None → outcome_for r.0 ds ≡ None → (changed_by xs d).outcome ≡ None)
-    → ((s : DeliveryState) → outcome_for r.0 ds ≡ Some s → kept_form (journal_outcome s) ≡ journal_outcome s) → IsHeld t b row d → Agrees t b (decided_by ds row) (changed_by xs (given acts d))
-attach_step t b acts ds xs r row d name number gives quiet form held = by_source (source e) refl
+    → IsHeld t b row d → Agrees t b (decided_by ds row) (changed_by xs (given acts d))
+attach_step t b acts ds xs r row d name number gives quiet held = decided_row d.outcome refl
   where
     e : Delivery
     e = changed_by xs (given acts d)
@@ -383,51 +371,45 @@ attach_step t b acts ds xs r row d name number gives quiet form held = by_source
     named : outcome_for row.number.0 ds ≡ outcome_for r.0 ds
     named = ap (λ (n : ℕ). outcome_for n ds) number
 
-    stays : (p : Origin) → source d ≡ Some p → (o : Option DeliveryState) → row.outcome ≡ option_map kept_form o → e.outcome ≡ o → Agrees t b (Some row) e
-    stays p from o had same = record {
-      outcome = λ q comes. had ∙ ap (option_map kept_form) (sym same);
-      form = λ q comes. held.form q (leaves.comes q comes);
+    stays : e.outcome ≡ d.outcome → Agrees t b (Some row) e
+    stays same = record {
+      outcome = subst (KeptAs row.outcome) (sym same) held.outcome;
       waits = λ q comes. held.waits q (leaves.comes q comes);
       from = λ q comes. held.from q (leaves.comes q comes);
-      consumer = λ q comes. held.consumer q (leaves.comes q comes);
+      claimed = λ q comes. held.claimed q (leaves.comes q comes);
     }
 
     -- it is decided now
-    now : (s : DeliveryState) → kept_form (journal_outcome s) ≡ journal_outcome s → e.outcome ≡ Some (journal_outcome s) → Agrees t b (decided (journal_outcome s) row) e
-    now s kept is = gone_or_not row.forgotten refl
+    now : (s : DeliveryState) → e.outcome ≡ Some (journal_outcome s) → Agrees t b (decided (journal_outcome s) row) e
+    now s is = gone_or_not row.forgotten refl
       where
         gone_or_not : (f : Bool) → row.forgotten ≡ f → Agrees t b (if f then None else Some (record row { outcome = Some (journal_outcome s) })) e
         gone_or_not true f = λ p from. clash (sym (held.waits p (leaves.comes p from)) ∙ f)
         gone_or_not false f = record {
-          outcome = λ q comes. ap (λ (x : DeliveryState). Some x) (sym kept) ∙ ap (option_map kept_form) (sym is);
-          form = λ q comes. ap (λ (x : DeliveryState). Some x) (sym kept);
+          outcome = inr (sym is);
           waits = λ q comes. f;
           from = λ q comes. held.from q (leaves.comes q comes);
-          consumer = λ q comes. held.consumer q (leaves.comes q comes);
+          claimed = λ q comes. held.claimed q (leaves.comes q comes);
         }
 
-    open_one : d.outcome ≡ None → row.outcome ≡ None → (o : Option DeliveryState) → outcome_for r.0 ds ≡ o → (p : Origin) → source d ≡ Some p → Agrees t b (decided_to o row) e
-    open_one none open_row None is p from =
+    open_one : d.outcome ≡ None → row.outcome ≡ None → (o : Option DeliveryState) → outcome_for r.0 ds ≡ o → Agrees t b (decided_to o row) e
+    open_one none open_row None is =
         let nothing : outcome_among acts r ≡ None =
         gives ∙ ap (λ (q : Bool). if q then option_map journal_outcome (outcome_for row.number.0 ds) else None) (ap is_none open_row) ∙ ap (option_map journal_outcome) (named ∙ is) in
-        stays p from None open_row (ap (λ (x : Delivery). (changed_by xs x).outcome) (none_given acts d r name none nothing) ∙ quiet none is)
-    open_one none open_row (Some s) is p from =
+        stays (ap (λ (x : Delivery). (changed_by xs x).outcome) (none_given acts d r name none nothing) ∙ quiet none is ∙ sym none)
+    open_one none open_row (Some s) is =
         let something : outcome_among acts r ≡ Some (journal_outcome s) =
         gives ∙ ap (λ (q : Bool). if q then option_map journal_outcome (outcome_for row.number.0 ds) else None) (ap is_none open_row) ∙ ap (option_map journal_outcome) (named ∙ is) in
-        now s (form s is) (leaves.stays (journal_outcome s) (one_given acts d r (Some (journal_outcome s)) name none something))
+        now s (leaves.stays (journal_outcome s) (one_given acts d r (Some (journal_outcome s)) name none something))
 
-    decided_row : (o : Option DeliveryState) → d.outcome ≡ o → (p : Origin) → source d ≡ Some p → Agrees t b (decided_by ds row) e
-    decided_row (Some s) is p from =
-        subst (λ (q : Bool). Agrees t b (if q then decided_to (outcome_for row.number.0 ds) row else Some row) e) (sym (ap is_none (held.outcome p from ∙ ap (option_map kept_form) is)))
-        (stays p from (Some s) (held.outcome p from ∙ ap (option_map kept_form) is) (leaves.stays s (ap (λ (o : Option DeliveryState). outcome_or o (outcome_named acts d.name)) is)))
-    decided_row None is p from =
-        let open_row : row.outcome ≡ None = held.outcome p from ∙ ap (option_map kept_form) is in
+    decided_row : (o : Option DeliveryState) → d.outcome ≡ o → Agrees t b (decided_by ds row) e
+    decided_row (Some s) is =
+        subst (λ (q : Bool). Agrees t b (if q then decided_to (outcome_for row.number.0 ds) row else Some row) e) (sym (kept_some row.outcome d.outcome s held.outcome is))
+        (stays (leaves.stays s (ap (λ (o : Option DeliveryState). outcome_or o (outcome_named acts d.name)) is) ∙ sym is))
+    decided_row None is =
+        let open_row : row.outcome ≡ None = kept_none row.outcome d.outcome held.outcome is in
         subst (λ (q : Bool). Agrees t b (if q then decided_to (outcome_for row.number.0 ds) row else Some row) e) (sym (ap is_none open_row))
-        (subst (λ (o : Option DeliveryState). Agrees t b (decided_to o row) e) (sym named) (open_one is open_row (outcome_for r.0 ds) refl p from))
-
-    by_source : (o : Option Origin) → source e ≡ o → Agrees t b (decided_by ds row) e
-    by_source None none = no_source t b (decided_by ds row) e none
-    by_source (Some p) from = decided_row d.outcome refl p (leaves.comes p from)
+        (subst (λ (o : Option DeliveryState). Agrees t b (decided_to o row) e) (sym named) (open_one is open_row (outcome_for r.0 ds) refl))
 
 -- changes that decide nothing leave an undecided delivery so
 stays_open : (xs : List Change) (d : Delivery) → d.presettled ≡ false → d.outcome ≡ None → option_map kept_outcome (if is_undecided d then (changed_by xs d).outcome else None) ≡ None
@@ -490,24 +472,7 @@ attach_facts full t c channel a payload standing ordered was =
         → Agrees t b (decided_by ds row) (changed_by xs (given acts d))
     decides n d r there name settled row found held =
         attach_step t b acts ds xs r row d name (numbered_in b r row found) (gives r row found)
-        (λ none is. stays_open xs d settled none (sym (decided_of t n d r xs there name) ∙ none_for r.0 rows told is)) form held
-      where
-        form : (s : DeliveryState) → outcome_for r.0 ds ≡ Some s → kept_form (journal_outcome s) ≡ journal_outcome s
-        form s is = by (either_for r.0 rows told s is)
-          where
-            made : (o : Option DeliveryState) → IsEnded o → option_map kept_outcome o ≡ Some s → kept_form (journal_outcome s) ≡ journal_outcome s
-            made None ended is = absurd (none_not_some is)
-            made (Some x) ended is = kept_is_form s (record { of = x; is = sym (some_same is); ended = ended })
-
-            none_ended : (d.outcome ≡ None → IsEnded (changed_by xs d).outcome) → (u : Bool) → is_undecided d ≡ u → IsEnded (if u then (changed_by xs d).outcome else None)
-            none_ended all true open_now = all (undecided_is d open_now).0
-            none_ended all false open_now = tt
-
-            by : (outcome_for r.0 rows ≡ Some s) ⊎ (outcome_for r.0 told ≡ Some s) → kept_form (journal_outcome s) ≡ journal_outcome s
-            by (inl is) =
-                made (if is_undecided d then (changed_by xs d).outcome else None)
-                (none_ended (λ none. ended_by_all xs d (event_gives t e answer) (subst IsEnded (sym none) tt)) (is_undecided d) refl) (sym (decided_of t n d r xs there name) ∙ is)
-            by (inr is) = kept_is_form s (map_form b (attach_in e) (resumed_key t e answer) r.0 s is)
+        (λ none is. stays_open xs d settled none (sym (decided_of t n d r xs there name) ∙ none_for r.0 rows told is)) held
 
     done : (n : ℕ) (d : Delivery) (r : RowNumber) → delivery t n ≡ Some d → d.name ≡ Row r → IsFrom t b (row_at r.0 b.rows) d → is_among r.0 numbers ≡ true → (p : Origin)
         → source (changed_by xs (given acts d)) ≡ Some p → ⊥
@@ -653,17 +618,17 @@ sasl_decides full t c channel (perf.Attach a) payload = by (standing (found t e 
     by (Some p) = nothing (receives a.role)
 sasl_decides full t c channel body payload = refl
 
-pub booked_facts : (t : Trace) (e : Event) → Standing t → IsOrdered (book_in t) → (e ≡ event.Start → (n : ℕ) → delivery t n ≡ None) → Facts t []
+pub booked_facts : (t : Trace) (e : Event) → Standing t → OneTag t → IsOrdered (book_in t) → (e ≡ event.Start → (n : ℕ) → delivery t n ≡ None) → Facts t []
     → FactsOf (Booked (acts_of t e) (due t e) ∷ t) (gives e (acts_of t e)) (changes_of t e)
-booked_facts t event.Start standing ordered none was = λ n d r there name. absurd (none_not_some (sym (none refl n) ∙ there))
-booked_facts t (event.Item c (item.Frame true channel body payload)) standing ordered none was =
+booked_facts t event.Start standing one ordered none was = λ n d r there name. absurd (none_not_some (sym (none refl n) ∙ there))
+booked_facts t (event.Item c (item.Frame true channel body payload)) standing one ordered none was =
     facts_after (finds_full (journaled t) t (event.Item c (item.Frame true channel body payload))) t (event.Item c (item.Frame true channel body payload)) refl
-    (sasl_decides (finds_full (journaled t) t (event.Item c (item.Frame true channel body payload))) t c channel body payload) standing ordered was
-booked_facts t (event.Item c (item.Frame false channel (perf.Attach a) payload)) standing ordered none was =
+    (sasl_decides (finds_full (journaled t) t (event.Item c (item.Frame true channel body payload))) t c channel body payload) standing one ordered was
+booked_facts t (event.Item c (item.Frame false channel (perf.Attach a) payload)) standing one ordered none was =
     attach_facts (finds_full (journaled t) t (event.Item c (item.Frame false channel (perf.Attach a) payload))) t c channel a payload standing ordered was
-booked_facts t (event.Item c (item.Frame false channel body payload)) standing ordered none was =
-    facts_after (finds_full (journaled t) t (event.Item c (item.Frame false channel body payload))) t (event.Item c (item.Frame false channel body payload)) refl refl standing ordered was
-booked_facts t (event.Item c i) standing ordered none was = facts_after (finds_full (journaled t) t (event.Item c i)) t (event.Item c i) refl refl standing ordered was
-booked_facts t (event.Up c p) standing ordered none was = facts_after (finds_full (journaled t) t (event.Up c p)) t (event.Up c p) refl refl standing ordered was
-booked_facts t (event.Down c) standing ordered none was = facts_after (finds_full (journaled t) t (event.Down c)) t (event.Down c) refl refl standing ordered was
-booked_facts t (event.Tick ms) standing ordered none was = facts_after (finds_full (journaled t) t (event.Tick ms)) t (event.Tick ms) refl refl standing ordered was
+booked_facts t (event.Item c (item.Frame false channel body payload)) standing one ordered none was =
+    facts_after (finds_full (journaled t) t (event.Item c (item.Frame false channel body payload))) t (event.Item c (item.Frame false channel body payload)) refl refl standing one ordered was
+booked_facts t (event.Item c i) standing one ordered none was = facts_after (finds_full (journaled t) t (event.Item c i)) t (event.Item c i) refl refl standing one ordered was
+booked_facts t (event.Up c p) standing one ordered none was = facts_after (finds_full (journaled t) t (event.Up c p)) t (event.Up c p) refl refl standing one ordered was
+booked_facts t (event.Down c) standing one ordered none was = facts_after (finds_full (journaled t) t (event.Down c)) t (event.Down c) refl refl standing one ordered was
+booked_facts t (event.Tick ms) standing one ordered none was = facts_after (finds_full (journaled t) t (event.Tick ms)) t (event.Tick ms) refl refl standing one ordered was

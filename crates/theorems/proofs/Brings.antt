@@ -1,6 +1,6 @@
 -- In every trace of the router that was opened on a sound book, a row that is taken up brings the outcome that the book has of it.
-use Rattle.std.proofs.Common.{◌≡◌, ◌∙◌, sym, ap, refl, subst, ℕ, List, [], ◌∷◌, ◌++◌}
-use Rattle.std.specs.Prelude.{Option, Some, None, option_map, true}
+use Rattle.std.proofs.Common.{◌≡◌, ◌∙◌, sym, ap, refl, subst, ℕ, ◌<◌, List, [], ◌∷◌, ◌++◌}
+use Rattle.std.specs.Prelude.{Option, Some, None, option_map, true, false}
 use Rattle.amqp_model.specs.declared.perf.Attach.{Attach as AnAttach}
 use Rattle.amqp_model.specs.declared.state.DeliveryState.{DeliveryState}
 use Rattle.amqp_model.specs.declared.item.Item.{Item}
@@ -18,9 +18,12 @@ use Rattle.resume_core.specs.Resuming.{entries_of, told_of, outcome_given, decid
 use Rattle.reply_rows.specs.declared.answer.Answer.{Answer}
 use Rattle.router_trace.specs.Configuration.{beginning, opened}
 use Rattle.router_trace.specs.Connection.{conn, due}
-use Rattle.router_trace.specs.Deliveries.{outcome_among, outcome_as, acts_found}
+use Rattle.router_trace.specs.Deliveries.{outcome_among, outcome_as, acts_found, bound, name_in, is_message, joins_standing}
 use Rattle.router_trace.specs.Trace.{Beginning, Trace, Did, Out, Took, Bound, Put, Step, did, step_of, goes, puts, each_to}
 use Rattle.router_trace.specs.declared.binding.Binding.{Binding}
+use Rattle.router_trace.specs.declared.binding.BindingKind.{BindingKind}
+use Rattle.router_trace.specs.declared.binding.BindingKind.TheVariants as kind
+use Rattle.router_trace.specs.declared.binding.Origin.{Origin}
 use Rattle.router_trace.specs.declared.binding.TakenUp.{TakenUp}
 use Rattle.router_trace.specs.declared.condition.Condition.TheVariants.{ResourceLimitExceeded}
 use Rattle.router_trace.specs.declared.event.Event.{Event}
@@ -35,12 +38,16 @@ use Rattle.router_core.specs.Moves.{Goes, IsTrace}
 use Rattle.router_core.specs.Replies.{handled}
 use Rattle.router_core.proofs.Following.{all_keep}
 use Rattle.theorems.specs.Admitted.{IsAdmittedUnder}
-use Rattle.theorems.specs.Came.{last_found, TakesUp, IsOutcomeThen, BringsItsOutcome}
+use Rattle.theorems.specs.Came.{last_found, TakesUp, IsOutcomeThen, BringsItsOutcome, JoinsRow, BindsAs, BindsByKind}
 use Rattle.theorems.specs.Each.{EachBound}
-use Rattle.theorems.proofs.Admitted.{bound_fresh, bound_row, bound_lasting as bound_lasting_as}
+use Rattle.theorems.proofs.Admitted.{is_taken_up, bound_not_taken, bound_row, bound_lasting as bound_lasting_as}
+use Rattle.theorems.proofs.AllSound.{acted_sound, event_binds, handled_sound}
 use Rattle.theorems.proofs.Booked.{acts_apply, answer_for, RowAfter, row_after}
-use Rattle.theorems.proofs.Lasting.{Lasting, booked_lasting, did_lasting, out_lasting, bound_lasting, message_lasts, taken_lasts}
+use Rattle.theorems.proofs.Lasting.{Lasting, booked_lasting, did_lasting, out_lasting, RowLasts, bound_lasting, message_lasts, joined_lasts, taken_lasts}
+use Rattle.theorems.proofs.Joins.{joined_below}
 use Rattle.theorems.proofs.Looking.{found_in}
+use Rattle.theorems.proofs.Rows.{Rows, start_rows, took_rows, handled_rows}
+use Rattle.theorems.proofs.Sound.{Sound, sound_start, took_sound}
 use Rattle.theorems.proofs.Resumed.{Brought, resumed_takes, replied_book, replied_found}
 use Rattle.theorems.proofs.Served.{key_before, row_gets}
 use Rattle.theorems.proofs.Taking.{taken_durable}
@@ -58,6 +65,9 @@ row_there t u b ordered found up =
     ap (row_at up.row.number.0) kept
     ∙ found_in up.earlier up.later up.row (let P : List ARow → Type 0 = λ rs. Rises number_of_row rs in subst P kept ordered.rows_rise)
 
+taken_one : (x y : TakenUp) → kind.TakenUp x ≡ kind.TakenUp y → x ≡ y
+taken_one x y e = cc
+
 same_outcome : (t u : Trace) (b : Binding) → IsOrdered (book_in t) → book_found (last_found u) ≡ book_in t → (one other : TakesUp u b)
     → IsOutcomeThen one.row.outcome (outcome_among (acts_found (last_found u)) one.row.number) (outcome_as one.brought.how)
     → IsOutcomeThen other.row.outcome (outcome_among (acts_found (last_found u)) other.row.number) (outcome_as other.brought.how)
@@ -65,7 +75,7 @@ same_outcome t u b ordered found one other is =
     let number : one.row.number ≡ other.row.number = some_same (sym one.number ∙ other.number) in
     let row : one.row ≡ other.row =
     some_same (sym (row_there t u b ordered found one) ∙ ap (λ (n : RowNumber). row_at n.0 (book_in t).rows) number ∙ row_there t u b ordered found other) in
-    let brought : one.brought ≡ other.brought = some_same (sym one.taken ∙ other.taken) in
+    let brought : one.brought ≡ other.brought = taken_one one.brought other.brought (sym one.taken ∙ other.taken) in
     subst (λ (x : TakenUp). IsOutcomeThen other.row.outcome (outcome_among (acts_found (last_found u)) other.row.number) (outcome_as x.how)) brought
     (subst (λ (r : ARow). IsOutcomeThen r.outcome (outcome_among (acts_found (last_found u)) r.number) (outcome_as one.brought.how)) row is)
 
@@ -121,19 +131,39 @@ taken_brings id t s u b up before known was =
     record {
       book = was.book;
       brings = (λ other. same_outcome t u b ordered (ap book_found known.found_at) up other (brings_it id t s u b up known is), was.brings);
-      lasting = bound_lasting b u (taken_lasts u b up is.row.known durable) was.lasting;
+      lasting = bound_lasting b u (λ new. taken_lasts u b up is.row.known durable) was.lasting;
     }
 
-bound_brings : (b : Option Binding) (t : Trace) → ((x : Binding) → b ≡ Some x → (x.taken_up ≡ None) × (x.lasting ≡ lasts t x.consumer) × IsAdmittedUnder t x x.row) → Brings t → Brings (with_bound b t)
+-- what an event binds before that: a message, or a row that its producer's delivery joins
+abbrev Fresh : Trace → Binding → Type 0
+Fresh t x = (is_message x.kind ≡ true → (x.lasting ≡ lasts t x.consumer) × IsAdmittedUnder t x x.row) × BindsByKind t x × (is_taken_up x.kind ≡ false)
+
+clash : true ≡ false → ⊥
+clash e = cc
+
+bound_brings : (b : Option Binding) (t : Trace) → ((x : Binding) → b ≡ Some x → Fresh t x) → Brings t → Brings (with_bound b t)
 bound_brings None t fresh was = was
-bound_brings (Some b) t fresh was =
-    let now = fresh b refl in
-    record {
-      book = was.book;
-      brings = (λ takes. absurd (none_not_some (sym now.0 ∙ takes.taken)), was.brings);
-      lasting = bound_lasting b t
-          (λ r named. message_lasts t b r (subst (λ (o : Option RowNumber). IsAdmittedUnder t b o) named now.2) (sound_is_ordered (book_in t) was.book) now.1 named) was.lasting;
-    }
+bound_brings (Some b) t fresh was = record {
+  book = was.book;
+  brings = (λ takes. absurd (clash (sym (ap is_taken_up takes.taken) ∙ (fresh b refl).2)), was.brings);
+  lasting = bound_lasting b t (by b.kind refl) was.lasting;
+}
+  where
+    ordered : IsOrdered (book_in t)
+    ordered = sound_is_ordered (book_in t) was.book
+
+    joined : (p : Origin) → JoinsRow t b p → (r : RowNumber) → b.row ≡ Some r → RowLasts (book_in t) r (bound (name_in t b) b)
+    joined p joins r named =
+        let number : joins.row.number ≡ r = some_same (sym (ap (λ (x : Binding). x.row) joins.joins) ∙ named) in
+        joined_lasts t b (ap (λ (x : Binding). x.lasting) joins.joins) r
+        (subst (λ (n : RowNumber). n.0 < (book_in t).next_row) number (joined_below t b p joins ordered)) named
+
+    by : (k : BindingKind) → b.kind ≡ k → joins_standing b.kind ≡ None → (r : RowNumber) → b.row ≡ Some r → RowLasts (book_in t) r (bound (name_in t b) b)
+    by (kind.Message o) is new r named =
+        let now = (fresh b refl).0 (ap is_message is) in
+        message_lasts t b r (subst (λ (o : Option RowNumber). IsAdmittedUnder t b o) named now.1) ordered now.0 named
+    by (kind.TakenUp brought) is new r named = absurd (clash (sym (ap is_taken_up is) ∙ (fresh b refl).2))
+    by (kind.Joined p to) is new r named = joined p (subst (λ (k : BindingKind). BindsAs k t b) is (fresh b refl).1) r named
 
 booked_brings : (t : Trace) (e : Event) → Brings t → Brings (booked t e)
 booked_brings t e was =
@@ -156,27 +186,28 @@ ends_brings id (c ∷ cs) t was =
     let items : List Item = closing_of id (conn t c) ResourceLimitExceeded in
     ends_brings id cs (puts c items t) (goes_brings (each_to c items) t was)
 
-pub handled_brings : (id : List ℕ) (t : Trace) (s : Step) → Brings t → Brings (handled id t s)
-handled_brings id t s was =
+pub handled_brings : (id : List ℕ) (t : Trace) (s : Step) → Sound (booked t s.event) → Brings t → Brings (handled id t s)
+handled_brings id t s sound was =
     let at : Trace = booked t s.event in
     let u : Trace = heard id at s in
     let b : Option Binding = bound_by at u s.event in
     let came : Brings u = ends_brings id (due t s.event) (Did s ∷ at) (did_brings s at (booked_brings t s.event was)) in
     let rows : Brings (replied id at s) = goes_brings (own_row id at u s.event) (with_bound b u)
-    (bound_brings b u (λ x is. (bound_fresh id t s.event x is, bound_lasting_as id t s.event x is, bound_row id t s.event x is)) came) in
+    (bound_brings b u (λ x is. (λ message. (bound_lasting_as id t s.event x is message, bound_row id t s.event x is message), event_binds id at s x sound is, bound_not_taken id t s.event x is)) came) in
     all_keep Brings goes_brings (resumed at s.event (replied id at s))
     (resumed_takes Brings at s.event (replied id at s) (λ v x takes known held. taken_brings id t s v x takes was known held) (replied_found id at s) rows)
 
-pub moves_brings : (id : List ℕ) (ms : List Move) (t u : Trace) → Brings t → Goes id ms t u → Brings u
-moves_brings id [] t u was went = subst Brings (sym went) was
-moves_brings id (handles s ∷ ms) t u was went = moves_brings id ms (handled id t s) u (handled_brings id t s was) went.1
-moves_brings id (takes x ∷ ms) t u was went = moves_brings id ms (took_one x t) u (took_brings _ _ t was) went
+pub moves_brings : (id : List ℕ) (ms : List Move) (t u : Trace) → Rows t → Sound t → Brings t → Goes id ms t u → Brings u
+moves_brings id [] t u rows sound was went = subst Brings (sym went) was
+moves_brings id (handles s ∷ ms) t u rows sound was went =
+    moves_brings id ms (handled id t s) u (handled_rows id t s rows) (handled_sound id t s rows sound) (handled_brings id t s (acted_sound t s.event sound) was) went.1
+moves_brings id (takes x ∷ ms) t u rows sound was went = moves_brings id ms (took_one x t) u (took_rows _ _ t rows) (took_sound _ _ t sound) (took_brings _ _ t was) went
 
 pub start_brings : (g : Beginning) → IsSound g.book → Brings (beginning g)
 start_brings g sound = record { book = sound; brings = tt; lasting = λ n d r there name. absurd (none_not_some there) }
 
 pub trace_brings : (id : List ℕ) (g : Beginning) (u : Trace) → IsTrace id g u → IsSound g.book → Brings u
-trace_brings id g u trace sound = moves_brings id trace.0 (beginning g) u (start_brings g sound) trace.1
+trace_brings id g u trace sound = moves_brings id trace.0 (beginning g) u (start_rows g) (sound_start g) (start_brings g sound) trace.1
 
 -- over runs
 

@@ -12,15 +12,17 @@ use Rattle.amqp_model.specs.declared.item.Item.TheVariants as item
 use Rattle.router_trace.specs.declared.binding.Binding.{Binding}
 use Rattle.router_trace.specs.declared.binding.DeliveryName.{DeliveryName}
 use Rattle.router_trace.specs.Trace.{Entry, Did, Out, Took, Bound, Booked, Began, IsOneRun}
-use Rattle.router_trace.specs.Deliveries.{Delivery, bindings, name_in, number_named, delivery, sending, named, unless_over, after_frame, closes, ended_by, put_in, after_put, after_event, carried, tag_in, is_number, channels_found, acts_found}
+use Rattle.router_trace.specs.Deliveries.{Delivery, bindings, counters, joins_standing, number_named, delivery, sending, named, unless_over, after_frame, closes, ended_by, put_in, after_put, after_event, carried, tag_in, is_number, channels_found, acts_found}
 use Rattle.theorems.specs.OneConsumer.{IsOf, WhileThere}
 use Rattle.theorems.specs.Each.{EachOut}
 use Rattle.theorems.specs.Carried.{HasSmallNumbers, BeginsOrGoesOn, CarriesMessage, CarriesWhatWasBound, bytes_by, bytes_out, IsBeginning, GoesInOrder, CompletesMessage}
 use Rattle.state_connections.proofs.Lists.{by_test}
 use Rattle.theorems.proofs.Tests.{some_same}
 use Rattle.theorems.proofs.Followed.{Left, ends_left, told_left, event_left}
-use Rattle.state_deliveries.proofs.Called.{uncalled, there_named}
+use Rattle.state_deliveries.proofs.Called.{there_named}
 use Rattle.theorems.proofs.Outcomes.{number_is}
+use Rattle.theorems.proofs.Rebound.{AfterBound, after_bound}
+use Rattle.theorems.proofs.Rebound.AfterBound.{is_new, is_joined, is_old}
 use Rattle.theorems.proofs.Bindings.{of_what, there_bound, stays_with_consumer}
 
 -- the id, and how many bytes were sent
@@ -106,10 +108,12 @@ did_unstarted t s was n =
     moves_unstarted (after_event s.event (channels_found t) (named t) (acts_found t) n) (delivery t n) (λ d. event_left Unmoved unmoved_left s.event (channels_found t) (named t) (acts_found t) n d) (was n)
 
 pub bound_unstarted : (t : List Entry) (b : Binding) → Unstarted t → Unstarted (Bound b ∷ t)
-bound_unstarted t b was n d there none =
-    by_test (bindings t + 1 == n)
-    (λ e. sym (ap (λ (f : Delivery). f.sent) (some_same (rw e at there))))
-    (λ e. was n d (uncalled (name_in t b) (delivery t n) d (rw e at there)).0 none)
+bound_unstarted t b was n d there none = by (after_bound b t n d there)
+  where
+    by : AfterBound b t n d → d.sent ≡ 0
+    by (is_new new) = sym (ap (λ (f : Delivery). f.sent) new.is)
+    by (is_joined joins) = sym (ap (λ (f : Delivery). f.sent) joins.is) ∙ was n joins.before joins.there (ap (λ (f : Delivery). f.id) joins.is ∙ none)
+    by (is_old there) = was n d there none
 
 -- the number that a frame of the router carries
 pub carries_number : (t : List Entry) (c own : ℕ) (x : Transfer) (payload : List ℕ) (is : CarriesMessage t c own x payload) → HasSmallNumbers t
@@ -173,10 +177,11 @@ same_number t c own x payload n is small number =
 
 -- small numbers were small before
 lower : (t : List Entry) (b : Binding) → HasSmallNumbers (Bound b ∷ t) → HasSmallNumbers t
-lower t b small = (fewer (bindings t) small.0, small.1.1)
+lower t b small = (fewer (is_none b.row) small.0, small.1.1)
   where
-    fewer : (k : ℕ) → k + 1 < 2 ^ 64 → k < 2 ^ 64
-    fewer k h = omega (arith, h)
+    fewer : (q : Bool) → (if q then counters t + 1 else counters t) < 2 ^ 64 → counters t < 2 ^ 64
+    fewer true h = omega (arith, h)
+    fewer false h = h
 
 -- nothing is sent before it is bound
 none_early : (u : List Entry) (n : ℕ) → AllCarried u → HasSmallNumbers u → bindings u < n → bytes_out u n ≡ []
@@ -199,10 +204,11 @@ none_early (Out c i ∷ t) n all small early =
 none_early (Began g ∷ t) n all small early = refl
 none_early (Took c k ∷ t) n all small early = none_early t n all small early
 none_early (Booked acts full ∷ t) n all small early = none_early t n all small early
-none_early (Bound b ∷ t) n all small early = none_early t n all (lower t b small) (lower_still (bindings t) n early)
+none_early (Bound b ∷ t) n all small early = none_early t n all (lower t b small) (lower_still (is_none (joins_standing b.kind)) early)
   where
-    lower_still : (k n : ℕ) → k + 1 < n → k < n
-    lower_still k n h = omega (arith, h)
+    lower_still : (new : Bool) → (if new then bindings t + 1 else bindings t) < n → bindings t < n
+    lower_still true h = omega (arith, h)
+    lower_still false h = h
 
 -- The next bytes of a message join those before them.
 joined : (d : Delivery) (before payload : List ℕ) → before ≡ take d.sent d.payload → payload ≡ take (length payload) (drop d.sent d.payload)
@@ -259,6 +265,17 @@ out_went t c n i small was =
         (λ test. let same : Unmoved d.0 e = subst (λ (g : Delivery). Unmoved d.0 g) (sym d.2) (other_frame c sasl own x payload t n d.0 test)
         in rw test (unmoved_went (bytes_out t n) d.0 e (was d.0 d.1) same))
 
+bound_went : (b : Binding) (t : List Entry) (n : ℕ) → AllCarried t → HasSmallNumbers t → AllWent t n → AllWent (Bound b ∷ t) n
+bound_went b t n all small was d there = by (after_bound b t n d there)
+  where
+    just_below : (k n : ℕ) → k + 1 ≡ n → k < n
+    just_below k n h = omega (arith, h)
+
+    by : AfterBound b t n d → Went t n d
+    by (is_new new) = none_early t n all small (just_below (bindings t) n new.number) ∙ ap (λ (f : Delivery). take f.sent f.payload) new.is
+    by (is_joined joins) = was joins.before joins.there ∙ ap (λ (f : Delivery). take f.sent f.payload) joins.is
+    by (is_old there) = was d there
+
 pub went : (u : List Entry) (n : ℕ) → AllCarried u → HasSmallNumbers u → AllWent u n
 went [] n all small d there = absurd cc
 went (Did s ∷ t) n all small d there =
@@ -269,14 +286,7 @@ went (Out c i ∷ t) n all small d there = out_went t c n i small (went t n all.
 went (Began g ∷ t) n all small d there = absurd cc
 went (Took c k ∷ t) n all small d there = went t n all small d there
 went (Booked acts full ∷ t) n all small d there = went t n all small d there
-went (Bound b ∷ t) n all small d there =
-    by_test (bindings t + 1 == n)
-    (λ e. none_early t n all (lower t b small) (just_below (bindings t) n (eqb-true (bindings t + 1) n e))
-    ∙ ap (λ (f : Delivery). take f.sent f.payload) (some_same (rw e at there)))
-    (λ e. went t n all (lower t b small) d (uncalled (name_in t b) (delivery t n) d (rw e at there)).0)
-  where
-    just_below : (k n : ℕ) → k + 1 ≡ n → k < n
-    just_below k n h = omega (arith, h)
+went (Bound b ∷ t) n all small d there = bound_went b t n all (lower t b small) (went t n all (lower t b small)) d there
 
 -- after the last frame of a message, all of it was sent
 completes : (t : List Entry) (c : ℕ) (i : Item) → AllCarried t → CarriesWhatWasBound t c i → CompletesMessage t c i
@@ -326,28 +336,28 @@ out_begins u c n i whole small all same was =
         in rw test all_gone)
         (λ test. rw test was)
 
-payload_of : (b : Binding) (v : Option Delivery) → WhileThere (IsOf b) v → WhileThere (λ d. d.payload ≡ b.payload) v
-payload_of b None is = tt
-payload_of b (Some d) is = is.payload
+payload_of : (later : List Entry) (b : Binding) (v : Option Delivery) → WhileThere (IsOf later b) v → WhileThere (λ d. d.payload ≡ b.payload) v
+payload_of later b None is = tt
+payload_of later b (Some d) is = is.payload
 
-begins_later : (later t : List Entry) (b : Binding) → IsOneRun later → AllCarried (later ++ Bound b ∷ t) → HasSmallNumbers (later ++ Bound b ∷ t)
+begins_later : (later t : List Entry) (b : Binding) → IsOneRun later → joins_standing b.kind ≡ None → AllCarried (later ++ Bound b ∷ t) → HasSmallNumbers (later ++ Bound b ∷ t)
     → IsBeginning (bytes_out (later ++ Bound b ∷ t) (bindings t + 1)) b.payload
-begins_later [] t b one all small =
+begins_later [] t b one numbered all small =
     record { rest = b.payload; joined = ap (λ (xs : List ℕ). xs ++ b.payload) (none_early t (bindings t + 1) all (lower t b small) (above (bindings t))) }
   where
     above : (k : ℕ) → k < k + 1
     above k = omega arith
-begins_later (Did s ∷ later) t b one all small = begins_later later t b one.1 all small
-begins_later (Out c i ∷ later) t b one all small =
+begins_later (Did s ∷ later) t b one numbered all small = begins_later later t b one.1 numbered all small
+begins_later (Out c i ∷ later) t b one numbered all small =
     out_begins (later ++ Bound b ∷ t) c (bindings t + 1) i b.payload small all.1
-    (payload_of b (delivery (later ++ Bound b ∷ t) (bindings t + 1)) (stays_with_consumer b t later one.1))
-    (begins_later later t b one.1 all.1 small) all.0
-begins_later (Took c k ∷ later) t b one all small = begins_later later t b one.1 all small
-begins_later (Bound a ∷ later) t b one all small = begins_later later t b one.1 all (lower (later ++ Bound b ∷ t) a small)
-begins_later (Booked acts full ∷ later) t b one all small = begins_later later t b one.1 all small
-begins_later (Began g ∷ later) t b one all small = absurd (let wrong : true ≡ false = one.0 in cc)
+    (payload_of later b (delivery (later ++ Bound b ∷ t) (bindings t + 1)) (stays_with_consumer b t later one.1 numbered))
+    (begins_later later t b one.1 numbered all.1 small) all.0
+begins_later (Took c k ∷ later) t b one numbered all small = begins_later later t b one.1 numbered all small
+begins_later (Bound a ∷ later) t b one numbered all small = begins_later later t b one.1 numbered all (lower (later ++ Bound b ∷ t) a small)
+begins_later (Booked acts full ∷ later) t b one numbered all small = begins_later later t b one.1 numbered all small
+begins_later (Began g ∷ later) t b one numbered all small = absurd (let wrong : true ≡ false = one.0 in cc)
 
 pub goes_in_order : (u : List Entry) → AllCarried u → GoesInOrder u
-goes_in_order u all small b t later one is =
+goes_in_order u all small b t later one numbered is =
     subst (λ (v : List Entry). IsBeginning (bytes_out v (bindings t + 1)) b.payload) (sym is)
-    (begins_later later t b one (subst (λ (v : List Entry). AllCarried v) is all) (subst (λ (v : List Entry). HasSmallNumbers v) is small))
+    (begins_later later t b one numbered (subst (λ (v : List Entry). AllCarried v) is all) (subst (λ (v : List Entry). HasSmallNumbers v) is small))

@@ -28,7 +28,7 @@ use Rattle.state_deliveries.specs.Deciding.{gathered_below, changed_by, row_of, 
 use Rattle.state_deliveries.specs.Hearing.{disposed_change}
 use Rattle.state_deliveries.specs.Stepping.{comes_with_id, changed}
 use Rattle.state_deliveries.proofs.Called.{there_named}
-use Rattle.router_reply.specs.Deciding.{listed, as_kept, settled_on}
+use Rattle.router_reply.specs.Deciding.{listed, as_kept}
 use Rattle.router_reply.specs.Joining.{is_held_on}
 use Rattle.theorems.proofs.Bindings.{there_bound}
 use Rattle.theorems.proofs.Changing.{leaves_by}
@@ -204,7 +204,7 @@ either_for n (d ∷ ds) es s is = by (d.row.0 == n) is (either_for n ds es s)
     by true is rest = inl is
     by false is rest = rest is
 
--- the rows that a producer settles
+-- numbers among others
 
 pub among_more : (n : ℕ) (xs ys : List RowNumber) → is_among n (xs ++ ys) ≡ (is_among n xs || is_among n ys)
 among_more n [] ys = refl
@@ -214,52 +214,19 @@ among_more n (x ∷ xs) ys = by (x.0 == n) (among_more n xs ys)
     by true rest = refl
     by false rest = rest
 
-gathered_among : (k : ℕ) (g : ℕ → List RowNumber) (n : ℕ) → is_among n (gathered_below k g) ≡ true → (m : ℕ) × (is_among n (g m) ≡ true)
-unfolding gathered_below
-gathered_among zero g n is = absurd (clash is)
-gathered_among (suc k) g n is = by (is_among n (gathered_below k g)) refl (sym (among_more n (gathered_below k g) (g k)) ∙ is) (gathered_among k g n)
-  where
-    by : (b : Bool) → is_among n (gathered_below k g) ≡ b → (b || is_among n (g k)) ≡ true → (is_among n (gathered_below k g) ≡ true → (m : ℕ) × (is_among n (g m) ≡ true))
-        → (m : ℕ) × (is_among n (g m) ≡ true)
-    by true e h rest = rest e
-    by false e h rest = (k, h)
-
-settled_among : (t : Trace) (n : ℕ) (d : Delivery) (r : RowNumber) (c o first last : ℕ) → delivery t n ≡ Some d → d.name ≡ Row r → is_among r.0 (rows_from t c o first last) ≡ true
-    → comes_with_id (source d) c o first last ≡ true
-settled_among t n d r c o first last there name among =
-    let some = gathered_among (bindings t + 1) (λ m. row_from c o first last (delivery t m)) r.0 among in
-    by some.0 (delivery t some.0) refl some.1
-  where
-    of_name : (m : ℕ) (e : Delivery) (x : DeliveryName) → delivery t m ≡ Some e → e.name ≡ x → is_among r.0 (listed_row (row_of x)) ≡ true → m ≡ n
-    of_name m e (Counter k) here called is = absurd (clash is)
-    of_name m e (Row q) here called is = by_case (q.0 == r.0) (λ f. one_delivery t n m d e q r there name here called f) (λ f. absurd (clash (rw f at is)))
-
-    by : (m : ℕ) (v : Option Delivery) → delivery t m ≡ v → is_among r.0 (row_from c o first last v) ≡ true → comes_with_id (source d) c o first last ≡ true
-    by m None here is = absurd (clash is)
-    by m (Some e) here is = test (comes_with_id (source e) c o first last) refl is
-      where
-        test : (b : Bool) → comes_with_id (source e) c o first last ≡ b → is_among r.0 (if b then listed_row (row_of e.name) else []) ≡ true → comes_with_id (source d) c o first last ≡ true
-        test false f is = absurd (clash is)
-        test true f is =
-            let same : m ≡ n = of_name m e e.name here refl is in
-            let one : e ≡ d = some_same (sym here ∙ ap (delivery t) same ∙ there) in
-            ap (λ (x : Delivery). comes_with_id (source x) c o first last) (sym one) ∙ f
-
-pub settled_is_done : (t : Trace) (n : ℕ) (d : Delivery) (r : RowNumber) (c : ℕ) (own : Option ℕ) (role : Role) (x : ADisposition) (more : List Change) → delivery t n ≡ Some d → d.name ≡ Row r
-    → is_among r.0 (settled_on t c own role x) ≡ true → (p : Origin) → source (changed_by (listed (disposed_change role c own x) ++ more) d) ≡ Some p → ⊥
-settled_is_done t n d r c None role x more there name among p from = clash among
-settled_is_done t n d r c (Some own) Receiver x more there name among p from = clash among
-settled_is_done t n d r c (Some own) Sender x more there name among p from = by x.settled refl among from
+-- of a delivery whose id is in the range of a disposition that settles nothing is to be told
+pub untold_is_done : (d : Delivery) (c own : ℕ) (x : ADisposition) (more : List Change) → x.settled ≡ true → comes_with_id (source d) c own x.first (last_of x) ≡ true
+    → (p : Origin) → source (changed_by (listed (disposed_change Sender c (Some own) x) ++ more) d) ≡ Some p → ⊥
+untold_is_done d c own x more settled comes p from = by x.settled settled from
   where
     undone : (b : Bool) → b ≡ true → (q : Origin) → source (if b then untold d else d) ≡ Some q → ⊥
     undone true e q from = none_not_some from
     undone false e q from = clash e
 
-    by : (s : Bool) → x.settled ≡ s → is_among r.0 (if s then rows_from t c own x.first (last_of x) else []) ≡ true
-        → source (changed_by (listed (if s then Some (change.Untold c own x.first (last_of x)) else None) ++ more) d) ≡ Some p → ⊥
-    by false e among from = clash among
-    by true e among from =
-        undone (comes_with_id (source d) c own x.first (last_of x)) (settled_among t n d r c own x.first (last_of x) there name among) p
+    by : (s : Bool) → s ≡ true → source (changed_by (listed (if s then Some (change.Untold c own x.first (last_of x)) else None) ++ more) d) ≡ Some p → ⊥
+    by false e from = clash e
+    by true e from =
+        undone (comes_with_id (source d) c own x.first (last_of x)) comes p
         ((leaves_by more (changed (change.Untold c own x.first (last_of x)) d)).comes p from)
 
 -- the row of a delivery on a session that its producer isn't done with

@@ -31,9 +31,10 @@ use Rattle.router_reply.specs.Acts.{acts_of, booked}
 use Rattle.router_reply.specs.Deciding.{lost, listed, stolen_for, ended_by, session_found, event_changes}
 use Rattle.router_reply.specs.Replies.{closing_of, ends}
 use Rattle.state_connections.proofs.Lists.{by_test}
+use Rattle.theorems.proofs.Begun.{AreBegun, did_owned}
 use Rattle.theorems.proofs.Booked.{answer_for, changes_of}
 use Rattle.theorems.proofs.Changing.{alike_it, closed_is}
-use Rattle.theorems.proofs.Facts.{did_facts}
+use Rattle.theorems.proofs.Facts.{DidClaims, did_facts}
 use Rattle.theorems.proofs.Hearing.{IsNamed, gives_by, gives, heard_is}
 use Rattle.theorems.proofs.Keeps.{Kept, Ahead, next_kept, same_kept, plain_kept}
 use Rattle.theorems.proofs.Naming.{AreNamed, did_named}
@@ -49,7 +50,7 @@ never true = refl
 never false = refl
 
 close_kept : (c : ℕ) (e : Option Condition) (w : Trace) (ys : List Change) → Kept w (lost c ∷ ys) → Kept (Out c (close_item e) ∷ w) ys
-close_kept c e w ys was = next_kept c (close_item e) w (lost c) ys tt refl tt (λ n d. closed_is (number_named w) false 0 (record { error = option_map error_of e }) [] c n (sending w c) d) was
+close_kept c e w ys was = next_kept c (close_item e) w (lost c) ys tt refl tt (λ n d. closed_is (number_named w) false 0 (record { error = option_map error_of e }) [] c n (sending w c) d) (λ a e. rw e refl) was
 
 open_kept : (id : List ℕ) (c : ℕ) (w : Trace) (ys : List Change) → Kept w ys → Kept (Out c (open_item id) ∷ w) ys
 open_kept id c w ys was = same_kept c (open_item id) w ys tt refl tt (λ n d. no_ends false (put_ends (open_item id) c) (λ a. never (a.conn.0 == c)) d) was
@@ -79,18 +80,18 @@ said_kept id p t c i w Open none was = plain_kept c (open_item id) w refl was
 said_kept id p t c i w Close none was = close_kept c None w [] was
 said_kept id p t c i w (CloseWith x) none was = closing_kept id p c x w [] was
 said_kept id p t c i w (Begin own peers) none was = plain_kept c (begin_item own peers) w refl was
-said_kept id p t c i w (End own x) none was = next_kept c (end_item own x) w (change.Ends (gone.Session c own) false) [] tt refl tt (λ n d. refl) was
+said_kept id p t c i w (End own x) none was = next_kept c (end_item own x) w (change.Ends (gone.Session c own) false) [] tt refl tt (λ n d. refl) (λ a e. e) was
 said_kept id p t c i w (Flow own told) none was = plain_kept c (flow_item own told) w refl was
 said_kept id p t c i w (Attach own) none was = subst (λ (xs : List Change). Kept w xs) none was
 said_kept id p t c i w (Refuse own handle x) none was = was
-said_kept id p t c i w (Detach own handle closed x) none was = next_kept c (detach_item own handle closed x) w (change.Ends (gone.Link c own handle) closed) [] tt refl tt (λ n d. refl) was
+said_kept id p t c i w (Detach own handle closed x) none was = next_kept c (detach_item own handle closed x) w (change.Ends (gone.Link c own handle) closed) [] tt refl tt (λ n d. refl) (λ a e. e) was
 said_kept id p t c i w (LinkFlow own told at) none was = plain_kept c (link_flow_item own told at) w refl was
 said_kept id p t c i w (Taken own handle) none was = was
 said_kept id p t c i w (Settle own) none was = was
 
 -- the closes for full outboxes, of connections that are known
 
-abbrev AllThere : Trace → List ℕ → Type 0
+abbrev pub AllThere : Trace → List ℕ → Type 0
 AllThere w [] = Unit {0}
 AllThere w (c ∷ cs) = (is_some (conn w c) ≡ true) × AllThere w cs
 
@@ -105,7 +106,7 @@ all_out : (d : ℕ) (i : Item) (w : Trace) (cs : List ℕ) → AllThere w cs →
 all_out d i w [] all = tt
 all_out d i w (c ∷ cs) all = (there_out d i w c all.0, all_out d i w cs all.1)
 
-all_puts : (is : List Item) (d : ℕ) (w : Trace) (cs : List ℕ) → AllThere w cs → AllThere (puts d is w) cs
+pub all_puts : (is : List Item) (d : ℕ) (w : Trace) (cs : List ℕ) → AllThere w cs → AllThere (puts d is w) cs
 all_puts [] d w cs all = all
 all_puts (i ∷ is) d w cs all = all_puts is d (Out d i ∷ w) cs (all_out d i w cs all)
 
@@ -158,7 +159,7 @@ filtered_there w passes (k ∷ ks) each = by (passes k) refl (filtered_there w p
     by true is rest = (each k is, rest)
     by false is rest = rest
 
-due_there : (s : Step) (t : Trace) → AllThere (Did s ∷ t) (due t s.event)
+pub due_there : (s : Step) (t : Trace) → AllThere (Did s ∷ t) (due t s.event)
 due_there s t =
     filtered_there (Did s ∷ t) (λ k. is_due s.event k (conn t k)) (ups t)
     (λ k is. event_there s.event k (length (live_of (ups t) (unless_due (due_of s.event (ups t) (conn t)) (conn t)))) (conn t k)
@@ -176,13 +177,14 @@ answer_rest t (event.Item c i) = ended_by t c.0 i (answer_for t (event.Item c i)
 answer_rest t _ = []
 
 did_kept : (s : Step) (t : Trace) (g : Delivery → Delivery) (xs ys : List Change)
-    → ((n : ℕ) (d : Delivery) → delivery t n ≡ Some d → changed_by ys (after_event s.event (channels_found t) (named t) (acts_found t) n d) ≡ changed_by xs (g d)) → Ahead t g xs → Kept (Did s ∷ t) ys
-did_kept s t g xs ys same was = record {
+    → ((n : ℕ) (d : Delivery) → delivery t n ≡ Some d → changed_by ys (after_event s.event (channels_found t) (named t) (acts_found t) n d) ≡ changed_by xs (g d)) → DidClaims s t ys → AreBegun s t ys → Ahead t g xs → Kept (Did s ∷ t) ys
+did_kept s t g xs ys same claims begun was = record {
   law = was.law;
-  facts = did_facts s t g xs ys was.standing (λ n d there. alike_it (changed_by xs (g d)) (changed_by ys (after_event s.event (channels_found t) (named t) (acts_found t) n d)) (same n d there)) was.facts;
+  facts = did_facts s t g xs ys was.standing (λ n d there. alike_it (changed_by xs (g d)) (changed_by ys (after_event s.event (channels_found t) (named t) (acts_found t) n d)) (same n d there)) claims was.facts;
   standing = did_standing s t was.standing;
   named = did_named s t was.named;
   ordered = was.ordered;
+  owned = did_owned s t ys begun was.owned;
 }
 
 changed_more : (xs ys : List Change) (d : Delivery) → changed_by (xs ++ ys) d ≡ changed_by ys (changed_by xs d)
@@ -219,6 +221,14 @@ event_same t (event.Up c p) n d names there = more_nothing (map lost (due t (eve
 event_same t (event.Tick ms) n d names there = more_nothing (map lost (due t (event.Tick ms))) d d refl
 event_same t event.Start n d names there = more_nothing (map lost (due t event.Start)) d d refl
 
-pub came_kept : (s : Step) (t : Trace) → Ahead (booked t s.event) (gives s.event (acts_of t s.event)) (changes_of t s.event) → Kept (Did s ∷ booked t s.event) (map lost (due t s.event) ++ answer_rest t s.event)
-came_kept s t was =
-    did_kept s (booked t s.event) (gives s.event (acts_of t s.event)) (changes_of t s.event) (map lost (due t s.event) ++ answer_rest t s.event) (λ n d there. event_same t s.event n d was.named there) was
+-- what the event leaves of claims, after its acts
+abbrev pub CameClaims : Step → Trace → Type 0
+CameClaims s t = DidClaims s (booked t s.event) (map lost (due t s.event) ++ answer_rest t s.event)
+
+-- and what it asks of a first frame
+abbrev pub CameBegun : Step → Trace → Type 0
+CameBegun s t = AreBegun s (booked t s.event) (map lost (due t s.event) ++ answer_rest t s.event)
+
+pub came_kept : (s : Step) (t : Trace) → CameClaims s t → CameBegun s t → Ahead (booked t s.event) (gives s.event (acts_of t s.event)) (changes_of t s.event) → Kept (Did s ∷ booked t s.event) (map lost (due t s.event) ++ answer_rest t s.event)
+came_kept s t claims begun was =
+    did_kept s (booked t s.event) (gives s.event (acts_of t s.event)) (changes_of t s.event) (map lost (due t s.event) ++ answer_rest t s.event) (λ n d there. event_same t s.event n d was.named there) claims begun was

@@ -1,16 +1,25 @@
 -- What an event forgets of rows: none has a delivery that its producer isn't done with.
-use Rattle.std.proofs.Common.{◌≡◌, ◌∙◌, sym, ap, refl, subst, ℕ, Bool, true, false, not, ◌&&◌, ◌||◌, List, [], ◌∷◌, ◌++◌, append_assoc, ◌⊎◌, inl, inr}
-use Rattle.std.specs.Prelude.{◌==◌, Option, Some, None, map, filter, find, if◌then◌else◌}
+use Rattle.std.proofs.Common.{◌≡◌, ◌∙◌, sym, ap, refl, subst, ℕ, ◌≤◌, ◌<◌, Bool, true, false, not, ◌&&◌, ◌||◌, List, [], ◌∷◌, ◌++◌, arith, append_assoc, append-nil, ◌⊎◌, inl, inr}
+use Rattle.std.specs.Prelude.{◌==◌, Option, Some, None, map, filter, filter_map, find, is_some, is_none, option_map, if◌then◌else◌}
+use Rattle.std.specs.List.{cons_option}
 use Rattle.std.specs.Option.{option_and_then}
 use Rattle.std.proofs.lemmas.Bool.{eqb-true, eq-eqb}
+use Rattle.amqp_session.specs.Ranges.{has, in_range}
 use Rattle.amqp_model.specs.declared.perf.Attach.{Attach as AnAttach}
+use Rattle.amqp_model.specs.declared.perf.Disposition.{Disposition as ADisposition}
+use Rattle.amqp_model.specs.declared.perf.Perf.{Perf}
 use Rattle.amqp_model.specs.declared.perf.Perf.TheVariants as perf
 use Rattle.amqp_model.specs.declared.perf.Role.{Role}
 use Rattle.amqp_model.specs.declared.perf.Role.TheVariants.{Sender, Receiver}
 use Rattle.amqp_model.specs.declared.perf.Transfer.{Transfer as ATransfer}
+use Rattle.amqp_model.specs.declared.state.DeliveryState.{DeliveryState}
 use Rattle.amqp_model.specs.declared.state.UnsettledDelivery.{UnsettledDelivery}
 use Rattle.amqp_model.specs.declared.item.Item.{Item}
 use Rattle.amqp_model.specs.declared.item.Item.TheVariants as item
+use Rattle.amqp_conn.specs.declared.conn.Conn.{Conn}
+use Rattle.book_model.specs.declared.act.Act.{Act}
+use Rattle.book_model.specs.declared.act.Admission.{Admission}
+use Rattle.book_model.specs.declared.act.Decision.{Decision}
 use Rattle.book_model.specs.declared.row.Row.{Row as ARow}
 use Rattle.book_model.specs.declared.row.RowNumber.{RowNumber}
 use Rattle.book_model.specs.declared.terminus.LinkKey.{LinkKey}
@@ -18,40 +27,57 @@ use Rattle.book_model.specs.declared.terminus.LinkRole.{LinkRole}
 use Rattle.book_model.specs.declared.terminus.LinkRole.TheVariants.{Producer, Consumer}
 use Rattle.book_model.specs.declared.terminus.Terminus.{Terminus}
 use Rattle.book_model.specs.declared.terminus.TerminusNumber.{TerminusNumber}
-use Rattle.book_model.specs.Book.{BookView, row_at, row_named, has_tag, terminus_at, terminus_of, is_from, is_for, is_for_by, is_of, same_role, same_bytes}
+use Rattle.book_model.specs.Book.{BookView, row_at, row_named, has_tag, terminus_at, terminus_of, is_from, is_for, is_for_by, is_of, same_role, same_bytes, is_undecided as is_open_row, decided, forgotten, effects, first_fault}
 use Rattle.book_core.specs.Rising.{Rises, AllAbove}
 use Rattle.gate_journal.specs.Ordered.{IsOrdered, number_of_row}
-use Rattle.journal_store.specs.Acting.{is_among}
+use Rattle.journal_store.specs.declared.acting.TerminusAct.{TerminusAct}
+use Rattle.journal_store.specs.Acting.{journal_outcome, outcome_for, is_among, settles, decided_to, decided_by, forgotten_by, rows_after, terminus_acts, event_acts as settled_acts}
+use Rattle.journal_store.proofs.Makes.{effects_more}
+use Rattle.journal_store.proofs.Rowwise.{Leaves as Left}
+use Rattle.journal_store.proofs.Settled.{settles_leave}
+use Rattle.journal_store.proofs.Started.{start_applies}
 use Rattle.router_trace.specs.declared.binding.DeliveryName.TheVariants.{Row}
 use Rattle.router_trace.specs.declared.binding.Origin.{Origin}
+use Rattle.router_trace.specs.declared.event.ConnectionId.{ConnectionId}
 use Rattle.router_trace.specs.declared.event.Event.{Event}
 use Rattle.router_trace.specs.declared.event.Event.TheVariants as event
 use Rattle.router_trace.specs.Connection.{standing, found, due}
-use Rattle.router_trace.specs.Deliveries.{Delivery, source, delivery}
+use Rattle.router_trace.specs.DeliveryFrames.{kept_outcome}
+use Rattle.router_trace.specs.Deliveries.{Delivery, source, delivery, last_of, is_undecided, outcome_or, outcome_among, outcome_named, given}
 use Rattle.router_trace.specs.Following.{link_of}
 use Rattle.router_trace.specs.LinkFrames.{other}
 use Rattle.router_trace.specs.Links.{way_of, link, link_place, holder, durable_key}
-use Rattle.router_trace.specs.Settling.{middle_on}
+use Rattle.router_trace.specs.Claims.{claims}
+use Rattle.router_trace.specs.Settling.{ids_claimed, is_claimed, middle_on}
 use Rattle.router_trace.specs.declared.handle.Attachment.{Attachment}
-use Rattle.router_trace.specs.Trace.{Trace}
+use Rattle.router_trace.specs.Trace.{Trace, Booked}
 use Rattle.state_deliveries.specs.declared.change.Change.{Change}
 use Rattle.state_deliveries.specs.declared.change.Change.TheVariants as change
 use Rattle.state_deliveries.specs.declared.change.Gone.TheVariants as gone
-use Rattle.state_deliveries.specs.Deciding.{changed_by}
+use Rattle.state_deliveries.specs.Deciding.{changed_by, decided_rows}
 use Rattle.state_deliveries.specs.Hearing.{disposed_change}
-use Rattle.state_deliveries.specs.Stepping.{is_gone, changed}
+use Rattle.state_deliveries.specs.Stepping.{comes_with_id, is_gone, changed}
 use Rattle.reply_rows.specs.declared.answer.Answer.{Answer}
 use Rattle.resume_core.specs.Resuming.{entries_of, is_forgotten_by, forgotten_rows}
 use Rattle.reply_rows.specs.declared.answer.Answer.TheVariants.{Attach, Detach, Taken}
-use Rattle.reply_rows.specs.Booking.{wanted_key, wants_durable, rows_of}
-use Rattle.router_reply.specs.Asking.{key_taken, forgotten_of, all_rows, forgotten_for, map_forgets}
-use Rattle.router_reply.specs.Deciding.{lost, listed, ended_by, stolen_from, session_found, event_changes, sent_by, sent_from, closed_terminus, item_forgets, forgotten as forgotten_at}
-use Rattle.router_reply.specs.Joining.{settled_whole, named_row, row_joined, is_held_on, unless_held, settled_by_transfer}
-use Rattle.theorems.proofs.Changing.{leaves_by}
-use Rattle.theorems.proofs.Decisions.{settled_is_done, among_rows, among_more, held_is}
-use Rattle.theorems.proofs.Facts.{FromTerminus, ForConsumer, Agrees}
-use Rattle.theorems.proofs.Looking.{none_above}
-use Rattle.theorems.proofs.Settling.{found_at_number, found_key}
+use Rattle.reply_rows.specs.Booking.{wanted_key, wants_durable, sent_rows}
+use Rattle.router_reply.specs.Acts.{live_answer, event_answer, answer_acts, planned_acts, admitted_acts, or_admits, event_acts, finds_full, journaled, book_in, acts_of}
+use Rattle.router_reply.specs.Admitting.{event_admission, admits}
+use Rattle.router_reply.specs.Asking.{key_taken, receives, resumed_key, attach_in, decided_for, map_decides, forgotten_of, all_rows, forgotten_for, map_forgets}
+use Rattle.router_reply.specs.Deciding.{as_kept, lost, listed, ended_by, stolen_from, session_found, settled_on, event_changes, decided as decided_in, sent_by, sent_from, closed_terminus, item_forgets, forgotten as forgotten_at, terminus_of_event}
+use Rattle.router_reply.specs.Joining.{settled_whole, is_held_on, unless_held, settled_by_transfer, number_under, rows_claimed}
+use Rattle.reply_transfers.specs.Joining.{named_row, row_joined, row_under}
+use Rattle.theorems.proofs.Applying.{settled_apply, admission_applies, ordered_after}
+use Rattle.theorems.proofs.Changing.{Leaves, leaves_by, undecided_is}
+use Rattle.theorems.proofs.Decisions.{decided_of, none_for, either_for, untold_is_done, among_rows, among_more, held_is}
+use Rattle.theorems.proofs.Ended.{IsEnded, ended_by_all, event_gives}
+use Rattle.theorems.proofs.Claimed.{ClaimedRow, claimed_row, listed_is, HasClaim, OneTag}
+use Rattle.theorems.proofs.Facts.{FromTerminus, IsHeld, Agrees}
+use Rattle.theorems.proofs.Giving.{row_given, acts_give, map_form, kept_is_form}
+use Rattle.theorems.proofs.Hearing.{gives}
+use Rattle.theorems.proofs.KeptForm.{kept_form, kept_twice}
+use Rattle.theorems.proofs.Looking.{found_number, found_below, none_above}
+use Rattle.theorems.proofs.Settling.{settled, settled_row, found_at_number, found_key, Stays, stays_it, terminus_stays, admission_stays}
 use Rattle.theorems.proofs.Standing.{Standing, one_place, holds_key}
 use Rattle.theorems.proofs.Tests.{some_same, none_not_some}
 use Rattle.theorems.proofs.Undecided.{ends_keep}
@@ -68,11 +94,11 @@ changed_more (x ∷ xs) ys d = changed_more xs ys (changed x d)
 -- what the book has of the producer of a row that it isn't done with
 abbrev pub IsFrom : Trace → BookView → Option ARow → Delivery → Type 0
 IsFrom t b None d = Unit {0}
-IsFrom t b (Some row) d = (p : Origin) → source d ≡ Some p → FromTerminus t b p row.producer.0 × ForConsumer b row.consumer
+IsFrom t b (Some row) d = (p : Origin) → source d ≡ Some p → FromTerminus t b p row.producer.0 × HasClaim t p row.tag.items
 
 pub is_from_one : (t : Trace) (b : BookView) (v : Option ARow) (d : Delivery) → Agrees t b v d → IsFrom t b v d
 is_from_one t b None d agrees = tt
-is_from_one t b (Some row) d agrees = λ p from. (agrees.from p from, agrees.consumer p from)
+is_from_one t b (Some row) d agrees = λ p from. (agrees.from p from, agrees.claimed p from)
 
 -- a producer that isn't done with a row of a terminus has a durable link with the terminus' key
 key_of_row : (t : Trace) (b : BookView) (d : Delivery) (r : RowNumber) (key : LinkKey) (x : Terminus) → IsOrdered b → IsFrom t b (row_at r.0 b.rows) d → terminus_of key b.termini ≡ Some x
@@ -150,31 +176,25 @@ among_fewer n passes (r ∷ rs) is = by (passes r) is (among_fewer n passes rs)
     by true is rest = first (r.number.0 == n) is rest
     by false is rest = later (r.number.0 == n) (rest is)
 
--- the row is one of the terminus: it came on its link, since no row is bound to a producer's
-forgotten_by_key : (t : Trace) (b : BookView) (d : Delivery) (r : RowNumber) (key : LinkKey) (x : Terminus) (complete : Bool) (theirs : List UnsettledDelivery) → IsOrdered b
-    → IsFrom t b (row_at r.0 b.rows) d → terminus_of key b.termini ≡ Some x → key.role ≡ Producer → is_among r.0 (forgotten_rows complete theirs (rows_of b x)) ≡ true
-    → (p : Origin) → source d ≡ Some p → durable_key (link_of t p.link) ≡ Some key
-forgotten_by_key t b d r key x complete theirs ordered agrees found produces among p from =
-    let rows = among_rows r.0 (is_of x.number.0) b.rows ordered.rows_rise (among_fewer r.0 (is_forgotten_by complete theirs) (filter (is_of x.number.0) b.rows) among) in
-    let held : IsFrom t b (Some rows.0) d = subst (λ (v : Option ARow). IsFrom t b v d) rows.1 agrees in
-    key_of_row t b d r key x ordered agrees found rows.0 rows.1 (came (is_from x.number.0 rows.0) (is_for x.number.0 rows.0) (unbound rows.0.consumer (held p from).1) rows.2) p from
+-- the rows that came on the link of a terminus are among those of the terminus
+sent_alike : (n : ℕ) (rs : List ARow) → filter (is_from n) (filter (is_of n) rs) ≡ filter (is_from n) rs
+sent_alike n [] = refl
+sent_alike n (r ∷ rs) = by (is_from n r) (is_for n r) refl refl (sent_alike n rs)
   where
-    there : terminus_at x.number.0 b.termini ≡ Some x
-    there = found_at_number key b.termini x ordered.termini_rise found
+    by : (f g : Bool) → is_from n r ≡ f → is_for n r ≡ g → filter (is_from n) (filter (is_of n) rs) ≡ filter (is_from n) rs
+        → filter (is_from n) (if f || g then r ∷ filter (is_of n) rs else filter (is_of n) rs) ≡ (if f then r ∷ filter (is_from n) rs else filter (is_from n) rs)
+    by true g e h rest = rw e (ap (λ (ys : List ARow). r ∷ ys) rest)
+    by false true e h rest = rw e rest
+    by false false e h rest = rest
 
-    apart : (role : LinkRole) → role ≡ Producer → same_role role Consumer ≡ true → ⊥
-    apart Producer is same = clash same
-    apart Consumer is same = absurd cc
-
-    unbound : (v : Option TerminusNumber) → ForConsumer b v → is_for_by x.number.0 v ≡ true → ⊥
-    unbound None waits is = clash is
-    unbound (Some n) waits is =
-        apart x.key.role (ap (λ (k : LinkKey). k.role) (found_key key b.termini x found) ∙ produces)
-        (waits.1 x (subst (λ (m : ℕ). terminus_at m b.termini ≡ Some x) (sym (eqb-true n.0 x.number.0 is)) there))
-
-    came : (f g : Bool) → (g ≡ true → ⊥) → (f || g) ≡ true → f ≡ true
-    came true g none is = refl
-    came false g none is = absurd (none is)
+-- the row is one that came on the link of the terminus
+forgotten_by_key : (t : Trace) (b : BookView) (d : Delivery) (r : RowNumber) (key : LinkKey) (x : Terminus) (complete : Bool) (theirs : List UnsettledDelivery) → IsOrdered b
+    → IsFrom t b (row_at r.0 b.rows) d → terminus_of key b.termini ≡ Some x → is_among r.0 (forgotten_rows complete theirs (sent_rows b x)) ≡ true
+    → (p : Origin) → source d ≡ Some p → durable_key (link_of t p.link) ≡ Some key
+forgotten_by_key t b d r key x complete theirs ordered agrees found among p from =
+    let all = among_fewer r.0 (is_forgotten_by complete theirs) (sent_rows b x) among in
+    let rows = among_rows r.0 (is_from x.number.0) b.rows ordered.rows_rise (subst (λ (rs : List ARow). is_among r.0 (map (λ (s : ARow). s.number) rs) ≡ true) (sent_alike x.number.0 b.rows) all) in
+    key_of_row t b d r key x ordered agrees found rows.0 rows.1 rows.2 p from
 
 pub resumed_is_done : (t : Trace) (b : BookView) (d : Delivery) (r : RowNumber) (c channel : ℕ) (sasl : Bool) (a : AnAttach) (payload : List ℕ) (answer : Answer) (first : List Change) → Standing t → IsOrdered b
     → IsFrom t b (row_at r.0 b.rows) d → is_among r.0 (forgotten_for b (Some a) (key_taken t c a answer)) ≡ true
@@ -208,7 +228,7 @@ resumed_is_done t b d r c channel sasl a payload (Attach own) first standing ord
 
     by_terminus : (v : Option Terminus) → terminus_of key b.termini ≡ v → a.role ≡ Sender → is_among r.0 (forgotten_rows complete theirs (all_rows b v)) ≡ true → ⊥
     by_terminus None found is among = clash among
-    by_terminus (Some x) found is among = held (forgotten_by_key t b d r key x complete theirs ordered agrees found (ap (λ (w : Role). way_of (other w)) is) among p before)
+    by_terminus (Some x) found is among = held (forgotten_by_key t b d r key x complete theirs ordered agrees found among p before)
 
     by_role : (w : Role) → a.role ≡ w → is_among r.0 (forgotten_of w complete theirs (all_rows b (terminus_of key b.termini))) ≡ true → ⊥
     by_role Sender is among = by_terminus (terminus_of key b.termini) refl is among
@@ -289,24 +309,95 @@ transfer_is_done t b n d r c x (Taken own handle) standing ordered agrees there 
     by_key (Some key) durable (Some tag) among = by_terminus key (terminus_of key b.termini) tag durable refl among
 transfer_is_done t b n d r c x _ standing ordered agrees there name among p from = clash among
 
+-- nor is one that settles the delivery of a row, by the id that its producer claims
+
+-- the ids in a range, with their rows
+among_claimed : (b : BookView) (t : Trace) (c own : ℕ) (r : RowNumber) (ids : List ℕ) → is_among r.0 (filter_map (number_under b t c own) ids) ≡ true
+    → (id : ℕ) × (row : ARow) × (has id ids ≡ true) × (row_under b t c own id ≡ Some row) × (row.number.0 ≡ r.0)
+among_claimed b t c own r [] among = absurd (clash among)
+among_claimed b t c own r (id ∷ ids) among = by (row_under b t c own id) refl among (among_claimed b t c own r ids)
+  where
+    Later : Type 0
+    Later = is_among r.0 (filter_map (number_under b t c own) ids) ≡ true → (k : ℕ) × (row : ARow) × (has k ids ≡ true) × (row_under b t c own k ≡ Some row) × (row.number.0 ≡ r.0)
+
+    Found : Type 0
+    Found = (k : ℕ) × (row : ARow) × (has k (id ∷ ids) ≡ true) × (row_under b t c own k ≡ Some row) × (row.number.0 ≡ r.0)
+
+    later : (k : ℕ) → has k ids ≡ true → has k (id ∷ ids) ≡ true
+    later k h = by_test (k == id)
+      where
+        by_test : (q : Bool) → (q || has k ids) ≡ true
+        by_test true = refl
+        by_test false = h
+
+    on : Later → is_among r.0 (filter_map (number_under b t c own) ids) ≡ true → Found
+    on rest among = let found = rest among in (found.0, found.1, later found.0 found.2, found.3, found.4)
+
+    by : (v : Option ARow) → row_under b t c own id ≡ v → is_among r.0 (cons_option (option_map (λ (x : ARow). x.number) v) (filter_map (number_under b t c own) ids)) ≡ true → Later → Found
+    by None under among rest = on rest among
+    by (Some row) under among rest = test (row.number.0 == r.0) refl among
+      where
+        test : (q : Bool) → (row.number.0 == r.0) ≡ q → (q || is_among r.0 (filter_map (number_under b t c own) ids)) ≡ true → Found
+        test true e among = (id, row, ap (λ (q : Bool). q || has id ids) (eq-eqb id id refl), under, eqb-true row.number.0 r.0 e)
+        test false e among = on rest among
+
+settled_is_done : (t : Trace) (b : BookView) (d : Delivery) (r : RowNumber) (c : ℕ) (own : Option ℕ) (role : Role) (x : ADisposition) (more : List Change) → Standing t → IsOrdered b
+    → IsFrom t b (row_at r.0 b.rows) d → OneTag t
+    → is_among r.0 (settled_on b t c own role x) ≡ true → (p : Origin) → source (changed_by (listed (disposed_change role c own x) ++ more) d) ≡ Some p → ⊥
+settled_is_done t b d r c None role x more standing ordered agrees one among p from = clash among
+settled_is_done t b d r c (Some own) Receiver x more standing ordered agrees one among p from = clash among
+settled_is_done t b d r c (Some own) Sender x more standing ordered agrees one among p from = by x.settled refl among
+  where
+    before : source d ≡ Some p
+    before = (leaves_by (listed (disposed_change Sender c (Some own) x) ++ more) d).comes p from
+
+    -- the claim that names the row is that of the producer's delivery
+    its_id : (id : ℕ) (row : ARow) → row_under b t c own id ≡ Some row → row.number.0 ≡ r.0 → (p.link.conn.0 ≡ c) × (p.link.channel ≡ own) × (p.id ≡ id)
+    its_id id row under number =
+        let claimed : ClaimedRow b t c own id row = claimed_row b t c own id row under in
+        let at = named_there (has_tag claimed.joined.terminus.number.0 row.tag.items) b.rows row ordered.rows_rise claimed.joined.named in
+        let there : row_at r.0 b.rows ≡ Some row = subst (λ (m : ℕ). row_at m b.rows ≡ Some row) number at.1 in
+        let came : is_from claimed.joined.terminus.number.0 row ≡ true = eq-eqb row.producer.0 claimed.joined.terminus.number.0 claimed.joined.its_producer in
+        let place = one_place t standing p.link (record { number = 0; conn = record { 0 = c }; channel = own; handle = claimed.claim.handle }) claimed.joined.of_link
+        (key_of_row t b d r claimed.joined.of_link claimed.joined.terminus ordered agrees claimed.joined.of_key row there came p before) claimed.joined.durable in
+        let has : HasClaim t p row.tag.items = (subst (λ (v : Option ARow). IsFrom t b v d) there agrees p before).1 in
+        let here : claims t c own p.id ≡ Some has.claim = ap (λ (k : ℕ). claims t k own p.id) (sym place.0) ∙ ap (λ (k : ℕ). claims t p.link.conn.0 k p.id) (sym place.1) ∙ has.there in (
+          place.0,
+          place.1,
+          one c own p.id id has.claim claimed.claim claimed.joined.of_link row.tag.items
+              (ap (λ (h : ℕ). durable_key (link t c own h)) (has.on_link ∙ place.2) ∙ claimed.joined.durable) here claimed.claimed (has.on_link ∙ place.2) has.tagged claimed.joined.same_tag,
+        )
+
+    settles : x.settled ≡ true → (id : ℕ) (row : ARow) → has id (ids_claimed t c own x.first (last_of x)) ≡ true → row_under b t c own id ≡ Some row → row.number.0 ≡ r.0 → ⊥
+    settles settled id row listed under number =
+        let is = its_id id row under number in
+        let in_it : in_range x.first (last_of x) id ≡ true = listed_is (is_claimed t c own) x.first (last_of x) id listed in
+        untold_is_done d c own x more settled
+        (ap (λ (v : Option Origin). comes_with_id v c own x.first (last_of x)) before
+        ∙ rw (eq-eqb p.link.conn.0 c is.0, eq-eqb p.link.channel own is.1) (ap (in_range x.first (last_of x)) is.2 ∙ in_it)) p from
+
+    by : (s : Bool) → x.settled ≡ s → is_among r.0 (if s then rows_claimed b t c own x.first (last_of x) else []) ≡ true → ⊥
+    by false e among = clash among
+    by true e among = let found = among_claimed b t c own r (ids_claimed t c own x.first (last_of x)) among in settles e found.0 found.1 found.2 found.3 found.4
+
 -- by an item
-item_is_done : (t : Trace) (b : BookView) (n : ℕ) (d : Delivery) (r : RowNumber) (e : Event) (answer : Answer) → Standing t → IsOrdered b → IsFrom t b (row_at r.0 b.rows) d
+item_is_done : (t : Trace) (b : BookView) (n : ℕ) (d : Delivery) (r : RowNumber) (e : Event) (answer : Answer) → Standing t → OneTag t → IsOrdered b → IsFrom t b (row_at r.0 b.rows) d
     → delivery t n ≡ Some d → d.name ≡ Row r → is_among r.0 (item_forgets b t e answer) ≡ true → (p : Origin) → source (changed_by (event_changes t e answer) d) ≡ Some p → ⊥
-item_is_done t b n d r (event.Item c (item.Frame false channel (perf.Disposition x) payload)) answer standing ordered agrees there name among p from =
+item_is_done t b n d r (event.Item c (item.Frame false channel (perf.Disposition x) payload)) answer standing one ordered agrees there name among p from =
     let i : Item = item.Frame false channel (perf.Disposition x) payload in
     let heard : List Change = listed (disposed_change x.role c.0 (session_found t c i) x) in
-    settled_is_done t n d r c.0 (session_found t c i) x.role x (map lost (due t (event.Item c i)) ++ ended_by t c.0 i answer) there name among p
+    settled_is_done t b d r c.0 (session_found t c i) x.role x (map lost (due t (event.Item c i)) ++ ended_by t c.0 i answer) standing ordered agrees one among p
     (ap (λ (zs : List Change). source (changed_by zs d)) (sym (append_assoc heard (map lost (due t (event.Item c i))) (ended_by t c.0 i answer))) ∙ from)
-item_is_done t b n d r (event.Item c (item.Frame false channel (perf.Detach x) payload)) answer standing ordered agrees there name among p from =
+item_is_done t b n d r (event.Item c (item.Frame false channel (perf.Detach x) payload)) answer standing one ordered agrees there name among p from =
     let i : Item = item.Frame false channel (perf.Detach x) payload in
     closed_is_done t b n d r c.0 answer (map lost (due t (event.Item c i))) i standing ordered agrees among p from
-item_is_done t b n d r (event.Item c (item.Frame false channel (perf.Transfer x) payload)) answer standing ordered agrees there name among p from =
+item_is_done t b n d r (event.Item c (item.Frame false channel (perf.Transfer x) payload)) answer standing one ordered agrees there name among p from =
     transfer_is_done t b n d r c.0 x answer standing ordered agrees there name among p
     ((leaves_by (event_changes t (event.Item c (item.Frame false channel (perf.Transfer x) payload)) answer) d).comes p from)
-item_is_done t b n d r (event.Item c (item.Frame false channel _ payload)) answer standing ordered agrees there name among p from = clash among
-item_is_done t b n d r (event.Item c (item.Frame true channel body payload)) answer standing ordered agrees there name among p from = clash among
-item_is_done t b n d r (event.Item c _) answer standing ordered agrees there name among p from = clash among
-item_is_done t b n d r _ answer standing ordered agrees there name among p from = clash among
+item_is_done t b n d r (event.Item c (item.Frame false channel _ payload)) answer standing one ordered agrees there name among p from = clash among
+item_is_done t b n d r (event.Item c (item.Frame true channel body payload)) answer standing one ordered agrees there name among p from = clash among
+item_is_done t b n d r (event.Item c _) answer standing one ordered agrees there name among p from = clash among
+item_is_done t b n d r _ answer standing one ordered agrees there name among p from = clash among
 
 -- by the map of an attach
 map_is_done : (t : Trace) (b : BookView) (d : Delivery) (r : RowNumber) (e : Event) (answer : Answer) → Standing t → IsOrdered b → IsFrom t b (row_at r.0 b.rows) d
@@ -326,11 +417,11 @@ either_list n xs ys is = by (is_among n xs) refl (sym (among_more n xs ys) ∙ i
     by true e is = inl e
     by false e is = inr is
 
-pub forgotten_is_done : (t : Trace) (b : BookView) (n : ℕ) (d : Delivery) (r : RowNumber) (e : Event) (answer : Answer) → Standing t → IsOrdered b → IsFrom t b (row_at r.0 b.rows) d
+pub forgotten_is_done : (t : Trace) (b : BookView) (n : ℕ) (d : Delivery) (r : RowNumber) (e : Event) (answer : Answer) → Standing t → OneTag t → IsOrdered b → IsFrom t b (row_at r.0 b.rows) d
     → delivery t n ≡ Some d → d.name ≡ Row r → is_among r.0 (forgotten_at b t e answer) ≡ true → (p : Origin) → source (changed_by (event_changes t e answer) d) ≡ Some p → ⊥
-forgotten_is_done t b n d r e answer standing ordered agrees there name among p from =
+forgotten_is_done t b n d r e answer standing one ordered agrees there name among p from =
     by (either_list r.0 (item_forgets b t e answer) (map_forgets b t e answer) among)
   where
     by : (is_among r.0 (item_forgets b t e answer) ≡ true) ⊎ (is_among r.0 (map_forgets b t e answer) ≡ true) → ⊥
-    by (inl is) = item_is_done t b n d r e answer standing ordered agrees there name is p from
+    by (inl is) = item_is_done t b n d r e answer standing one ordered agrees there name is p from
     by (inr is) = map_is_done t b d r e answer standing ordered agrees is p from

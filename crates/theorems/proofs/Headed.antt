@@ -34,7 +34,7 @@ use Rattle.reply_rows.specs.Rows.{said}
 use Rattle.reply_transfers.specs.Transfers.{part_put, settled_answers}
 use Rattle.router_reply.specs.Resuming.{resumed}
 use Rattle.router_reply.specs.Replies.{closing_of, ends, heard, stolen_by, refused, bound_by, item_row, own_row, replied}
-use Rattle.router_reply.specs.Acts.{answer_of, booked}
+use Rattle.router_reply.specs.Acts.{answer_of, book_in, booked}
 use Rattle.router_core.specs.Replies.{answered, handled}
 use Rattle.core_machine.specs.Moves.{waiting_of, took_one}
 use Rattle.router_core.specs.Moves.{Goes, IsTrace, with_came, ins, outs}
@@ -196,7 +196,7 @@ item_without id t u d k i (Some p) none apart =
     (stolen_without u k none (last_of_key u (key_at u d (answer_to x 0))) (holder u (key_at u d (answer_to x 0))) refl)
     (each_without _ d k apart))
     (λ own handle e x. each_without (refused (largest_frame u d) own handle e x) d k apart)
-    (λ own handle row q. each_without (part_put u d own handle row q) d k apart)
+    (λ own handle row q. each_without (part_put (book_in t) u d own handle row q) d k apart)
     (λ own s ids. each_without (settled_answers own s ids) d k apart)
     i (answer_of t d p i)
 

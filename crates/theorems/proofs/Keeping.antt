@@ -44,7 +44,7 @@ use Rattle.state_sessions.specs.Windows.{windows}
 use Rattle.state_messages.specs.Messages.{grants_due, with_bound}
 use Rattle.reply_rows.specs.declared.answer.Answer.{Answer}
 use Rattle.reply_rows.specs.declared.answer.Answer.TheVariants.{Nothing, Header, Open, Close, CloseWith, Begin, End, Flow, Attach, Refuse, Detach, LinkFlow, Taken, Settle}
-use Rattle.reply_rows.specs.Booking.{wanted_key, wanted_address, wants_durable, new_terminus, has_room, attach_is_unserved, unless_unserved, durable_refusal, refuse_on, booked_attach, book_refusal, answer_at}
+use Rattle.reply_rows.specs.Booking.{wanted_key, wanted_address, wants_durable, new_terminus, has_room, durable_refusal, refuse_on, booked_attach, book_refusal, answer_at}
 use Rattle.reply_rows.specs.Finding.{finds}
 use Rattle.reply_rows.specs.Rows.{said, item_reply}
 use Rattle.router_reply.specs.Acts.{Journaled, live_answer, event_answer, answer_acts, admitted_acts, or_admits, finds_full, journaled, book_in, acts_of, book_after_event, booked, answer_of}
@@ -220,7 +220,7 @@ room_with b a false may = absurd cc
 address_with : (b : BookView) (x : Terminus) (a : AnAttach) (room : Bool) → durable_refusal b (Some x) a room ≡ None → x.address ≡ wanted_address a
 address_with b x a room may = (bytes_eq-Decides x.address (wanted_address a)).0 (by (same_bytes x.address (wanted_address a)) may)
   where
-    by : (q : Bool) → (if q then unless_unserved (attach_is_unserved b x a) else Some NotAllowed) ≡ None → q ≡ true
+    by : (q : Bool) → (if q then None else Some NotAllowed) ≡ None → q ≡ true
     by true may = refl
     by false may = absurd cc
 
@@ -231,23 +231,10 @@ pub answer_after : (acts : List Act) (full : List ℕ) (t : List Entry) (c : ℕ
 unfolding free_handle first_free_below free_channel
 answer_after acts full t c p sasl channel a payload = refl
 
--- a terminus that stood serves the attach; else it is new
-abbrev pub Serves : BookView → Terminus → AnAttach → Type 0
-Serves b x a = (attach_is_unserved b x a ≡ false) ⊎ (x.number.0 ≡ b.next_terminus)
-
-serves_with : (b : BookView) (x : Terminus) (a : AnAttach) (room : Bool) → durable_refusal b (Some x) a room ≡ None → attach_is_unserved b x a ≡ false
-serves_with b x a room may = by (same_bytes x.address (wanted_address a)) (attach_is_unserved b x a) may
-  where
-    by : (q u : Bool) → (if q then unless_unserved u else Some NotAllowed) ≡ None → u ≡ false
-    by true true may = absurd cc
-    by true false may = refl
-    by false u may = absurd cc
-
 pub record Makes (t : List Entry) (e : Event) (c : ℕ) (a : AnAttach) : Type 0 where
   pub at : Terminus
   pub there : terminus_of (wanted_key t c a) (book_after_event t e).termini ≡ Some at
   pub address : at.address ≡ wanted_address a
-  pub serves : Serves (book_in t) at a
 
 pub makes : (t : List Entry) (from : ConnectionId) (sasl : Bool) (channel : ℕ) (a : AnAttach) (payload : List ℕ) (p : Conn) (own : ℕ)
     → standing (found t (event.Item from (item.Frame sasl channel (perf.Attach a) payload)) from.0) ≡ Some p
@@ -303,13 +290,11 @@ makes t from sasl channel a payload p own stands answers wants = by (terminus_of
       at = x;
       there = acts ∙ makes_terminus full b ds numbers key (wanted_address a) admitted none (room_with b a (has_room full b x) may);
       address = refl;
-      serves = inr refl;
     }
     by (Some y) found may = record {
       at = y;
       there = acts ∙ stays_terminus b ds numbers key (wanted_address a) y admitted found (admitted_keep full b t e);
       address = address_with b y a (has_room full b x) may;
-      serves = inl (serves_with b y a (has_room full b x) may);
     }
 
 -- the names that a connection's links have

@@ -1,5 +1,5 @@
 -- What holds of a trace in which outcomes are kept first, and which items keep it.
-use Rattle.std.proofs.Common.{◌≡◌, ◌∙◌, sym, ap, refl, ℕ, zero, suc, ◌+◌, Bool, true, false, not, ◌&&◌, List, [], ◌∷◌, ◌++◌}
+use Rattle.std.proofs.Common.{◌||◌, ◌≡◌, ◌∙◌, sym, ap, refl, inl, inr, ℕ, zero, suc, ◌+◌, Bool, true, false, not, ◌&&◌, List, [], ◌∷◌, ◌++◌}
 use Rattle.std.specs.Prelude.{◌==◌, Option, Some, None, option_map}
 use Rattle.amqp_model.specs.declared.perf.Disposition.{Disposition}
 use Rattle.amqp_model.specs.declared.perf.Perf.{Perf}
@@ -21,6 +21,7 @@ use Rattle.router_trace.specs.declared.binding.Origin.{Origin}
 use Rattle.router_trace.specs.Trace.{Trace, Out, Took, Put, goes, each_to}
 use Rattle.router_trace.specs.Connection.{live}
 use Rattle.router_trace.specs.DeliveryFrames.{kept_outcome}
+use Rattle.router_trace.specs.declared.handle.Attachment.{Attachment}
 use Rattle.router_trace.specs.Deliveries.{Delivery, either_origin, source, bindings, has_row, number_named, delivery, sending, is_undecided, ended_by, after_put}
 use Rattle.router_trace.specs.Following.{is_to_be_told, outcome_to, tell, tells_of, tells, sends_due, drains_due}
 use Rattle.router_trace.specs.Links.{ends_handle_in}
@@ -40,7 +41,8 @@ use Rattle.theorems.specs.Told.{TellsOutcome}
 use Rattle.theorems.specs.Carried.{HasSmallNumbers}
 use Rattle.theorems.specs.Kept.{IsDecidedAs, RowIsDecided, role_is_decided, perf_is_decided, OutcomeIsKept}
 use Rattle.theorems.proofs.Changing.{alike_it, alike_item}
-use Rattle.theorems.proofs.Facts.{kept_form, Agrees, Facts, FactsOf, out_facts, took_facts}
+use Rattle.theorems.proofs.Facts.{kept_form, KeptAs, Agrees, Facts, FactsOf, out_facts, took_facts}
+use Rattle.theorems.proofs.Owning.{Owned, ends_it, is_ending, out_owned, took_owned}
 use Rattle.theorems.proofs.Naming.{AreNamed, is_sent_in, is_sent, out_named, IsNaming, sent_named, sends_elim}
 use Rattle.theorems.proofs.Quiet.{drains_quiet}
 use Rattle.theorems.proofs.Sound.{is_loud_in, is_loud, QuietPut}
@@ -56,6 +58,7 @@ pub record Kept (t : Trace) (xs : List Change) : Type 0 where
   pub standing : Standing t
   pub named : AreNamed t
   pub ordered : IsOrdered (book_in t)
+  pub owned : Owned t xs
 
 -- after the acts of an event, before its entry, which gives deliveries outcomes first
 pub record Ahead (t : Trace) (g : Delivery → Delivery) (xs : List Change) : Type 0 where
@@ -64,13 +67,18 @@ pub record Ahead (t : Trace) (g : Delivery → Delivery) (xs : List Change) : Ty
   pub standing : Standing t
   pub named : AreNamed t
   pub ordered : IsOrdered (book_in t)
+  pub owned : Owned t []
 
 -- the law of an item, where no change is to come
 
 decided_as : (t : Trace) (v : Option ARow) (d : Delivery) (p : Origin) (s : DeliveryState) (told : Option DeliveryState) → source d ≡ Some p → d.outcome ≡ Some s → told ≡ Some (kept_outcome s)
     → Agrees t (book_in t) v d → IsDecidedAs v told
 decided_as t None d p s told from decided is agrees = agrees p from
-decided_as t (Some row) d p s told from decided is agrees = agrees.outcome p from ∙ ap (option_map kept_form) decided ∙ sym (ap (option_map journal_outcome) is)
+decided_as t (Some row) d p s told from decided is agrees = by agrees.outcome
+  where
+    by : KeptAs row.outcome d.outcome → IsDecidedAs (Some row) told
+    by (inl kept) = inl (kept ∙ ap (option_map kept_form) decided ∙ sym (ap (option_map journal_outcome) is))
+    by (inr kept) = inr (is ∙ ap (option_map kept_outcome) (sym (kept ∙ decided)))
 
 row_decided : (t : Trace) (c own : ℕ) (x : Disposition) → Facts t [] → (report : TellsOutcome t c own x) → (name : DeliveryName) → report.of.name ≡ name → RowIsDecided (book_in t) name x.state
 row_decided t c own x facts report (Counter k) is = tt
@@ -92,6 +100,16 @@ item_decided _ t c facts = tt
 
 -- items
 
+no_ending : (a : Attachment) → is_ending [] a ≡ true → is_ending [] a ≡ false → ⊥
+no_ending a e f = absurd (clash (sym e))
+
+no_more : (q : Bool) → q ≡ true → q ≡ false → ⊥
+no_more q e f = absurd (clash (sym e ∙ f))
+
+next_one : (a b : Bool) → (a || b) ≡ true → b ≡ false → a ≡ true
+next_one true b e f = refl
+next_one false b e f = absurd (clash (sym e ∙ f))
+
 abbrev pub Spares : Trace → ℕ → Item → Type 0
 Spares t c i = (n : ℕ) (d : Delivery) → delivery t n ≡ Some d → is_undecided d ≡ true → ended_by i c d.link ≡ false
 
@@ -102,17 +120,19 @@ quiet_kept c i t fresh quiet spares was = record {
   standing = out_standing c i t fresh was.standing;
   named = out_named c i t quiet was.named;
   ordered = was.ordered;
+  owned = out_owned c i t [] [] fresh was.standing (λ a e f. absurd (no_ending a e f)) was.owned;
 }
 
 -- one that is the next of the changes to come, and one that changes nothing
 pub next_kept : (c : ℕ) (i : Item) (t : Trace) (x : Change) (ys : List Change) → IsFresh t c i → is_sent i ≡ false → OutcomeIsKept t c i
-    → ((n : ℕ) (d : Delivery) → after_put (number_named t) i c n (sending t c) d ≡ changed x d) → Kept t (x ∷ ys) → Kept (Out c i ∷ t) ys
-next_kept c i t x ys fresh quiet keeps is was = record {
+    → ((n : ℕ) (d : Delivery) → after_put (number_named t) i c n (sending t c) d ≡ changed x d) → ((a : Attachment) → ends_it x a ≡ true → ended_by i c a ≡ true) → Kept t (x ∷ ys) → Kept (Out c i ∷ t) ys
+next_kept c i t x ys fresh quiet keeps is ends was = record {
   law = (keeps, was.law);
   facts = out_facts c i t (x ∷ ys) ys was.standing fresh (λ n d there settled. alike_it (changed_by ys (changed x d)) (changed_by ys (after_put (number_named t) i c n (sending t c) d)) (ap (changed_by ys) (is n d))) was.facts;
   standing = out_standing c i t fresh was.standing;
   named = out_named c i t quiet was.named;
   ordered = was.ordered;
+  owned = out_owned c i t (x ∷ ys) ys fresh was.standing (λ a e f. ends a (next_one (ends_it x a) (is_ending ys a) e f)) was.owned;
 }
 
 pub same_kept : (c : ℕ) (i : Item) (t : Trace) (ys : List Change) → IsFresh t c i → is_sent i ≡ false → OutcomeIsKept t c i
@@ -123,6 +143,7 @@ same_kept c i t ys fresh quiet keeps is was = record {
   standing = out_standing c i t fresh was.standing;
   named = out_named c i t quiet was.named;
   ordered = was.ordered;
+  owned = out_owned c i t ys ys fresh was.standing (λ a e f. absurd (no_more (is_ending ys a) e f)) was.owned;
 }
 
 -- plain items attach nothing, send nothing, and end no link
@@ -186,7 +207,7 @@ plain_goes [] t plain was = was
 plain_goes (p ∷ ps) t plain was = plain_goes ps (Out p.conn p.item ∷ t) plain.1 (plain_kept p.conn p.item t plain.0 was)
 
 pub took_kept : (c k : ℕ) (t : Trace) → Kept t [] → Kept (Took c k ∷ t) []
-took_kept c k t was = record { law = was.law; facts = took_facts c k t [] was.facts; standing = took_standing c k t was.standing; named = was.named; ordered = was.ordered }
+took_kept c k t was = record { law = was.law; facts = took_facts c k t [] was.facts; standing = took_standing c k t was.standing; named = was.named; ordered = was.ordered; owned = took_owned c k t [] was.owned }
 
 -- what follows an event's rows
 
@@ -252,6 +273,7 @@ sent_kept t small was = sends_elim t (λ ps. Kept (goes ps t) []) small was (λ 
           standing = out_standing d.link.conn.0 i t tt was.standing;
           named = sent_named t n d false x payload there is was.named;
           ordered = was.ordered;
+          owned = out_owned d.link.conn.0 i t [] [] tt was.standing (λ a e f. absurd (no_ending a e f)) was.owned;
         }
 
 steps_kept : Steps SmallKept

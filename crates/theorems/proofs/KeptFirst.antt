@@ -1,7 +1,7 @@
 -- In every trace of the router in which no event is declined, the outcome of a delivery with a row stands in the book before it is told, and each row is decided
 -- at most once.
 use Rattle.std.proofs.Common.{◌≡◌, ◌∙◌, sym, ap, refl, subst, ◌⊎◌, inl, inr, ℕ, ◌+◌, ◌≤◌, ◌<◌, ◌^◌, ◌||◌, Bool, true, false, List, [], ◌∷◌, ◌++◌, arith}
-use Rattle.std.specs.Prelude.{Option, Some, None, option_map, if◌then◌else◌}
+use Rattle.std.specs.Prelude.{Option, Some, None, is_none, option_map, map, if◌then◌else◌}
 use Rattle.amqp_model.specs.declared.perf.Attach.{Attach as AnAttach}
 use Rattle.amqp_model.specs.declared.perf.Perf.{Perf}
 use Rattle.amqp_model.specs.declared.perf.Perf.TheVariants as perf
@@ -16,11 +16,13 @@ use Rattle.book_model.specs.Book.{BookView, empty_book, effects}
 use Rattle.book_model.specs.Sound.{IsSound}
 use Rattle.gate_journal.specs.Ordered.{IsOrdered}
 use Rattle.gate_journal.proofs.Ordered.{empty_ordered}
+use Rattle.book_laws.proofs.KeptSound.{acts_keep}
 use Rattle.journal_store.proofs.Sound.{sound_is_ordered}
 use Rattle.journal_store.specs.Acting.{journal_outcome}
 use Rattle.resume_core.specs.Resuming.{entries_of, told_of, outcome_given, either_outcome}
 use Rattle.router_trace.specs.Configuration.{beginning, opened}
 use Rattle.router_trace.specs.declared.binding.Binding.{Binding}
+use Rattle.router_trace.specs.declared.binding.Origin.{Origin}
 use Rattle.router_trace.specs.declared.condition.Condition.TheVariants.{ResourceLimitExceeded}
 use Rattle.router_trace.specs.declared.event.ConnectionId.{ConnectionId}
 use Rattle.router_trace.specs.declared.event.Event.{Event}
@@ -28,19 +30,21 @@ use Rattle.router_trace.specs.declared.event.Event.TheVariants as event
 use Rattle.router_trace.specs.Trace.{Beginning, Trace, Did, Out, Took, Booked, Put, Step, did, goes, puts, each_to, step_of, ups}
 use Rattle.router_trace.specs.Connection.{conn, due, found, standing, live_of}
 use Rattle.router_trace.specs.Clocks.{terms, written, needs_beat}
+use Rattle.router_trace.specs.Refusing.{refuses}
 use Rattle.router_trace.specs.DeliveryFrames.{kept_outcome}
-use Rattle.router_trace.specs.Deliveries.{Delivery, bindings, delivery, outcome_as, outcome_or}
+use Rattle.router_trace.specs.Deliveries.{Delivery, bindings, counters, delivery, outcome_as, outcome_or}
 use Rattle.router_trace.specs.Links.{link_place, free_handle}
 use Rattle.router_trace.specs.Peers.{largest_frame}
 use Rattle.router_trace.specs.Sessions.{theirs}
 use Rattle.router_trace.specs.Settling.{part_of}
+use Rattle.state_deliveries.specs.declared.change.Change.{Change}
 use Rattle.state_messages.specs.Messages.{with_bound}
 use Rattle.reply_rows.specs.declared.answer.Answer.{Answer}
 use Rattle.reply_rows.specs.declared.answer.Answer.TheVariants.{Attach, Refuse, Taken}
 use Rattle.reply_rows.specs.Booking.{answer_at}
 use Rattle.router_state.specs.Tables.{beat_if, beats_over}
 use Rattle.router_reply.specs.Acts.{live_answer, finds_full, journaled, book_in, acts_of, booked, answer_of}
-use Rattle.router_reply.specs.Deciding.{ended_by}
+use Rattle.router_reply.specs.Deciding.{ended_by, lost}
 use Rattle.router_reply.specs.Resuming.{resumed}
 use Rattle.router_reply.specs.Replies.{closing_of, ends, heard, map_told, bound_for, item_put, item_bound, item_row, bound_by, own_row, replied_after, replied}
 use Rattle.router_core.specs.declared.driving.Sent.{Sent}
@@ -49,30 +53,38 @@ use Rattle.core_machine.specs.Moves.{Move, handles, takes}
 use Rattle.router_core.specs.Replies.{handled}
 use Rattle.router_core.specs.Runs.{took_all, MayStep, Run}
 use Rattle.core_machine.specs.Moves.{Taking, took_one}
-use Rattle.core_machine.specs.Turns.{is_started, declines}
+use Rattle.core_machine.specs.Turns.{is_out_of_turn, is_started, declines}
 use Rattle.router_core.proofs.Booking.{booked_keeps}
 use Rattle.router_core.proofs.Books.{started_handled}
 use Rattle.router_core.proofs.Following.{all_keep}
 use Rattle.router_core.proofs.Resuming.{resumed_keeps}
 use Rattle.theorems.specs.Carried.{HasSmallNumbers}
-use Rattle.theorems.specs.Came.{TakesUp}
+use Rattle.theorems.specs.Came.{ComesFrom, TakesUp}
 use Rattle.theorems.specs.Each.{EachOut}
 use Rattle.theorems.specs.Lives.{GoesInTurn}
 use Rattle.theorems.specs.Kept.{OutcomeIsKept, may_be_decided, times_in, times_decided, IsDecidedOnce, EachOutcomeIsKept, EachRowIsDecidedOnce}
 use Rattle.theorems.proofs.Admitted.{answer_after}
-use Rattle.theorems.proofs.AllSound.{handled_sound}
-use Rattle.theorems.proofs.Answering.{IfAttach, attach_answered, attach_finds, taken_receives, may_bind}
+use Rattle.theorems.proofs.AllSound.{acted_sound, handled_sound}
+use Rattle.theorems.proofs.Answering.{IfAttach, attach_answered, attach_finds, taken_receives, MessageClaims, may_bind}
 use Rattle.theorems.proofs.Attaching.{AttachAt, taken_kept, refused_kept}
 use Rattle.theorems.proofs.Bindings.{of_messages, there_bound}
 use Rattle.theorems.proofs.Brings.{Brings, Found, found_row, no_brings, start_brings, opened_brings, handled_brings, took_brings, cut_brings}
 use Rattle.theorems.proofs.Booked.{acts_apply, ordered_acts, changes_of, booked_facts}
 use Rattle.theorems.proofs.Hearing.{gives}
-use Rattle.theorems.proofs.Ending.{takes_none, answer_rest, came_kept, ends_kept}
+use Rattle.theorems.proofs.Owning.{began_owned, booked_owned, owned_one}
+use Rattle.theorems.proofs.Begun.{AreBegun}
+use Rattle.theorems.proofs.Claimed.{HasClaim}
+use Rattle.theorems.proofs.Ending.{takes_none, answer_rest, CameBegun, CameClaims, came_kept, due_there, ends_kept}
+use Rattle.theorems.proofs.Firsts.{came_begun}
+use Rattle.theorems.proofs.Ours.{came_claims}
+use Rattle.theorems.proofs.Wholes.{lost_ending, tag_bytes, same_told, whole_claim}
 use Rattle.theorems.proofs.Keeps.{Kept, Ahead, PlainPut, plain_both, plain_goes, took_kept, small_before, SmallKept, followed_kept}
 use Rattle.theorems.proofs.Once.{Decides, decides_once}
-use Rattle.theorems.proofs.Resumed.{resumed_takes, replied_found}
+use Rattle.theorems.proofs.Resumed.{ends_book, resumed_takes, replied_found}
 use Rattle.theorems.proofs.Giving.{IsKept, given_kept}
+use Rattle.theorems.proofs.Facts.{KeptAs}
 use Rattle.theorems.proofs.KeptForm.{kept_form, kept_again}
+use Rattle.theorems.proofs.Rows.{Rows, no_rows, start_rows, opened_rows, handled_rows, took_rows, cut_rows}
 use Rattle.theorems.proofs.Rowing.{Holds, MayBind, Receives, plain_row, disposed_row, taken_row, taken_up_kept}
 use Rattle.theorems.proofs.Sound.{Sound, none_sound, opened_sound, sound_start, did_sound, took_sound, batch_sound}
 use Rattle.theorems.proofs.Standing.{began_standing, booked_standing}
@@ -214,27 +226,80 @@ event_rows id t s event.Start is may was = was
 booked_kept : (t : Trace) (e : Event) → (e ≡ event.Start → (n : ℕ) → delivery t n ≡ None) → Kept t [] → Ahead (booked t e) (gives e (acts_of t e)) (changes_of t e)
 booked_kept t e none was = record {
   law = was.law;
-  facts = booked_facts t e was.standing was.ordered none was.facts;
+  facts = booked_facts t e was.standing (owned_one t was.owned) was.ordered none was.facts;
   standing = booked_standing t (acts_of t e) was.standing;
   named = was.named;
   ordered = ordered_acts t e was.ordered;
+  owned = booked_owned (acts_of t e) (due t e) t [] was.owned;
 }
 
-replied_kept : (id : List ℕ) (t : Trace) (s : Step) → Sound t → (s.event ≡ event.Start → (n : ℕ) → delivery t n ≡ None) → Kept t [] → Kept (replied id (booked t s.event) s) []
-replied_kept id t s sound none was =
+-- the book that is found after an event's acts is sound
+heard_book : (id : List ℕ) (t : Trace) (s : Step) → IsOrdered (book_in t) → IsSound (book_in t) → IsSound (book_in (heard id (booked t s.event) s))
+heard_book id t s ordered sound =
+    subst IsSound (sym (ap (λ j. j.book) (ends_book id (due t s.event) (Did s ∷ booked t s.event)))) (acts_keep (book_in t) (acts_of t s.event) (acts_apply t s.event ordered) sound)
+
+-- what an event binds comes whole, and its link goes on
+rest_none : (t u : Trace) (e : Event) (b : Binding) → bound_by (booked t e) u e ≡ Some b → answer_rest t e ≡ []
+rest_none t u (event.Item from i) b is = by (standing (found t e from.0)) refl is
+  where
+    e : Event
+    e = event.Item from i
+
+    full : Bool
+    full = finds_full (journaled t) t e
+
+    taken : (y : Answer) → bound_for (booked t e) u from.0 i y ≡ Some b → ended_by t from.0 i y ≡ []
+    taken (Taken own handle) is = refl
+    taken _ is = absurd (none_not_some is)
+
+    by : (v : Option Conn) → standing (found t e from.0) ≡ v → item_bound (booked t e) u from.0 i v ≡ Some b → ended_by t from.0 i (live_answer full (book_in t) t from.0 i v) ≡ []
+    by None here is = absurd (none_not_some is)
+    by (Some p) here is =
+        ap (ended_by t from.0 i) (sym (answer_after (acts_of t e) (due t e) t full (book_in t) from.0 p i)) ∙ taken (answer_of (booked t e) from.0 p i) is
+rest_none t u (event.Down c) b is = absurd (none_not_some is)
+rest_none t u (event.Tick ms) b is = absurd (none_not_some is)
+rest_none t u (event.Up c p) b is = absurd (none_not_some is)
+rest_none t u event.Start b is = absurd (none_not_some is)
+
+-- a message that is bound has its claim
+message_claims : (id : List ℕ) (t : Trace) (s : Step) → CameBegun s t → Kept t [] → MessageClaims id t s
+message_claims id t s begun was b is r adm binds p from =
+    subst (λ (q : List ℕ). HasClaim u p q)
+    (sym (ap tag_bytes (same_told u adm.conn adm.own adm.handle binds.conn binds.own binds.handle adm.message binds.message b.payload b.payload adm.came binds.came)) ∙ admitted_tag)
+    (whole_claim id s (booked t e) (due t e) (subst (λ (zs : List Change). AreBegun s (booked t e) (map lost (due t e) ++ zs)) (rest_none t u e b is) begun)
+    (booked_owned (acts_of t e) (due t e) t [] was.owned) (due_there s (booked t e)) binds.conn binds.own binds.handle binds.producer binds.message b.payload binds.came p
+    (subst (λ (o : Option Origin). ComesFrom o u binds.conn binds.own binds.handle binds.producer binds.message) from binds.from))
+  where
+    e : Event
+    e = s.event
+
+    u : Trace
+    u = heard id (booked t e) s
+
+    admitted_tag : tag_bytes adm.message ≡ adm.admission.tag.items
+    admitted_tag = λ j. (sym adm.tag j).items
+
+-- an event leaves the claims of producers that aren't done
+event_claims : (t : Trace) (s : Step) → CameBegun s t → CameClaims s t
+event_claims t s begun =
+    came_claims s (booked t s.event) (map lost (due t s.event) ++ answer_rest t s.event) begun (λ a closed. lost_ending (due t s.event) (answer_rest t s.event) a closed)
+
+replied_kept : (id : List ℕ) (t : Trace) (s : Step) → Sound t → IsSound (book_in t) → CameBegun s t → (s.event ≡ event.Start → (n : ℕ) → delivery t n ≡ None) → Kept t [] → Kept (replied id (booked t s.event) s) []
+replied_kept id t s sound book begun none was =
     let e : Event = s.event in
     let u : Trace = heard id (booked t e) s in
-    let behind : Kept u (answer_rest t e) = ends_kept id s (booked t e) (answer_rest t e) (came_kept s t (booked_kept t e none was)) in
-    event_rows id t s e refl (may_bind id t s (batch_sound t (acts_of t e) sound) behind.ordered) behind
+    let behind : Kept u (answer_rest t e) = ends_kept id s (booked t e) (answer_rest t e) (came_kept s t (event_claims t s begun) begun (booked_kept t e none was)) in
+    event_rows id t s e refl (may_bind id t s (batch_sound t (acts_of t e) sound) (message_claims id t s begun was) behind.ordered (heard_book id t s was.ordered book)) behind
 
 -- numbers that are small now were small before
 
 bound_small : (b : Option Binding) (u : Trace) → HasSmallNumbers (with_bound b u) → HasSmallNumbers u
 bound_small None u small = small
-bound_small (Some b) u small = (lower (bindings u) small.0, small.1.1)
+bound_small (Some b) u small = (lower (is_none b.row) small.0, small.1.1)
   where
-    lower : (n : ℕ) → n + 1 < 2 ^ 64 → n < 2 ^ 64
-    lower n h = omega (arith, h)
+    lower : (q : Bool) → (if q then counters u + 1 else counters u) < 2 ^ 64 → counters u < 2 ^ 64
+    lower true h = omega (arith, h)
+    lower false h = h
 
 ends_small : (id : List ℕ) (cs : List ℕ) (w : Trace) → HasSmallNumbers (ends id cs w) → HasSmallNumbers w
 ends_small id [] w small = small
@@ -251,9 +316,9 @@ replied_small id t s small =
 
 -- the book has of a row that is taken up what its binding brings
 brought_holds : (o how now : Option DeliveryState) (theirs : Option DeliveryState → Option DeliveryState) → ((s : DeliveryState) → theirs None ≡ Some s → IsKept s)
-    → how ≡ either_outcome o (theirs o) → now ≡ outcome_or o (option_map journal_outcome (theirs o)) → now ≡ option_map kept_form now → now ≡ option_map kept_form how
-brought_holds (Some s) how now theirs kept gets acts form = form ∙ ap (option_map kept_form) (acts ∙ sym gets)
-brought_holds None how now theirs kept gets acts form = acts ∙ by (theirs None) refl ∙ ap (option_map kept_form) (sym gets)
+    → how ≡ either_outcome o (theirs o) → now ≡ outcome_or o (option_map journal_outcome (theirs o)) → KeptAs now how
+brought_holds (Some s) how now theirs kept gets acts = inr (acts ∙ sym gets)
+brought_holds None how now theirs kept gets acts = inl (acts ∙ by (theirs None) refl ∙ ap (option_map kept_form) (sym gets))
   where
     by : (v : Option DeliveryState) → theirs None ≡ v → option_map journal_outcome v ≡ option_map kept_form v
     by None is = refl
@@ -264,27 +329,32 @@ brought_holds None how now theirs kept gets acts form = acts ∙ by (theirs None
 taken_holds : (id : List ℕ) (t : Trace) (s : Step) (u : Trace) (b : Binding) (up : TakesUp u b) → Found t s.event u b up → Holds u b up
 taken_holds id t s u b up is = record {
   known = is.row.known;
-  outcome = λ now found form.
+  outcome = λ now found.
       brought_holds up.row.outcome (outcome_as up.brought.how) now.outcome (outcome_given (told_of (entries_of is.attach.unsettled) up.row))
-      (λ s gives. given_kept (told_of (entries_of is.attach.unsettled) up.row) None s gives) is.gets (is.row.outcome now found ∙ ap (outcome_or up.row.outcome) is.acts) form;
+      (λ s gives. given_kept (told_of (entries_of is.attach.unsettled) up.row) None s gives) is.gets (is.row.outcome now found ∙ ap (outcome_or up.row.outcome) is.acts);
 }
 
-resumed_kept : (id : List ℕ) (t : Trace) (s : Step) → Sound t → Brings t → (s.event ≡ event.Start → (n : ℕ) → delivery t n ≡ None) → Kept t []
+resumed_kept : (id : List ℕ) (t : Trace) (s : Step) → Sound t → Brings t → CameBegun s t → (s.event ≡ event.Start → (n : ℕ) → delivery t n ≡ None) → Kept t []
     → Kept (resumed (booked t s.event) s.event (replied id (booked t s.event) s)) []
-resumed_kept id t s sound brings none was =
+resumed_kept id t s sound brings begun none was =
     resumed_takes (λ (u : Trace). Kept u []) (booked t s.event) s.event (replied id (booked t s.event) s)
     (λ u b takes known held. taken_up_kept u b takes (taken_holds id t s u b takes (found_row id t s u b takes was.ordered brings.lasting known)) held)
-    (replied_found id (booked t s.event) s) (replied_kept id t s sound none was)
+    (replied_found id (booked t s.event) s) (replied_kept id t s sound brings.book begun none was)
 
 resumed_small : (id : List ℕ) (t : Trace) (s : Step) → HasSmallNumbers (resumed (booked t s.event) s.event (replied id (booked t s.event) s)) → HasSmallNumbers t
 resumed_small id t s =
     resumed_keeps (λ (u : Trace). HasSmallNumbers u → HasSmallNumbers t) (λ b u before small. before (bound_small (Some b) u small)) (booked t s.event) s.event (replied id (booked t s.event) s) (replied_small id t s)
 
-handled_kept : (id : List ℕ) (t : Trace) (s : Step) → Sound t → Brings t → (s.event ≡ event.Start → (n : ℕ) → delivery t n ≡ None) → SmallKept t → SmallKept (handled id t s)
-handled_kept id t s sound brings none was =
-    followed_kept (resumed (booked t s.event) s.event (replied id (booked t s.event) s)) (λ small. resumed_kept id t s sound brings none (was (resumed_small id t s small)))
+handled_kept : (id : List ℕ) (t : Trace) (s : Step) → Sound t → Brings t → (Kept t [] → CameBegun s t) → (s.event ≡ event.Start → (n : ℕ) → delivery t n ≡ None) → SmallKept t → SmallKept (handled id t s)
+handled_kept id t s sound brings begun none was =
+    followed_kept (resumed (booked t s.event) s.event (replied id (booked t s.event) s)) (λ small. let before = was (resumed_small id t s small) in resumed_kept id t s sound brings (begun before) none before)
 
 -- moves
+
+-- an event that isn't declined isn't refused
+not_refused : (p q : Bool) → (p || q) ≡ false → q ≡ false
+not_refused true q e = absurd (clash e)
+not_refused false q e = e
 
 -- before the start no message is bound
 abbrev Unstarted : Trace → Type 0
@@ -308,6 +378,7 @@ unstarted t taken = by (is_started t) taken
     by false h = refl
 
 record All (t : Trace) : Type 0 where
+  rows : Rows t
   sound : Sound t
   brings : Brings t
   kept : SmallKept t
@@ -315,6 +386,7 @@ record All (t : Trace) : Type 0 where
 
 start_all : (g : Beginning) → IsSound g.book → All (beginning g)
 start_all g sound = record {
+  rows = start_rows g;
   sound = sound_start g;
   brings = start_brings g sound;
   kept = λ small. record {
@@ -323,6 +395,7 @@ start_all g sound = record {
     standing = began_standing g [];
     named = λ n id d there undecided has. absurd (none_not_some there);
     ordered = sound_is_ordered g.book sound;
+    owned = began_owned g [];
   };
   before = λ not. refl;
 }
@@ -332,26 +405,29 @@ moves_all id [] t u all went = subst All (sym went) all
 moves_all id (handles s ∷ ms) t u all went =
     moves_all id ms (handled id t s) u
     (record {
-      sound = handled_sound id t s all.sound;
-      brings = handled_brings id t s all.brings;
-      kept = handled_kept id t s all.sound all.brings (λ is n. nothing_bound t (all.before (unstarted t (subst (λ (e : Event). declines t e ≡ false) is went.0))) n) all.kept;
+      rows = handled_rows id t s all.rows;
+      sound = handled_sound id t s all.rows all.sound;
+      brings = handled_brings id t s (acted_sound t s.event all.sound) all.brings;
+      kept = handled_kept id t s all.sound all.brings (λ was. came_begun t s (not_refused (is_out_of_turn t s.event) (refuses t s.event) went.0) was.owned) (λ is n. nothing_bound t (all.before (unstarted t (subst (λ (e : Event). declines t e ≡ false) is went.0))) n) all.kept;
       before = λ not. absurd (clash (sym (started_handled id t s.event went.0) ∙ not));
     })
     went.1
 moves_all id (takes x ∷ ms) t u all went =
-    moves_all id ms (took_one x t) u (record { sound = took_sound _ _ t all.sound; brings = took_brings _ _ t all.brings; kept = λ small. took_kept _ _ t (all.kept small); before = all.before }) went
+    moves_all id ms (took_one x t) u (record { rows = took_rows _ _ t all.rows; sound = took_sound _ _ t all.sound; brings = took_brings _ _ t all.brings; kept = λ small. took_kept _ _ t (all.kept small); before = all.before }) went
 
 -- Over runs: what the outcomes told before a stop leave.
 pub record Past (t : Trace) : Type 0 where
+  pub rows : Rows t
   pub sound : Sound t
   pub law : EachOut OutcomeIsKept t
   pub brings : Brings t
 
 pub no_past : Past []
-no_past = record { sound = none_sound; law = tt; brings = no_brings }
+no_past = record { rows = no_rows; sound = none_sound; law = tt; brings = no_brings }
 
 opened_all : (g : Beginning) (below : Trace) → g.book ≡ book_in below → Past below → All (opened g below)
 opened_all g below book was = record {
+  rows = opened_rows g below book was.rows;
   sound = opened_sound g below was.sound;
   brings = opened_brings g below book was.brings;
   kept = λ small. record {
@@ -360,6 +436,7 @@ opened_all g below book was = record {
     standing = began_standing g below;
     named = λ n id d there undecided has. absurd (none_not_some there);
     ordered = subst IsOrdered (sym book) (sound_is_ordered (book_in below) was.brings.book);
+    owned = began_owned g below;
   };
   before = λ not. refl;
 }
@@ -370,10 +447,11 @@ pub moves_past : (id : List ℕ) (ms : List Move) (g : Beginning) (below u : Tra
 moves_past id ms g below u book was went small =
     let all : All u = moves_all id ms (opened g below) u (opened_all g below book was) went in
     let kept = all.kept small in
-    record { sound = all.sound; law = kept.law; brings = all.brings }
+    record { rows = all.rows; sound = all.sound; law = kept.law; brings = all.brings }
 
 pub cut_past : (t : Trace) (e : Event) → Past t → Past (did e ∷ booked t e)
 cut_past t e was = record {
+  rows = cut_rows t e was.rows;
   sound = did_sound (step_of e) (booked t e) (booked_keeps Sound t e (λ acts w. batch_sound t acts w) was.sound);
   law = was.law;
   brings = cut_brings t e was.brings;

@@ -8,6 +8,7 @@ pub mod Stops
 pub mod Tags
 pub mod Followed
 pub mod Bindings
+pub mod Rebound
 pub mod Outcomes
 pub mod Telling
 pub mod Carrying
@@ -17,15 +18,22 @@ pub mod Sending
 pub mod Tells
 pub mod Quiet
 pub mod Transfers
+pub mod Claimed
+pub mod Middles
+pub mod Owning
+pub mod Begun
+pub mod Ours
+pub mod Wholes
+pub mod Firsts
 pub mod Arriving
 pub mod Resumed
-pub mod AllSound
 -- Durable links and messages in the book.
 pub mod Made
 pub mod Keeping
 pub mod Served
 pub mod Admitted
 pub mod Rows
+pub mod AllSound
 pub mod Numbered
 -- Durable outcomes in the book.
 pub mod Looking
@@ -43,6 +51,7 @@ pub mod Decisions
 pub mod Giving
 pub mod Forgetting
 pub mod Booked
+pub mod Joins
 pub mod Lasting
 pub mod Taking
 pub mod Brings

@@ -47,16 +47,25 @@ pub lives_keep_links_first : InLives (EachOut IsKeptFirst)
 lives_keep_links_first =
     lives_keep (EachOut IsKeptFirst) (λ g below book was. was) (λ id ms t u was went. moves_kept id ms t u was (goes id ms t u went)) (λ t e was. was) tt
 
-pub lives_sound : InLives Sound
-lives_sound =
-    lives_keep Sound (λ g below book was. opened_sound g below was) (λ id ms t u was went. moves_sound id ms t u was (goes id ms t u went))
-    (λ t e was. did_sound (step_of e) (booked t e) (booked_keeps Sound t e (λ acts w. batch_sound t acts w) was)) none_sound
+abbrev RowsSoundBrings : Trace → Type 0
+RowsSoundBrings t = Rows t × Sound t × Brings t
 
-pub lives_brings : InLives Brings
-lives_brings = lives_keep Brings opened_brings (λ id ms t u was went. moves_brings id ms t u was (goes id ms t u went)) cut_brings no_brings
+lives_all : InLives RowsSoundBrings
+lives_all =
+    lives_keep RowsSoundBrings (λ g below book was. (opened_rows g below book was.0, opened_sound g below was.1, opened_brings g below book was.2))
+    (λ id ms t u was went. let led = goes id ms t u went in
+    (moves_rows id ms t u was.0 led, moves_sound id ms t u was.0 was.1 led, moves_brings id ms t u was.0 was.1 was.2 led))
+    (λ t e was. (cut_rows t e was.0, did_sound (step_of e) (booked t e) (booked_keeps Sound t e (λ acts w. batch_sound t acts w) was.1), cut_brings t e was.2))
+    (no_rows, none_sound, no_brings)
 
 pub lives_rows : InLives Rows
-lives_rows = lives_keep Rows opened_rows (λ id ms t u was went. moves_rows id ms t u was (goes id ms t u went)) cut_rows no_rows
+lives_rows id lives u all = (lives_all id lives u all).0
+
+pub lives_sound : InLives Sound
+lives_sound id lives u all = (lives_all id lives u all).1
+
+pub lives_brings : InLives Brings
+lives_brings id lives u all = (lives_all id lives u all).2
 
 pub lives_once : InLives RowsAreDecidedOnce
 lives_once = λ id lives u all.

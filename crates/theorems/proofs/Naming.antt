@@ -21,7 +21,7 @@ use Rattle.router_trace.specs.Sessions.{session}
 use Rattle.router_trace.specs.DeliveryFrames.{first_transfer, later_transfer, with_more, part_frame, filled, next_frame, largest_out, rest_of}
 use Rattle.router_trace.specs.Following.{link_of, is_busy, is_open, is_used, is_going, is_there, is_wide, goes_on_at, takes_more, can_start, can_go, place_to_go, transfer_of, send, send_of, sends_due}
 use Rattle.router_trace.specs.Deliveries.{Delivery, bindings, name_in, number_named, number_tagged, delivery, sending, named, named_in, named_by, next_id, is_id, carried, tag_in, tag_of, tagged, is_number, is_undecided, after_frame, put_in, after_put, after_event, ended_by, closes, source, told, is_meant, origin_id, untold, unsettled, channels_found, acts_found}
-use Rattle.state_deliveries.proofs.Called.{there_named, uncalled}
+use Rattle.state_deliveries.proofs.Called.{there_named}
 use Rattle.state_deliveries.proofs.Puts.{no_ends}
 use Rattle.state_connections.proofs.Lists.{by_test}
 use Rattle.router_core.proofs.Due.{both_true, placed_elim}
@@ -30,6 +30,8 @@ use Rattle.theorems.proofs.Bindings.{of_what}
 use Rattle.theorems.proofs.Followed.{Left, event_left, ends_left}
 use Rattle.theorems.proofs.Names.{NamesTold, names_told}
 use Rattle.theorems.proofs.Outcomes.{number_is}
+use Rattle.theorems.proofs.Rebound.{AfterBound, after_bound}
+use Rattle.theorems.proofs.Rebound.AfterBound.{is_new, is_joined, is_old}
 use Rattle.theorems.proofs.Tests.{some_same, none_not_some}
 use Rattle.theorems.proofs.Undecided.{Was, was_did, was_out}
 
@@ -132,9 +134,14 @@ out_named c i t quiet was n id e now undecided has =
 
 pub bound_named : (b : Binding) (t : List Entry) → AreNamed t → AreNamed (Bound b ∷ t)
 bound_named b t was n id d now undecided has =
-    by_test (bindings t + 1 == n)
-    (λ e. absurd (none_not_some (ap (λ (x : Delivery). x.id) (some_same (rw e at now)) ∙ has)))
-    (λ e. was n id d (uncalled (name_in t b) (delivery t n) d (rw e at now)).0 undecided has)
+    by (after_bound b t n d now)
+  where
+    by : AfterBound b t n d → named (Bound b ∷ t) d.link.conn.0 d.link.channel id ≡ Some n
+    by (is_new new) = absurd (none_not_some (ap (λ (x : Delivery). x.id) new.is ∙ has))
+    by (is_joined joins) =
+        subst (λ (a : Attachment). named t a.conn.0 a.channel id ≡ Some n) (ap (λ (x : Delivery). x.link) joins.is)
+        (was n id joins.before joins.there (ap is_undecided joins.is ∙ undecided) (ap (λ (x : Delivery). x.id) joins.is ∙ has))
+    by (is_old there) = was n id d there undecided has
 
 -- A transfer that is due: it carries this delivery; if it has an id, the delivery has none yet, the id will name it, and names no undecided one.
 pub record IsNaming (t : List Entry) (n : ℕ) (d : Delivery) (x : Transfer) : Type 0 where

@@ -1,6 +1,6 @@
 -- Each row that the book gave since the opening is bound.
 use Rattle.std.proofs.Common.{◌≡◌, ◌∙◌, sym, ap, refl, subst, ℕ, ◌+◌, ◌≤◌, ◌<◌, Bool, true, false, ◌&&◌, List, [], ◌∷◌, arith}
-use Rattle.std.specs.Prelude.{◌==◌, if◌then◌else◌, Option, Some, None, is_none}
+use Rattle.std.specs.Prelude.{◌==◌, if◌then◌else◌, Option, Some, None}
 use Rattle.std.proofs.lemmas.Bool.{eqb-true, eq-eqb}
 use Rattle.amqp_model.specs.declared.item.Item.{Item}
 use Rattle.book_model.specs.declared.act.Act.{Act}
@@ -11,7 +11,10 @@ use Rattle.router_trace.specs.Configuration.{beginning}
 use Rattle.router_trace.specs.Connection.{conn, due}
 use Rattle.router_trace.specs.Trace.{Beginning, Entry, Did, Out, Bound, Put, Step, goes, puts, each_to}
 use Rattle.router_trace.specs.declared.binding.Binding.{Binding}
+use Rattle.router_trace.specs.declared.binding.BindingKind.{BindingKind}
+use Rattle.router_trace.specs.declared.binding.BindingKind.TheVariants as kind
 use Rattle.router_trace.specs.declared.binding.TakenUp.{TakenUp}
+use Rattle.router_trace.specs.Deliveries.{is_message}
 use Rattle.router_trace.specs.declared.condition.Condition.TheVariants.{ResourceLimitExceeded}
 use Rattle.state_messages.specs.Messages.{with_bound}
 use Rattle.router_reply.specs.Acts.{book_in, acts_of, booked}
@@ -25,7 +28,7 @@ use Rattle.router_core.specs.Replies.{handled}
 use Rattle.core_machine.specs.Moves.{took_one}
 use Rattle.router_core.proofs.Following.{all_keep}
 use Rattle.theorems.specs.Admitted.{is_row, times_bound, AreBoundSince}
-use Rattle.theorems.proofs.Admitted.{row_of_bound, bound_fresh, BindsNext, binds_next}
+use Rattle.theorems.proofs.Admitted.{row_of_bound, BindsNext, binds_next}
 use Rattle.theorems.proofs.Resumed.{resumed_marked}
 use Rattle.theorems.proofs.Rows.{Rows, start_rows, took_rows, handled_rows}
 use Rattle.theorems.proofs.Tests.{none_not_some}
@@ -62,7 +65,7 @@ times_if b = if b then 1 else 0
 
 abbrev times_of : Option Binding → ℕ → ℕ
 times_of None n = 0
-times_of (Some x) n = if is_none x.taken_up && is_row x.row n then 1 else 0
+times_of (Some x) n = if is_message x.kind && is_row x.row n then 1 else 0
 
 bound_stays : (n times : ℕ) (book : BookView) (b : Option Binding) (u : List Entry) → Stays n times book u → Stays n (times + times_of b n) book (with_bound b u)
 bound_stays n times book None u was = (was.0 ∙ nothing times, was.1)
@@ -72,8 +75,8 @@ bound_stays n times book None u was = (was.0 ∙ nothing times, was.1)
 bound_stays n times book (Some x) u was = (ap (λ (k : ℕ). k + times_of (Some x) n) was.0, was.1)
 
 -- a row that is taken up was bound before
-taken_stays : (n times : ℕ) (book : BookView) (u : List Entry) (b : Binding) (brought : TakenUp) → b.taken_up ≡ Some brought → Stays n times book u → Stays n times book (Bound b ∷ u)
-taken_stays n times book u b brought marked was = (ap (λ (up : Option TakenUp). times_bound u n + (if is_none up && is_row b.row n then 1 else 0)) marked ∙ nothing (times_bound u n) ∙ was.0, was.1)
+taken_stays : (n times : ℕ) (book : BookView) (u : List Entry) (b : Binding) (brought : TakenUp) → b.kind ≡ kind.TakenUp brought → Stays n times book u → Stays n times book (Bound b ∷ u)
+taken_stays n times book u b brought marked was = (ap (λ (k : BindingKind). times_bound u n + (if is_message k && is_row b.row n then 1 else 0)) marked ∙ nothing (times_bound u n) ∙ was.0, was.1)
   where
     nothing : (k : ℕ) → k + 0 ≡ k
     nothing k = omega arith
@@ -93,13 +96,13 @@ handled_stays id t s n =
 
 -- a number of a row that was given is that of one bound
 
-no_row_bound : (b : Option Binding) (n : ℕ) → ((x : Binding) → b ≡ Some x → x.row ≡ None) → times_of b n ≡ 0
+no_row_bound : (b : Option Binding) (n : ℕ) → ((x : Binding) → b ≡ Some x → is_message x.kind ≡ true → x.row ≡ None) → times_of b n ≡ 0
 no_row_bound None n none = refl
-no_row_bound (Some x) n none = ap (λ (r : Option RowNumber). if is_none x.taken_up && is_row r n then 1 else 0) (none x refl) ∙ by (is_none x.taken_up)
+no_row_bound (Some x) n none = by (is_message x.kind) (none x refl)
   where
-    by : (fresh : Bool) → times_if (fresh && false) ≡ 0
-    by true = refl
-    by false = refl
+    by : (fresh : Bool) → (fresh ≡ true → x.row ≡ None) → times_if (fresh && is_row x.row n) ≡ 0
+    by true none = ap (λ (r : Option RowNumber). times_if (is_row r n)) (none refl)
+    by false none = refl
 
 handled_bound : (first : ℕ) (id : List ℕ) (t : List Entry) (s : Step) → Rows t → AreBoundSince first t → AreBoundSince first (handled id t s)
 handled_bound first id t s rows all n low high = by (row_in (acts_of t s.event)) refl
@@ -142,12 +145,12 @@ handled_bound first id t s rows all n low high = by (row_in (acts_of t s.event))
         behind.0
         ∙ sums (times_bound t n) (times_of bound n)
         (all n low (under n (effects (book_in t) (acts_of t s.event)).next_row (book_in t).next_row below (nothing_given (acts_of t s.event) (book_in t) none)))
-        (no_row_bound bound n (λ x is. row_of_bound id t s.event x is ∙ none))
+        (no_row_bound bound n (λ x is fresh. row_of_bound id t s.event x is fresh ∙ none))
     by (Some row) given =
         let next : BindsNext id t s.event row = binds_next id t s.event row given in
-        let named : next.binding.row ≡ Some row = row_of_bound id t s.event next.binding next.is ∙ given in
+        let named : next.binding.row ≡ Some row = row_of_bound id t s.event next.binding next.is next.fresh ∙ given in
         let times : times_of bound n ≡ (if row.0 == n then 1 else 0) = ap (λ (b : Option Binding). times_of b n) next.is
-        ∙ ap (λ (up : Option TakenUp). if is_none up && is_row next.binding.row n then 1 else 0) (bound_fresh id t s.event next.binding next.is)
+        ∙ ap (λ (q : Bool). if q && is_row next.binding.row n then 1 else 0) next.fresh
         ∙ ap (λ (r : Option RowNumber). if is_row r n then 1 else 0) named in
         behind.0
         ∙ by_test (row.0 == n)

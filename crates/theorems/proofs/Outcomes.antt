@@ -16,6 +16,7 @@ use Rattle.amqp_session.specs.Ranges.{in_range}
 use Rattle.router_trace.specs.declared.binding.Binding.{Binding}
 use Rattle.router_trace.specs.declared.binding.DeliveryName.{DeliveryName}
 use Rattle.router_trace.specs.declared.binding.DeliveryName.TheVariants.{Row, Counter}
+use Rattle.router_trace.specs.declared.binding.Origin.{Origin}
 use Rattle.router_trace.specs.declared.channel.PeerChannel.{PeerChannel}
 use Rattle.router_trace.specs.declared.channel.PeerChannel.TheVariants.{Mapped, Ending}
 use Rattle.router_trace.specs.declared.event.ConnectionId.{ConnectionId}
@@ -25,16 +26,17 @@ use Rattle.router_trace.specs.declared.handle.Attachment.{Attachment}
 use Rattle.router_trace.specs.Trace.{Entry, Did, Out, Took, Booked, Bound, Began, Step, is_opening}
 use Rattle.router_trace.specs.Links.{ends_handle}
 use Rattle.router_trace.specs.Sessions.{maps}
-use Rattle.router_trace.specs.Deliveries.{Delivery, brought, outcome_as, bindings, name_in, number_named, delivery, sending, named, failed, after_frame, decided, source, untold, unsettled, told, ended, decided_at_end, suspended_at_end, is_undecided, is_meant, is_named, is_number, last_of, decision, terminal, is_gone_with, after_origin, after_ends, ended_by, put_in, after_put, carried, tag_in, is_on, is_settled_at, disposed, outcome_or, outcome_named, given, heard_in, heard, lost_with, after_event, origin_id, channels_found, acts_found, sender, forsaken}
+use Rattle.router_trace.specs.Deliveries.{Delivery, outcome_in, joins_standing, bindings, number_named, delivery, sending, named, failed, after_frame, decided, source, untold, unsettled, told, ended, decided_at_end, suspended_at_end, is_undecided, is_meant, is_named, is_number, last_of, decision, terminal, is_gone_with, after_origin, after_ends, ended_by, put_in, after_put, carried, tag_in, is_on, is_settled_at, disposed, outcome_or, outcome_named, given, heard_in, heard, lost_with, after_event, origin_id, channels_found, acts_found, sender, forsaken}
 use Rattle.theorems.specs.Decided.{is_for_good, GivenByConsumer, Decides, DecidesFound, Decided, IsByConsumer, IsFoundByConsumer, DecidedByConsumer}
 use Rattle.theorems.specs.Decided.Decides.{given_by_consumer, given_by_attach, link_lost, link_ended, sent_settled}
 use Rattle.state_connections.proofs.Lists.{by_test}
-use Rattle.state_deliveries.proofs.Called.{uncalled}
 use Rattle.router_core.proofs.Due.{both_true}
 use Rattle.theorems.proofs.Tests.{never_both, none_is, some_same, none_not_some}
-use Rattle.theorems.specs.OneConsumer.{WhileThere}
+use Rattle.theorems.specs.OneConsumer.{joined_in, WhileThere}
 use Rattle.theorems.proofs.Followed.{Follows, AllFollow, then_all, entry_follows, more_bound, later_follows}
 use Rattle.theorems.proofs.Bindings.{of_what, there_bound}
+use Rattle.theorems.proofs.Rebound.{AfterBound, after_bound}
+use Rattle.theorems.proofs.Rebound.AfterBound.{is_new, is_joined, is_old}
 
 -- an outcome was there before, or was given now
 abbrev From : (DeliveryState → Type 0) → Delivery → Delivery → Type 0
@@ -289,15 +291,25 @@ either_decided x t n d s one there was (inl e) = later_decided x t n s one (was 
 either_decided x t n d s one there was (inr now) = now_decided x t n d s there now
 
 -- a binding that brings an outcome: no delivery had its number before
-brought_back : (b : Binding) (t : List Entry) (n : ℕ) (s : DeliveryState) → bindings t + 1 ≡ n → brought (λ u. outcome_as u.how) b.taken_up ≡ Some s → Decided (Bound b ∷ t) n s
-brought_back b t n s is brings = record { later = []; entry = Bound b; before = t; trace = refl; one_run = tt; found = delivery t n; there = refl; decides = by (delivery t n) refl }
+brought_back : (b : Binding) (t : List Entry) (n : ℕ) (s : DeliveryState) → bindings t + 1 ≡ n → joins_standing b.kind ≡ None → outcome_in b.kind ≡ Some s → Decided (Bound b ∷ t) n s
+brought_back b t n s is numbered brings = record { later = []; entry = Bound b; before = t; trace = refl; one_run = tt; found = delivery t n; there = refl; decides = by (delivery t n) refl }
   where
     past : n ≤ bindings t → ⊥
     past h = omega arith
 
     by : (v : Option Delivery) → delivery t n ≡ v → DecidesFound (Bound b) t n v s
-    by None e = record { binding = b; entry_is = refl; number = is; brings = brings }
+    by None e = record { binding = b; entry_is = refl; number = is; numbered = numbered; brings = brings }
     by (Some d) e = absurd (past (there_bound t n d e))
+
+-- after a binding: brought, or as before
+bound_given : (b : Binding) (t : List Entry) (n : ℕ) (d : Delivery) (s : DeliveryState) → delivery (Bound b ∷ t) n ≡ Some d → d.outcome ≡ Some s
+    → ((x : Delivery) → delivery t n ≡ Some x → x.outcome ≡ Some s → Decided t n s) → Decided (Bound b ∷ t) n s
+bound_given b t n d s h e was = by (after_bound b t n d h)
+  where
+    by : AfterBound b t n d → Decided (Bound b ∷ t) n s
+    by (is_new new) = brought_back b t n s new.number new.numbered (ap (λ (x : Delivery). x.outcome) new.is ∙ e)
+    by (is_joined joins) = later_decided (Bound b) t n s refl (was joins.before joins.there (ap (λ (x : Delivery). x.outcome) joins.is ∙ e))
+    by (is_old there) = later_decided (Bound b) t n s refl (was d there e)
 
 pub outcomes_given : (u : List Entry) (n : ℕ) (d : Delivery) (s : DeliveryState) → delivery u n ≡ Some d → d.outcome ≡ Some s → Decided u n s
 outcomes_given [] n d s h e = absurd cc
@@ -312,16 +324,13 @@ outcomes_given (Out c i ∷ t) n d s h e =
 outcomes_given (Took c k ∷ t) n d s h e = later_decided (Took c k) t n s refl (outcomes_given t n d s h e)
 outcomes_given (Booked acts full ∷ t) n d s h e = later_decided (Booked acts full) t n s refl (outcomes_given t n d s h e)
 outcomes_given (Began g ∷ t) n d s h e = absurd cc
-outcomes_given (Bound b ∷ t) n d s h e =
-    by_test (bindings t + 1 == n)
-    (λ f. brought_back b t n s (eqb-true (bindings t + 1) n f) (ap (λ (g : Delivery). g.outcome) (some_same (rw f at h)) ∙ e))
-    (λ f. later_decided (Bound b) t n s refl (outcomes_given t n d s (uncalled (name_in t b) (delivery t n) d (rw f at h)).0 e))
+outcomes_given (Bound b ∷ t) n d s h e = bound_given b t n d s h e (λ x there. outcomes_given t n x s there)
 
 -- if its producer hadn't settled it, by its consumer
 
-same_presettled : (d : Delivery) (v : Option Delivery) (e : Delivery) → WhileThere (Follows d) v → v ≡ Some e → e.presettled ≡ d.presettled
-same_presettled d None e follows is = absurd (none_not_some is)
-same_presettled d (Some f) e follows is = sym (ap (λ (g : Delivery). g.presettled) (some_same is)) ∙ follows.presettled
+same_presettled : (o : Option Origin) (d : Delivery) (v : Option Delivery) (e : Delivery) → WhileThere (Follows o d) v → v ≡ Some e → e.presettled ≡ d.presettled
+same_presettled o d None e follows is = absurd (none_not_some is)
+same_presettled o d (Some f) e follows is = sym (ap (λ (g : Delivery). g.presettled) (some_same is)) ∙ follows.presettled
 
 pub outcomes_of_consumers : (u : List Entry) (n : ℕ) (d : Delivery) (s : DeliveryState) → delivery u n ≡ Some d → d.outcome ≡ Some s → d.presettled ≡ false → DecidedByConsumer u n s
 outcomes_of_consumers u n d s there outcome unsettled =
@@ -337,14 +346,14 @@ outcomes_of_consumers u n d s there outcome unsettled =
     by is e here (link_lost lost none is_failed) = tt
     by is e here (link_ended ended none is_failed) = tt
     by is e here (sent_settled sent accepted) =
-        let followed : AllFollow (delivery is.before n) (delivery (is.later ++ is.entry ∷ is.before) n)
-        = then_all (delivery is.before n) (delivery (is.entry ∷ is.before) n) (delivery (is.later ++ is.entry ∷ is.before) n)
+        let followed : AllFollow (is.later ++ is.entry ∷ []) (delivery is.before n) (delivery (is.later ++ is.entry ∷ is.before) n)
+        = then_all (is.entry ∷ []) is.later (delivery is.before n) (delivery (is.entry ∷ is.before) n) (delivery (is.later ++ is.entry ∷ is.before) n)
         (entry_follows is.entry is.before n (there_bound is.before n e here))
         (later_follows is.later (is.entry ∷ is.before) n is.one_run (more_bound is.entry is.before n (not_opening is.entry (sent_settled sent accepted)) (there_bound is.before n e here)))
-        in let from : WhileThere (Follows e) (delivery (is.later ++ is.entry ∷ is.before) n)
-        = subst (λ (v : Option Delivery). AllFollow v (delivery (is.later ++ is.entry ∷ is.before) n)) here followed
+        in let from : WhileThere (Follows (joined_in (is.later ++ is.entry ∷ []) e.name) e) (delivery (is.later ++ is.entry ∷ is.before) n)
+        = subst (λ (v : Option Delivery). AllFollow (is.later ++ is.entry ∷ []) v (delivery (is.later ++ is.entry ∷ is.before) n)) here followed
         in let now : delivery (is.later ++ is.entry ∷ is.before) n ≡ Some d = subst (λ (t : List Entry). delivery t n ≡ Some d) is.trace there
-        in absurd (clash (sym sent.presettled ∙ sym (same_presettled e (delivery (is.later ++ is.entry ∷ is.before) n) d from now) ∙ unsettled))
+        in absurd (clash (sym sent.presettled ∙ sym (same_presettled (joined_in (is.later ++ is.entry ∷ []) e.name) e (delivery (is.later ++ is.entry ∷ is.before) n) d from now) ∙ unsettled))
 
     by_found : (is : Decided u n s) (found : Option Delivery) → delivery is.before n ≡ found → (decides : DecidesFound is.entry is.before n found s)
         → IsFoundByConsumer is.entry is.before n found s decides

@@ -12,10 +12,11 @@ use Rattle.book_model.specs.declared.terminus.Terminus.{Terminus}
 use Rattle.book_model.specs.declared.row.RowNumber.{RowNumber}
 use Rattle.book_model.specs.Book.{BookView, terminus_of, is_for, is_of}
 use Rattle.router_trace.specs.declared.binding.Binding.{Binding}
+use Rattle.router_trace.specs.declared.binding.BindingKind.TheVariants as kind
 use Rattle.router_trace.specs.declared.binding.DeliveryName.{DeliveryName}
 use Rattle.router_trace.specs.declared.binding.DeliveryName.TheVariants.{Row}
 use Rattle.router_trace.specs.declared.binding.Resumed.{Resumed}
-use Rattle.router_trace.specs.declared.binding.Resumed.TheVariants.{Settled, Again, Anew}
+use Rattle.router_trace.specs.declared.binding.Resumed.TheVariants.{Settled, Again, Anew, Kept}
 use Rattle.router_trace.specs.declared.binding.TakenUp.{TakenUp}
 use Rattle.resume_core.specs.Resuming.{entries_of, is_told_of, outcome_after, resumed_as, sending_as, sending_of, sendings, sent_as}
 use Rattle.resume_core.specs.declared.consumer.Sending.{Sending}
@@ -60,7 +61,7 @@ sent_outcome complete true (Some s) how e = let same : Settled s ≡ how = cc in
 sent_outcome complete true None how e = let same : Again ≡ how = cc in ap outcome_as (sym same)
 sent_outcome complete false (Some s) how e = absurd cc
 sent_outcome true false None how e = let same : Anew ≡ how = cc in ap outcome_as (sym same)
-sent_outcome false false None how e = absurd cc
+sent_outcome false false None how e = let same : Kept ≡ how = cc in ap outcome_as (sym same)
 
 waits_here : (b : BookView) (key : LinkKey) (x : Terminus) → terminus_of key b.termini ≡ Some x → (complete : Bool) (theirs : List UnsettledDelivery)
     → (before : List ARow) (r : ARow) (rs : List ARow) → b.rows ≡ before ++ r ∷ rs → is_for x.number.0 r ≡ true
@@ -183,7 +184,7 @@ resumed_takes P at e u step found was = by (resumed_key at e (answer_to_event at
 -- the same where only that it is taken up counts
 
 abbrev pub MarkedStep : (Trace → Type 0) → Type 0
-MarkedStep P = (u : Trace) (b : Binding) (brought : TakenUp) → b.taken_up ≡ Some brought → P u → P (Bound b ∷ u)
+MarkedStep P = (u : Trace) (b : Binding) (brought : TakenUp) → b.kind ≡ kind.TakenUp brought → P u → P (Bound b ∷ u)
 
 all_marked : (P : Trace → Type 0) → MarkedStep P → (at : Attachment) (rows : List Sending) (u : Trace) → P u → P (bound_to at rows u)
 all_marked P step at [] u was = was

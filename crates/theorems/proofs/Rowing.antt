@@ -15,15 +15,17 @@ use Rattle.amqp_link.specs.declared.part.Part.TheVariants as part
 use Rattle.book_model.specs.declared.row.Row.{Row as ARow}
 use Rattle.book_model.specs.declared.row.RowNumber.{RowNumber}
 use Rattle.book_model.specs.declared.terminus.LinkKey.{LinkKey}
-use Rattle.book_model.specs.Book.{row_at}
+use Rattle.book_model.specs.Book.{BookView, row_at}
 use Rattle.router_trace.specs.declared.binding.Binding.{Binding}
+use Rattle.router_trace.specs.declared.binding.BindingKind.{BindingKind}
+use Rattle.router_trace.specs.declared.binding.BindingKind.TheVariants as kind
 use Rattle.router_trace.specs.declared.binding.DeliveryName.TheVariants.{Row}
 use Rattle.router_trace.specs.declared.binding.Origin.{Origin}
 use Rattle.router_trace.specs.declared.condition.Condition.{Condition}
 use Rattle.router_trace.specs.declared.condition.Condition.TheVariants.{ResourceLimitExceeded, MessageSizeExceeded}
 use Rattle.router_trace.specs.declared.handle.Attachment.{Attachment}
 use Rattle.router_trace.specs.Trace.{Trace, Bound, Put, goes, puts, each_to}
-use Rattle.router_trace.specs.Deliveries.{Delivery, bound, called, origin_in, either_origin, source, name_in, delivery, is_undecided, terminal, last_of, ended_by as put_ends, brought, outcome_as, told_in}
+use Rattle.router_trace.specs.Deliveries.{Delivery, bound, called, origin_in, origin_of, outcome_in, joins_standing, presettles, either_origin, source, name_in, delivery, is_undecided, terminal, last_of, ended_by as put_ends, brought, outcome_as, told_in}
 use Rattle.router_trace.specs.Following.{link_of, is_sending}
 use Rattle.router_trace.specs.LinkFrames.{detach_item}
 use Rattle.router_trace.specs.Links.{Link, link, link_place, has_number, is_attached, if_attached, last_of_key}
@@ -34,15 +36,16 @@ use Rattle.reply_rows.specs.declared.answer.Answer.{Answer}
 use Rattle.reply_rows.specs.declared.answer.Answer.TheVariants.{Taken, Settle}
 use Rattle.reply_rows.specs.Rows.{said}
 use Rattle.router_reply.specs.Acts.{book_in}
-use Rattle.reply_transfers.specs.Transfers.{claimed_id, lasts_on, let_go, unless_many, ignored_put, released_by, released, unbound_put, consumer_for, whole_put, part_put, settled_answers}
+use Rattle.reply_transfers.specs.Transfers.{claimed_id, lasts_on, let_go, unless_many, ignored_put, row_resumed, unless_joined, resumed_put, released_by, released, unbound_put, consumer_for, whole_put, part_put, settled_answers}
 use Rattle.router_reply.specs.Deciding.{ended_by}
 use Rattle.router_reply.specs.Replies.{row_found, bound_for, links_put, item_put}
-use Rattle.router_trace.specs.declared.binding.TakenUp.{TakenUp}
 use Rattle.theorems.specs.Came.{TakesUp, BindsMessage, ComesFrom}
 use Rattle.theorems.proofs.Consuming.{consumer_sends}
 use Rattle.theorems.proofs.Ending.{TakesNone, takes_none, said_kept}
-use Rattle.theorems.proofs.Facts.{IsKeptForm, Agrees, RowFact, bound_facts, kept_form}
+use Rattle.theorems.proofs.Facts.{KeptAs, Agrees, RowFact, bound_facts}
+use Rattle.theorems.proofs.Joins.{CanBind}
 use Rattle.theorems.proofs.Keeps.{Kept, quiet_kept, plain_kept, Plain, plain_to, plain_goes}
+use Rattle.theorems.proofs.Owning.{bound_owned}
 use Rattle.theorems.proofs.Naming.{bound_named}
 use Rattle.theorems.proofs.Resumed.{IsCalled, called_is}
 use Rattle.theorems.proofs.Standing.{Sends, bound_standing}
@@ -127,19 +130,23 @@ released_kept w after c own handle (Some id) at was = by (lasts_on (link after c
     by false = plain_kept c _ w refl was
     by true = many_kept w after c own handle _ at (refl, tt) was
 
-whole_kept : (w after : Trace) (c own handle : ℕ) (d : Told) (row : Option RowNumber) → Receives w c own handle → Kept w [] → Kept (goes (each_to c (whole_put after c own handle d row)) w) []
-whole_kept w after c own handle d row at was = by d.resume (consumer_for after c own handle d row)
+resumed_put_kept : (w after : Trace) (c own handle : ℕ) (v : Option ℕ) (r : Option ARow) → Receives w c own handle → Kept w [] → Kept (goes (each_to c (unless_joined r (ignored_put after c own handle v))) w) []
+resumed_put_kept w after c own handle v None at was = ignored_kept w after c own handle v at was
+resumed_put_kept w after c own handle v (Some r) at was = was
+
+whole_kept : (b : BookView) (w after : Trace) (c own handle : ℕ) (d : Told) (row : Option RowNumber) → Receives w c own handle → Kept w [] → Kept (goes (each_to c (whole_put b after c own handle d row)) w) []
+whole_kept b w after c own handle d row at was = by d.resume (consumer_for after c own handle d row)
   where
     by : (resumed : Bool) (consumer : Option Attachment)
-        → Kept (goes (each_to c (if resumed then ignored_put after c own handle (claimed_id after c own handle d.id) else unbound_put after c own handle (claimed_id after c own handle d.id) consumer)) w) []
-    by true consumer = ignored_kept w after c own handle (claimed_id after c own handle d.id) at was
+        → Kept (goes (each_to c (if resumed then resumed_put b after c own handle (claimed_id after c own handle d.id) else unbound_put after c own handle (claimed_id after c own handle d.id) consumer)) w) []
+    by true consumer = resumed_put_kept w after c own handle (claimed_id after c own handle d.id) (row_resumed b after c own (claimed_id after c own handle d.id)) at was
     by false None = released_kept w after c own handle (claimed_id after c own handle d.id) at was
     by false (Some a) = was
 
-part_kept : (w after : Trace) (c own handle : ℕ) (row : Option RowNumber) (q : Option Part) → Receives w c own handle → Kept w [] → Kept (goes (each_to c (part_put after c own handle row q)) w) []
-part_kept w after c own handle row (Some (part.Whole d payload)) at was = whole_kept w after c own handle d row at was
-part_kept w after c own handle row (Some part.TooLarge) at was = let_kept w after c own handle MessageSizeExceeded at was
-part_kept w after c own handle row _ at was = was
+part_kept : (b : BookView) (w after : Trace) (c own handle : ℕ) (row : Option RowNumber) (q : Option Part) → Receives w c own handle → Kept w [] → Kept (goes (each_to c (part_put b after c own handle row q)) w) []
+part_kept b w after c own handle row (Some (part.Whole d payload)) at was = whole_kept b w after c own handle d row at was
+part_kept b w after c own handle row (Some part.TooLarge) at was = let_kept w after c own handle MessageSizeExceeded at was
+part_kept b w after c own handle row _ at was = was
 
 -- a message that is bound
 
@@ -153,15 +160,24 @@ from_origin : (o : Option Origin) (p : Origin) → either_origin o None ≡ Some
 from_origin None p is = absurd (none_not_some is)
 from_origin (Some q) p is = is
 
-pub bound_kept : (b : Binding) (u : Trace) → b.taken_up ≡ None → BindsMessage u b → ((r : RowNumber) → b.row ≡ Some r → RowFact u (book_in u) r (bound (name_in u b) b)) → Kept u [] → Kept (Bound b ∷ u) []
-bound_kept b u fresh binds fact was = record {
+-- of a message
+pub can_message : (u : Trace) (b : Binding) (o : Option Origin) → b.kind ≡ kind.Message o → BindsMessage u b → ((r : RowNumber) → b.row ≡ Some r → RowFact u (book_in u) r (bound (name_in u b) b)) → CanBind u b
+can_message u b o is binds fact = record {
+  consumer = λ undecided. consumer_sends u binds.producer b.consumer binds.chosen;
+  producer = λ p from. from_attached (origin_of b.kind) u binds.conn binds.own binds.handle binds.producer binds.message binds.from binds.attached p
+      (from_origin (origin_of b.kind) p (ap (λ (k : BindingKind). either_origin (origin_of b.kind) (brought (λ v. v.told) k)) (sym is) ∙ from));
+  new = λ new r named. fact r named;
+  joined = λ r q d joins. absurd (none_not_some (ap joins_standing (sym is) ∙ joins));
+}
+
+pub bound_kept : (b : Binding) (u : Trace) → CanBind u b → Kept u [] → Kept (Bound b ∷ u) []
+bound_kept b u can was = record {
   law = was.law;
-  facts = bound_facts b u fact was.facts;
-  standing = bound_standing b u (consumer_sends u binds.producer b.consumer binds.chosen)
-      (λ p from. from_attached b.origin u binds.conn binds.own binds.handle binds.producer binds.message binds.from binds.attached p
-      (from_origin b.origin p (ap (λ (up : Option TakenUp). either_origin b.origin (brought (λ v. v.told) up)) (sym fresh) ∙ from))) was.standing;
+  facts = bound_facts b u can.new can.joined was.facts;
+  standing = bound_standing b u can.consumer can.producer was.standing;
   named = bound_named b u was.named;
   ordered = was.ordered;
+  owned = bound_owned b u [] was.owned;
 }
 
 -- a row that is taken up
@@ -203,12 +219,12 @@ had_source u n o told p from_origin from_told is =
 
 taken_source : (u : Trace) (b : Binding) (takes : TakesUp u b) (p : Origin) → source (bound (name_in u b) b) ≡ Some p → HadSource u takes.row.number p
 taken_source u b takes p from =
-    had_source u takes.row.number b.origin (brought (λ v. v.told) b.taken_up) p takes.origin (ap (brought (λ v. v.told)) takes.taken ∙ takes.told) from
+    had_source u takes.row.number (origin_of b.kind) (brought (λ v. v.told) b.kind) p (ap origin_of takes.taken ∙ takes.origin) (ap (brought (λ v. v.told)) takes.taken ∙ takes.told) from
 
 -- what the book has of the row: the outcome that is brought, as the journal keeps it
 pub record Holds (u : Trace) (b : Binding) (takes : TakesUp u b) : Type 0 where
   pub known : takes.row.number.0 < (book_in u).next_row
-  pub outcome : (row : ARow) → row_at takes.row.number.0 (book_in u).rows ≡ Some row → IsKeptForm row → row.outcome ≡ option_map kept_form (outcome_as takes.brought.how)
+  pub outcome : (row : ARow) → row_at takes.row.number.0 (book_in u).rows ≡ Some row → KeptAs row.outcome (outcome_as takes.brought.how)
 
 -- what the book has of the row holds of the new delivery as it did of the old one
 taken_fact : (u : Trace) (b : Binding) (takes : TakesUp u b) → Holds u b takes → Kept u [] → (r : RowNumber) → b.row ≡ Some r → RowFact u (book_in u) r (bound (name_in u b) b)
@@ -216,10 +232,6 @@ taken_fact u b takes holds was r named = subst (λ (n : RowNumber). RowFact u (b
   where
     n : RowNumber
     n = takes.row.number
-
-    never : (q : Bool) → (q && false) ≡ false
-    never true = refl
-    never false = refl
 
     -- the old delivery's row
     old : (p : Origin) → source (bound (name_in u b) b) ≡ Some p → (v : Option ARow) → row_at n.0 (book_in u).rows ≡ v
@@ -231,29 +243,27 @@ taken_fact u b takes holds was r named = subst (λ (n : RowNumber). RowFact u (b
     agrees : (v : Option ARow) → row_at n.0 (book_in u).rows ≡ v → Agrees u (book_in u) v (bound (name_in u b) b)
     agrees None found = λ p from. let had = old p from None found in had.2 p had.1
     agrees (Some row) found = record {
-      outcome = λ p from. let had = old p from (Some row) found in
-          holds.outcome row found (had.2.form p had.1) ∙ ap (option_map kept_form) (sym (ap (brought (λ v. outcome_as v.how)) takes.taken));
-      form = λ p from. let had = old p from (Some row) found in had.2.form p had.1;
+      outcome = subst (KeptAs row.outcome) (sym (ap outcome_in takes.taken)) (holds.outcome row found);
       waits = λ p from. let had = old p from (Some row) found in had.2.waits p had.1;
       from = λ p from. let had = old p from (Some row) found in had.2.from p had.1;
-      consumer = λ p from. let had = old p from (Some row) found in had.2.consumer p had.1;
+      claimed = λ p from. let had = old p from (Some row) found in had.2.claimed p had.1;
     }
 
     fact : RowFact u (book_in u) n (bound (name_in u b) b)
     fact = record {
-      settled = ap (λ (up : Option TakenUp). is_none b.origin && is_none up) takes.taken ∙ never (is_none b.origin);
+      settled = ap presettles takes.taken;
       known = holds.known;
       agrees = agrees (row_at n.0 (book_in u).rows) refl;
     }
 
 pub taken_up_kept : (u : Trace) (b : Binding) (takes : TakesUp u b) → Holds u b takes → Kept u [] → Kept (Bound b ∷ u) []
-taken_up_kept u b takes holds was = record {
-  law = was.law;
-  facts = bound_facts b u (taken_fact u b takes holds was) was.facts;
-  standing = bound_standing b u (taken_sends u takes.key b.consumer takes.attached) producer was.standing;
-  named = bound_named b u was.named;
-  ordered = was.ordered;
-}
+taken_up_kept u b takes holds was =
+    bound_kept b u (record {
+      consumer = λ undecided. taken_sends u takes.key b.consumer takes.attached;
+      producer = producer;
+      new = λ new. taken_fact u b takes holds was;
+      joined = λ r q d joins. absurd (none_not_some (ap joins_standing (sym takes.taken) ∙ joins));
+    }) was
   where
     producer : (p : Origin) → source (bound (name_in u b) b) ≡ Some p → is_attached u p.link ≡ true
     producer p from =
@@ -263,11 +273,11 @@ taken_up_kept u b takes holds was = record {
 -- what a binding needs
 abbrev pub MayBind : Trace → Option Binding → Type 0
 MayBind u None = Unit {0}
-MayBind u (Some b) = (b.taken_up ≡ None) × BindsMessage u b × ((r : RowNumber) → b.row ≡ Some r → RowFact u (book_in u) r (bound (name_in u b) b))
+MayBind u (Some b) = CanBind u b
 
 pub with_kept : (b : Option Binding) (u : Trace) → MayBind u b → Kept u [] → Kept (with_bound b u) []
 with_kept None u may was = was
-with_kept (Some b) u may was = bound_kept b u may.0 may.1 may.2 was
+with_kept (Some b) u may was = bound_kept b u may was
 
 receives_still : (b : Option Binding) (u : Trace) (c own handle : ℕ) → Receives u c own handle → Receives (with_bound b u) c own handle
 receives_still None u c own handle at = at
@@ -280,7 +290,7 @@ pub taken_row : (id : List ℕ) (t at u : Trace) (c : ℕ) (p : Conn) (sasl : Bo
     → Kept (goes (item_put id at u c p (item.Frame sasl channel (perf.Transfer x) payload) y) (with_bound (bound_for at u c (item.Frame sasl channel (perf.Transfer x) payload) y) u)) []
 taken_row id t at u c p sasl channel x payload (Taken own handle) may stands was =
     let b : Option Binding = bound_for at u c (item.Frame sasl channel (perf.Transfer x) payload) (Taken own handle) in
-    part_kept (with_bound b u) u c own handle (row_found at) (part_of (item.Frame sasl channel (perf.Transfer x) payload) (link_place at c own))
+    part_kept (book_in at) (with_bound b u) u c own handle (row_found at) (part_of (item.Frame sasl channel (perf.Transfer x) payload) (link_place at c own))
     (receives_still b u c own handle (stands own handle refl)) (with_kept b u may was)
 taken_row id t at u c p sasl channel x payload y may stands was =
     plain_row id t at u c p (item.Frame sasl channel (perf.Transfer x) payload) y (takes_none t c (item.Frame sasl channel (perf.Transfer x) payload) y refl) refl refl was

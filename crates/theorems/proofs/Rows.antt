@@ -1,6 +1,6 @@
 -- In every trace of the router each message with a row stands in the book before it is bound, and each row is bound at most once.
 use Rattle.std.proofs.Common.{◌≡◌, ◌∙◌, sym, ap, refl, subst, ℕ, ◌+◌, ◌≤◌, true, false, List, [], ◌∷◌, arith}
-use Rattle.std.specs.Prelude.{◌==◌, Option, Some, None, is_some}
+use Rattle.std.specs.Prelude.{◌==◌, ◌&&◌, Bool, if◌then◌else◌, Option, Some, None}
 use Rattle.std.proofs.lemmas.Bool.{eqb-true}
 use Rattle.amqp_model.specs.declared.item.Item.{Item}
 use Rattle.book_model.specs.declared.act.Act.{Act}
@@ -12,7 +12,9 @@ use Rattle.router_trace.specs.Configuration.{beginning, opened}
 use Rattle.router_trace.specs.Connection.{conn, due}
 use Rattle.router_trace.specs.Trace.{Beginning, Entry, Did, Out, Took, Bound, Booked, Began, Put, Step, did, goes, puts, each_to}
 use Rattle.router_trace.specs.declared.binding.Binding.{Binding}
+use Rattle.router_trace.specs.declared.binding.BindingKind.TheVariants as kind
 use Rattle.router_trace.specs.declared.binding.TakenUp.{TakenUp}
+use Rattle.router_trace.specs.Deliveries.{is_message}
 use Rattle.router_trace.specs.declared.event.Event.{Event}
 use Rattle.router_trace.specs.declared.condition.Condition.TheVariants.{ResourceLimitExceeded}
 use Rattle.state_messages.specs.Messages.{with_bound}
@@ -28,8 +30,8 @@ use Rattle.router_core.proofs.Booking.{booked_keeps}
 use Rattle.router_core.proofs.Following.{all_keep}
 use Rattle.theorems.specs.Came.{Handled, just_handled}
 use Rattle.theorems.specs.Each.{EachBound}
-use Rattle.theorems.specs.Admitted.{IsAdmitted, IsAdmittedUnder, IsAdmittedUnless, RowIsAdmitted, times_bound, IsBoundOnce, EachRowIsBoundOnce}
-use Rattle.theorems.proofs.Admitted.{bound_row, bound_fresh}
+use Rattle.theorems.specs.Admitted.{is_row, IsAdmitted, IsAdmittedUnder, IsAdmittedIf, RowIsAdmitted, times_bound, IsBoundOnce, EachRowIsBoundOnce}
+use Rattle.theorems.proofs.Admitted.{bound_row}
 use Rattle.theorems.proofs.Resumed.{resumed_marked}
 use Rattle.theorems.proofs.Tests.{some_same, none_not_some}
 
@@ -103,24 +105,40 @@ new_once u b row is before =
     at_most : (n k : ℕ) → n ≡ k → k ≤ n
     at_most n k e = omega (arith, e)
 
-bound_once : (u : List Entry) (b : Binding) (row : Option RowNumber) → b.taken_up ≡ None → b.row ≡ row → IsAdmittedUnder u b row → EachRowIsBoundOnce u → Before u → EachRowIsBoundOnce (Bound b ∷ u)
-bound_once u b None fresh its is all before n = rw (fresh, its) (record { once = plain (times_bound u n) (all n).once; known = λ h. none (times_bound u n) ((all n).known h) })
+-- how often a row is bound after a binding
+times_now : (u : List Entry) (b : Binding) (n : ℕ) (q : Bool) (row : Option RowNumber) → is_message b.kind ≡ q → b.row ≡ row
+    → times_bound (Bound b ∷ u) n ≡ times_bound u n + (if q && is_row row n then 1 else 0)
+times_now u b n q row fresh its =
+    ap (λ (p : Bool). times_bound u n + (if p && is_row b.row n then 1 else 0)) fresh ∙ ap (λ (r : Option RowNumber). times_bound u n + (if q && is_row r n then 1 else 0)) its
+
+-- once less, or once more
+as_before : (u : List Entry) (b : Binding) (n : ℕ) → times_bound (Bound b ∷ u) n ≡ times_bound u n + 0 → IsBoundOnce u n → IsBoundOnce (Bound b ∷ u) n
+as_before u b n same was = record {
+  once = subst (λ (k : ℕ). k ≤ 1) (sym same) (plain (times_bound u n) was.once);
+  known = λ h. same ∙ none (times_bound u n) (was.known h);
+}
   where
     plain : (k : ℕ) → k ≤ 1 → k + 0 ≤ 1
     plain k h = omega (arith, h)
 
     none : (k : ℕ) → k ≡ 0 → k + 0 ≡ 0
     none k h = omega (arith, h)
+
+bound_once : (u : List Entry) (b : Binding) (row : Option RowNumber) → is_message b.kind ≡ true → b.row ≡ row → IsAdmittedUnder u b row → EachRowIsBoundOnce u → Before u → EachRowIsBoundOnce (Bound b ∷ u)
+bound_once u b None fresh its is all before n = as_before u b n (times_now u b n true None fresh its) (all n)
 bound_once u b (Some row) fresh its is all before n = by_test (row.0 == n) same apart
   where
     new : (times_bound u row.0 ≡ 0) × ((book_in u).next_row ≡ row.0 + 1)
     new = new_once u b row is before
 
+    now : (q : Bool) → (row.0 == n) ≡ q → times_bound (Bound b ∷ u) n ≡ times_bound u n + (if q then 1 else 0)
+    now q e = times_now u b n true (Some row) fresh its ∙ ap (λ (p : Bool). times_bound u n + (if p then 1 else 0)) e
+
     same : (row.0 == n) ≡ true → IsBoundOnce (Bound b ∷ u) n
     same e =
         let at : row.0 ≡ n = eqb-true row.0 n e in
         let none : times_bound u n ≡ 0 = ap (times_bound u) (sym at) ∙ new.0 in
-        record { once = rw (fresh, its, e) (one (times_bound u n) none); known = λ h. absurd (too_low (book_in u).next_row row.0 n new.1 at h) }
+        record { once = subst (λ (k : ℕ). k ≤ 1) (sym (now true e)) (one (times_bound u n) none); known = λ h. absurd (too_low (book_in u).next_row row.0 n new.1 at h) }
       where
         one : (k : ℕ) → k ≡ 0 → k + 1 ≤ 1
         one k h = omega (arith, h)
@@ -129,23 +147,11 @@ bound_once u b (Some row) fresh its is all before n = by_test (row.0 == n) same 
         too_low next r n e f h = omega (arith, e, f, h)
 
     apart : (row.0 == n) ≡ false → IsBoundOnce (Bound b ∷ u) n
-    apart e = record { once = rw (fresh, its, e) (plain (times_bound u n) (all n).once); known = λ h. rw (fresh, its, e) (none (times_bound u n) ((all n).known h)) }
-      where
-        plain : (k : ℕ) → k ≤ 1 → k + 0 ≤ 1
-        plain k h = omega (arith, h)
+    apart e = as_before u b n (now false e) (all n)
 
-        none : (k : ℕ) → k ≡ 0 → k + 0 ≡ 0
-        none k h = omega (arith, h)
-
--- a row that is taken up was bound before
-taken_once : (u : List Entry) (b : Binding) (brought : TakenUp) → b.taken_up ≡ Some brought → EachRowIsBoundOnce u → EachRowIsBoundOnce (Bound b ∷ u)
-taken_once u b brought marked all n = rw marked (record { once = plain (times_bound u n) (all n).once; known = λ h. none (times_bound u n) ((all n).known h) })
-  where
-    plain : (k : ℕ) → k ≤ 1 → k + 0 ≤ 1
-    plain k h = omega (arith, h)
-
-    none : (k : ℕ) → k ≡ 0 → k + 0 ≡ 0
-    none k h = omega (arith, h)
+-- a row that is bound again was bound before
+again_once : (u : List Entry) (b : Binding) → is_message b.kind ≡ false → EachRowIsBoundOnce u → EachRowIsBoundOnce (Bound b ∷ u)
+again_once u b again all n = as_before u b n (times_now u b n false b.row again refl) (all n)
 
 batch_once : (acts : List Act) {full : List ℕ} (t : List Entry) → EachRowIsBoundOnce t → EachRowIsBoundOnce (Booked acts full ∷ t)
 batch_once acts t all n = record { once = (all n).once; known = λ h. (all n).known (below (rises acts (book_in t)) h) }
@@ -203,15 +209,20 @@ took_rows c k t was = record { admitted = was.admitted; once = λ n. record { on
 batch_rows : (t : List Entry) (acts : List Act) {full : List ℕ} → Rows t → Rows (Booked acts full ∷ t)
 batch_rows t acts was = record { admitted = was.admitted; once = batch_once acts t was.once; before = was.once }
 
-bound_rows : (u : List Entry) (b : Option Binding) → ((x : Binding) → b ≡ Some x → (x.taken_up ≡ None) × IsAdmittedUnder u x x.row) → Rows u → Rows (with_bound b u)
+again_rows : (u : List Entry) (b : Binding) → is_message b.kind ≡ false → Rows u → Rows (Bound b ∷ u)
+again_rows u b marked was =
+    record { admitted = (subst (λ (q : Bool). IsAdmittedIf q u b) (sym marked) tt, was.admitted); once = again_once u b marked was.once; before = tt }
+
+bound_rows : (u : List Entry) (b : Option Binding) → ((x : Binding) → b ≡ Some x → is_message x.kind ≡ true → IsAdmittedUnder u x x.row) → Rows u → Rows (with_bound b u)
 bound_rows u None is was = was
 bound_rows u (Some x) is was =
-    let now = is x refl in
-    record { admitted = (subst (λ (up : Option TakenUp). IsAdmittedUnless (is_some up) u x) (sym now.0) now.1, was.admitted); once = bound_once u x x.row now.0 refl now.1 was.once was.before; before = tt }
+    by_test (is_message x.kind)
+    (λ fresh. let now = is x refl fresh in
+    record { admitted = (subst (λ (q : Bool). IsAdmittedIf q u x) (sym fresh) now, was.admitted); once = bound_once u x x.row fresh refl now was.once was.before; before = tt })
+    (λ again. again_rows u x again was)
 
-taken_rows : (u : List Entry) (b : Binding) (brought : TakenUp) → b.taken_up ≡ Some brought → Rows u → Rows (Bound b ∷ u)
-taken_rows u b brought marked was =
-    record { admitted = (subst (λ (up : Option TakenUp). IsAdmittedUnless (is_some up) u b) (sym marked) tt, was.admitted); once = taken_once u b brought marked was.once; before = tt }
+taken_rows : (u : List Entry) (b : Binding) (brought : TakenUp) → b.kind ≡ kind.TakenUp brought → Rows u → Rows (Bound b ∷ u)
+taken_rows u b brought marked was = again_rows u b (ap is_message marked) was
 
 goes_rows : (ps : List Put) (t : List Entry) → Rows t → Rows (goes ps t)
 goes_rows [] t was = was
@@ -223,14 +234,18 @@ ends_rows id (c ∷ cs) t was =
     let items : List Item = closing_of id (conn t c) ResourceLimitExceeded
     in ends_rows id cs (puts c items t) (goes_rows (each_to c items) t was)
 
-pub handled_rows : (id : List ℕ) (t : List Entry) (s : Step) → Rows t → Rows (handled id t s)
-handled_rows id t s was =
+pub resumed_rows : (id : List ℕ) (t : List Entry) (s : Step) → Rows t → Rows (resumed (booked t s.event) s.event (replied id (booked t s.event) s))
+resumed_rows id t s was =
     let at : List Entry = booked t s.event in
     let u : List Entry = heard id at s in
     let came : Rows u = ends_rows id (due t s.event) (Did s ∷ at) (did_rows s at (booked_keeps Rows t s.event (λ acts w. batch_rows t acts w) was)) in
-    let bound : Rows (with_bound (bound_by at u s.event) u) = bound_rows u (bound_by at u s.event) (λ x is. (bound_fresh id t s.event x is, bound_row id t s.event x is)) came in
-    all_keep Rows goes_rows (resumed at s.event (replied id at s))
-    (resumed_marked Rows taken_rows at s.event (replied id at s) (goes_rows (own_row id at u s.event) (with_bound (bound_by at u s.event) u) bound))
+    let bound : Rows (with_bound (bound_by at u s.event) u) = bound_rows u (bound_by at u s.event) (λ x is fresh. bound_row id t s.event x is fresh) came in
+    resumed_marked Rows taken_rows at s.event (replied id at s) (goes_rows (own_row id at u s.event) (with_bound (bound_by at u s.event) u) bound)
+
+pub handled_rows : (id : List ℕ) (t : List Entry) (s : Step) → Rows t → Rows (handled id t s)
+handled_rows id t s was =
+    let at : List Entry = booked t s.event in
+    all_keep Rows goes_rows (resumed at s.event (replied id at s)) (resumed_rows id t s was)
 
 pub moves_rows : (id : List ℕ) (ms : List Move) (t u : List Entry) → Rows t → Goes id ms t u → Rows u
 moves_rows id [] t u was went = subst (λ (w : List Entry). Rows w) (sym went) was

@@ -1,6 +1,6 @@
 -- What the laws require of each entry, and that they still hold after an entry that satisfies it.
 use Rattle.std.proofs.Common.{◌≡◌, sym, subst, ℕ, Bool, true, false, List, [], ◌∷◌, ◌++◌}
-use Rattle.std.specs.Prelude.{Option, is_some}
+use Rattle.std.specs.Prelude.{Option}
 use Rattle.amqp_model.specs.declared.perf.Disposition.{Disposition}
 use Rattle.amqp_model.specs.declared.perf.Perf.{Perf}
 use Rattle.amqp_model.specs.declared.perf.Perf.TheVariants as perf
@@ -11,12 +11,12 @@ use Rattle.amqp_model.specs.declared.item.Item.TheVariants as item
 use Rattle.router_trace.specs.Trace.{Beginning}
 use Rattle.router_trace.specs.Configuration.{beginning, opened}
 use Rattle.router_trace.specs.declared.binding.Binding.{Binding}
-use Rattle.router_trace.specs.declared.binding.TakenUp.{TakenUp}
+use Rattle.router_trace.specs.declared.binding.BindingKind.{BindingKind}
 use Rattle.book_model.specs.declared.act.Act.{Act}
 use Rattle.router_trace.specs.Trace.{Entry, Put, Did, Out, Took, Bound, Booked, Step, goes, each_to}
 use Rattle.theorems.specs.Each.{EachOut, EachBound}
 use Rattle.theorems.specs.Carried.{CarriesWhatWasBound}
-use Rattle.theorems.specs.Came.{Handled, just_handled, TakesUp, BindsAs, BindsOrTakesUp}
+use Rattle.theorems.specs.Came.{Handled, just_handled, TakesUp, BindsAs, BindsByKind}
 use Rattle.theorems.specs.Told.{role_tells, TellsAsGiven}
 use Rattle.theorems.proofs.Tests.{none_not_some}
 use Rattle.theorems.proofs.Carrying.{Unstarted, did_unstarted, out_unstarted, bound_unstarted}
@@ -26,7 +26,7 @@ use Rattle.theorems.proofs.Carrying.{Unstarted, did_unstarted, out_unstarted, bo
 pub record Sound (t : List Entry) : Type 0 where
   pub carries : EachOut CarriesWhatWasBound t
   pub tells : EachOut TellsAsGiven t
-  pub binds : EachBound BindsOrTakesUp t
+  pub binds : EachBound BindsByKind t
   pub unstarted : Unstarted t
 
 none_yet : (g : Beginning) (below : List Entry) → Unstarted (opened g below)
@@ -51,12 +51,12 @@ took_sound c n t sound = record { carries = sound.carries; tells = sound.tells; 
 pub batch_sound : (t : List Entry) (acts : List Act) {full : List ℕ} → Sound t → Sound (Booked acts full ∷ t)
 batch_sound t acts sound = record { carries = sound.carries; tells = sound.tells; binds = sound.binds; unstarted = sound.unstarted }
 
-pub bound_sound : (b : Binding) (t : List Entry) → BindsOrTakesUp t b → Sound t → Sound (Bound b ∷ t)
+pub bound_sound : (b : Binding) (t : List Entry) → BindsByKind t b → Sound t → Sound (Bound b ∷ t)
 bound_sound b t is sound = record { carries = sound.carries; tells = sound.tells; binds = (is, sound.binds); unstarted = bound_unstarted t b sound.unstarted }
 
 -- a row that is taken up
 pub taken_sound : (t : List Entry) (b : Binding) → TakesUp t b → Sound t → Sound (Bound b ∷ t)
-taken_sound t b takes sound = bound_sound b t (subst (λ (up : Option TakenUp). BindsAs (is_some up) t b) (sym takes.taken) takes) sound
+taken_sound t b takes sound = bound_sound b t (subst (λ (k : BindingKind). BindsAs k t b) (sym takes.taken) takes) sound
 
 -- an item that satisfies the laws
 

@@ -24,6 +24,9 @@ use Rattle.book_model.specs.declared.terminus.LinkRole.TheVariants.{Producer, Co
 use Rattle.book_model.specs.Keys.{rank, keys_total}
 use Rattle.router_trace.specs.Configuration.{opened}
 use Rattle.router_trace.specs.declared.binding.Binding.{Binding}
+use Rattle.router_trace.specs.declared.binding.BindingKind.{BindingKind}
+use Rattle.router_trace.specs.declared.binding.BindingKind.TheVariants as kind
+use Rattle.router_trace.specs.declared.binding.JoinedTo.TheVariants.{Standing as StandingOne, New}
 use Rattle.router_trace.specs.declared.binding.Origin.{Origin}
 use Rattle.router_trace.specs.declared.channel.PeerChannel.{PeerChannel}
 use Rattle.router_trace.specs.declared.event.Event.{Event}
@@ -35,9 +38,10 @@ use Rattle.router_trace.specs.Trace.{Beginning, Entry, Did, Out, Took, Bound, Bo
 use Rattle.router_trace.specs.Sessions.{maps, theirs}
 use Rattle.router_trace.specs.Links.{Link, Happened, durable_key, flowed_from, flowed_to, started, came_to, sends, receives, is_lost, ends_handle, ends_handle_in, handle_asked, answers_in, answers_by, answered_handle, asked, address_by, attachments, attached, after_our_flow, after_our_transfer, after_their_flow, after_their_transfer, is_handle, link_in, link_after, heard_link, link_by, link_at, names, names_by, their_handle, key_at, link, has_number, is_attached, if_attached, same_key, newest_in, last_of_key, holder}
 use Rattle.router_trace.specs.Following.{is_sending, link_of}
-use Rattle.router_trace.specs.Deliveries.{Delivery, bindings, name_in, delivery, source, is_undecided, ended_by, bound}
+use Rattle.router_trace.specs.Deliveries.{Delivery, name_in, delivery, source, either_origin, origin_of, joins_standing, brought, is_undecided, ended_by, bound}
 use Rattle.state_messages.specs.Messages.{standing_at}
-use Rattle.state_deliveries.proofs.Called.{uncalled}
+use Rattle.theorems.proofs.Rebound.{AfterBound, after_bound}
+use Rattle.theorems.proofs.Rebound.AfterBound.{is_new, is_joined, is_old}
 use Rattle.state_connections.proofs.Lists.{by_test}
 use Rattle.theorems.proofs.Tests.{some_same, none_not_some}
 use Rattle.theorems.proofs.Undecided.{lost_by, was_did, was_out}
@@ -393,7 +397,7 @@ item_new_key _ o h t c m here is = absurd cc
 
 -- an item that is put
 
-flipped : (a b : ℕ) (q : Bool) → (a == b) ≡ q → (b == a) ≡ q
+pub flipped : (a b : ℕ) (q : Bool) → (a == b) ≡ q → (b == a) ≡ q
 flipped a b true e = grind (arith, nat_tests)
 flipped a b false e = grind (arith, nat_tests)
 
@@ -446,6 +450,59 @@ out_standing d i t fresh was = record {
         let l = link_was (if d == c then ends_handle i o h else false) (link t c o h) (link (Out d i ∷ t) c o h) m (out_behaves d i t c o h apart) is in
         key_moved c o h l.before m (last_of_key (Out d i ∷ t)) l.same (item_keeps_key i d t c o h l.before fresh l.there (was.keys c o h l.before l.there))
 
+-- the link of a handle, after an item that ends it, and after one that doesn't
+
+abbrev pub place : ℕ → ℕ → ℕ → Attachment
+place c o h = record { number = 0; conn = record { 0 = c }; channel = o; handle = h }
+
+pub record LinkStays (t u : List Entry) (c o h : ℕ) : Type 0 where
+  pub now : is_some (link u c o h) ≡ true
+  pub durable : durable_key (link t c o h) ≡ durable_key (link u c o h)
+
+same_durable : (l m : Link) → SameLink l m → durable_key (Some l) ≡ durable_key (Some m)
+same_durable l m same = λ j. if sym same.durable j then Some (sym same.key j) else None
+
+pub did_stays : (s : Step) (t : List Entry) (c o h : ℕ) → is_some (link t c o h) ≡ true → is_lost s.event c ≡ false → LinkStays t (Did s ∷ t) c o h
+did_stays s t c o h some spared = by (link t c o h) refl some
+  where
+    by : (v : Option Link) → link t c o h ≡ v → is_some v ≡ true → LinkStays t (Did s ∷ t) c o h
+    by None there some = absurd (clash (sym some))
+    by (Some l) there some =
+        let now = link_is (is_lost s.event c) (link t c o h) (link (Did s ∷ t) c o h) l (event_behaves s.event c o h (theirs t c) (their_handle t c o) (link t c o h)) spared there in
+        record { now = ap is_some now.there; durable = ap durable_key there ∙ same_durable l now.behind now.same ∙ ap durable_key (sym now.there) }
+
+pub out_stays : (d : ℕ) (i : Item) (t : List Entry) (c o h : ℕ) → IsFresh t d i → Standing t → is_some (link t c o h) ≡ true → ended_by i d (place c o h) ≡ false → LinkStays t (Out d i ∷ t) c o h
+out_stays d i t c o h fresh standing some spared = by (link t c o h) refl some
+  where
+    by : (v : Option Link) → link t c o h ≡ v → is_some v ≡ true → LinkStays t (Out d i ∷ t) c o h
+    by None there some = absurd (clash (sym some))
+    by (Some l) there some =
+        let apart = apart_from d i t c o h l fresh (standing.answered c o h l there) in
+        let now = link_is (if d == c then ends_handle i o h else false) (link t c o h) (link (Out d i ∷ t) c o h) l (out_behaves d i t c o h apart) (spared_there d i (place c o h) spared) there in
+        record { now = ap is_some now.there; durable = ap durable_key there ∙ same_durable l now.behind now.same ∙ ap durable_key (sym now.there) }
+
+over_gone : (q : Bool) (v : Option Link) → q ≡ true → (if q then None else v) ≡ None
+over_gone true v e = refl
+over_gone false v e = absurd (clash (sym e))
+
+perf_gone : (body : Perf) (own o h number : ℕ) (key : AnAttach → LinkKey) (last : Option Asked) (v : Option Link) → ends_handle_in body own o h ≡ true
+    → link_in body own o h number key last v ≡ None
+perf_gone (perf.Attach a) own o h number key last v e = absurd (clash (sym e))
+perf_gone (perf.Flow f) own o h number key last v e = absurd (clash (sym e))
+perf_gone (perf.Transfer x) own o h number key last v e = absurd (clash (sym e))
+perf_gone body own o h number key last v e = over_gone (ends_handle_in body own o h) v e
+
+item_gone : (i : Item) (o h number : ℕ) (key : AnAttach → LinkKey) (last : Option Asked) (v : Option Link) → ends_handle i o h ≡ true → link_after i o h number key last v ≡ None
+item_gone (item.Frame sasl own body payload) o h number key last v e = perf_gone body own o h number key last v e
+item_gone _ o h number key last v e = absurd (clash (sym e))
+
+pub out_gone : (d : ℕ) (i : Item) (t : List Entry) (c o h : ℕ) → ended_by i d (place c o h) ≡ true → link (Out d i ∷ t) c o h ≡ None
+out_gone d i t c o h over = by (c == d) refl over
+  where
+    by : (q : Bool) → (c == d) ≡ q → (q && ends_handle i o h) ≡ true → link (Out d i ∷ t) c o h ≡ None
+    by true e over = rw (flipped c d true e) (item_gone i o h (attachments t + 1) (key_at t c) (asked t c) (link t c o h) over)
+    by false e over = absurd (clash (sym over))
+
 -- other entries
 
 pub took_standing : (c k : ℕ) (t : List Entry) → Standing t → Standing (Took c k ∷ t)
@@ -464,20 +521,37 @@ booked_standing t acts was = record {
   producers = was.producers;
 }
 
-pub bound_standing : (b : Binding) (t : List Entry) → Sends t b.consumer → ((p : Origin) → source (bound (name_in t b) b) ≡ Some p → is_attached t p.link ≡ true) → Standing t → Standing (Bound b ∷ t)
+pub bound_standing : (b : Binding) (t : List Entry) → (is_undecided (bound (name_in t b) b) ≡ true → Sends t b.consumer)
+    → ((p : Origin) → source (bound (name_in t b) b) ≡ Some p → is_attached t p.link ≡ true) → Standing t → Standing (Bound b ∷ t)
 bound_standing b t consumer producer was = record {
   answered = was.answered;
   keys = was.keys;
-  consumers = λ n d is undecided. by_test (bindings t + 1 == n)
-      (λ e. subst (λ (a : Attachment). Sends (Bound b ∷ t) a) (ap (λ (x : Delivery). x.link) (some_same (rw e at is))) (moved consumer))
-      (λ e. moved (was.consumers n d (uncalled (name_in t b) (delivery t n) d (rw e at is)).0 undecided));
-  producers = λ n d p is from. by_test (bindings t + 1 == n)
-      (λ e. producer p (ap source (some_same (rw e at is)) ∙ from))
-      (λ e. was.producers n d p (uncalled (name_in t b) (delivery t n) d (rw e at is)).0 from);
+  consumers = λ n d is undecided. by_consumer n d (after_bound b t n d is) undecided;
+  producers = λ n d p is from. by_producer n d p (after_bound b t n d is) from;
 }
   where
     moved : {a : Attachment} → Sends t a → Sends (Bound b ∷ t) a
     moved at = record { at = at.at; there = at.there; number = at.number; way = at.way }
+
+    by_consumer : (n : ℕ) (d : Delivery) → AfterBound b t n d → is_undecided d ≡ true → Sends (Bound b ∷ t) d.link
+    by_consumer n d (is_new new) undecided = subst (λ (a : Attachment). Sends (Bound b ∷ t) a) (ap (λ (x : Delivery). x.link) new.is) (moved (consumer (ap is_undecided new.is ∙ undecided)))
+    by_consumer n d (is_joined joins) undecided =
+        subst (λ (a : Attachment). Sends (Bound b ∷ t) a) (ap (λ (x : Delivery). x.link) joins.is) (moved (was.consumers n joins.before joins.there (ap is_undecided joins.is ∙ undecided)))
+    by_consumer n d (is_old there) undecided = moved (was.consumers n d there undecided)
+
+    -- the origin that a binding joins is its own
+    own_origin : (k : BindingKind) (p : Origin) → joins_standing k ≡ Some p → either_origin (origin_of k) (brought (λ u. u.told) k) ≡ Some p
+    own_origin (kind.Message o) p is = absurd (none_not_some is)
+    own_origin (kind.TakenUp u) p is = absurd (none_not_some is)
+    own_origin (kind.Joined q StandingOne) p is = is
+    own_origin (kind.Joined q (New o)) p is = absurd (none_not_some is)
+
+    by_producer : (n : ℕ) (d : Delivery) (p : Origin) → AfterBound b t n d → source d ≡ Some p → is_attached t p.link ≡ true
+    by_producer n d p (is_new new) from = producer p (ap source new.is ∙ from)
+    by_producer n d p (is_joined joins) from =
+        let same : Some joins.origin ≡ Some p = ap source joins.is ∙ from in
+        producer p (own_origin b.kind p (joins.joins ∙ same))
+    by_producer n d p (is_old there) from = was.producers n d p there from
 
 -- a durable link that stands keeps its key
 

@@ -1,6 +1,6 @@
 -- The outcome of each delivery is reported at most once: after that no report is due.
 use Rattle.std.proofs.Common.{◌≡◌, ◌∙◌, sym, ap, refl, subst, ◌⊎◌, inl, inr, ℕ, ◌+◌, ◌≤◌, Bool, true, false, ◌&&◌, List, [], ◌∷◌, ◌++◌, arith}
-use Rattle.std.specs.Prelude.{◌==◌, ◌^◌, nat_lt, nat_le, Option, Some, None, if◌then◌else◌, option_and_then, unwrap_or}
+use Rattle.std.specs.Prelude.{◌==◌, ◌^◌, nat_lt, nat_le, Option, Some, None, if◌then◌else◌, option_and_then, option_map, unwrap_or}
 use Rattle.std.proofs.lemmas.Bool.{eqb-true}
 use Rattle.amqp_model.specs.declared.perf.Disposition.{Disposition}
 use Rattle.amqp_model.specs.declared.perf.Perf.{Perf}
@@ -9,17 +9,19 @@ use Rattle.amqp_model.specs.declared.perf.Role.{Role}
 use Rattle.amqp_model.specs.declared.perf.Role.TheVariants.{Sender, Receiver}
 use Rattle.amqp_model.specs.declared.item.Item.{Item}
 use Rattle.amqp_model.specs.declared.item.Item.TheVariants as item
+use Rattle.router_trace.specs.declared.binding.Binding.{Binding}
 use Rattle.router_trace.specs.declared.binding.DeliveryName.{DeliveryName}
 use Rattle.router_trace.specs.declared.binding.Origin.{Origin}
-use Rattle.router_trace.specs.Trace.{Entry, Did, Out, Took, Bound, Booked, Began, IsOneRun}
-use Rattle.router_trace.specs.Deliveries.{Delivery, bindings, name_in, same_name, number_named, unless_called, delivery, sending, named, unless_over, either_origin, source, untold, unsettled, told, is_meant, last_of, origin_id, ended_by, after_put, after_event, channels_found, acts_found}
+use Rattle.router_trace.specs.Trace.{Entry, Did, Out, Took, Bound, Booked, Began, is_opening, IsOneRun}
+use Rattle.router_trace.specs.Deliveries.{Delivery, bindings, bound, joined, joins_standing, with_binding, with_origin, name_in, same_name, number_named, unless_called, delivery, sending, named, unless_over, either_origin, source, untold, unsettled, told, is_meant, last_of, origin_id, ended_by, after_put, after_event, channels_found, acts_found}
 use Rattle.amqp_session.specs.Serials.{distance}
 use Rattle.amqp_session.specs.Ranges.{in_range}
-use Rattle.theorems.specs.OneConsumer.{IsOrNone, WhileThere}
-use Rattle.theorems.specs.Told.{tells_as, tells_in, tells, tellings, IsUnder}
+use Rattle.theorems.specs.OneConsumer.{IsOrNone, is_row_of, joined_in, WhileThere}
+use Rattle.theorems.specs.Told.{is_joined, tells_as, tells_in, tells, tellings, IsUnder}
 use Rattle.state_connections.proofs.Lists.{by_test}
-use Rattle.theorems.proofs.Followed.{Left, Frames, ends_left, item_left, event_left, Follows, AllFollow, all_bound, unless_left, entry_follows}
+use Rattle.theorems.proofs.Followed.{Left, Frames, ends_left, item_left, event_left, Follows, AllFollow, all_bound, more_bound, unless_left, item_follows, event_follows, entry_follows, has_its_row}
 use Rattle.theorems.proofs.Bindings.{there_bound}
+use Rattle.theorems.proofs.Tests.{none_not_some}
 
 abbrev NoOrigin : Delivery → Type 0
 NoOrigin d = d.origin ≡ None
@@ -87,18 +89,22 @@ not_again (item.Frame sasl own body payload) c None none = refl
 not_again (item.Frame sasl own body payload) c (Some d) none = ap (λ (origin : Option Origin). tells_in body c own origin) none ∙ not_in body c own
 not_again _ c v none = refl
 
-follows_none : (d e : Delivery) → d.origin ≡ None → Follows d e → e.origin ≡ None
+follows_none : (d e : Delivery) → d.origin ≡ None → Follows None d e → e.origin ≡ None
 follows_none d e none follows = by follows.origin
   where
     by : IsOrNone e.origin d.origin → e.origin ≡ None
     by (inl is) = is ∙ none
     by (inr is) = is
 
-all_none : (v w : Option Delivery) → WhileThere NoOrigin v → AllFollow v w → WhileThere NoOrigin w
-all_none None None none follows = tt
-all_none None (Some e) none follows = absurd cc
-all_none (Some d) None none follows = tt
-all_none (Some d) (Some e) none follows = follows_none d e none follows
+-- an entry that joins nothing gives no delivery an origin
+quiet_none : (x : Entry) (t : List Entry) (n : ℕ) → ((name : DeliveryName) → joined_in (x ∷ []) name ≡ None) → WhileThere NoOrigin (delivery t n) → n ≤ bindings t → WhileThere NoOrigin (delivery (x ∷ t) n)
+quiet_none x t n nothing none given = by (delivery t n) (delivery (x ∷ t) n) none (entry_follows x t n given)
+  where
+    by : (v w : Option Delivery) → WhileThere NoOrigin v → AllFollow (x ∷ []) v w → WhileThere NoOrigin w
+    by None None none follows = tt
+    by None (Some e) none follows = absurd cc
+    by (Some d) None none follows = tt
+    by (Some d) (Some e) none follows = follows_none d e none (subst (λ (o : Option Origin). Follows o d e) (nothing d.name) follows)
 
 -- at most once
 
@@ -142,8 +148,35 @@ put_spent c i t n was = by_test (tells i c (delivery t n)) (λ e. now e was) (λ
     then_same e (inr spent) = inr (record {
       once = rw e (same_count (tellings t n) 0 1 refl spent.once);
       given = spent.given;
-      none = all_none (delivery t n) (delivery (Out c i ∷ t) n) spent.none (entry_follows (Out c i) t n spent.given);
+      none = quiet_none (Out c i) t n (λ name. refl) spent.none spent.given;
     })
+
+-- a binding gives no other delivery an origin than the one that it joins
+unjoined_none : (b : Binding) (t : List Entry) (n : ℕ) → is_joined (joins_standing b.kind) (name_in t b) (delivery t n) ≡ false → n ≤ bindings t → WhileThere NoOrigin (delivery t n)
+    → WhileThere NoOrigin (delivery (Bound b ∷ t) n)
+unjoined_none b t n apart given none = by (joins_standing b.kind) apart
+  where
+    newest : DeliveryName
+    newest = name_in t b
+
+    too_high : n ≤ bindings t → bindings t + 1 ≡ n → ⊥
+    too_high h e = omega (arith, h, e)
+
+    uncalled_none : (v : Option Delivery) → WhileThere NoOrigin v → WhileThere NoOrigin (unless_called newest v)
+    uncalled_none None h = tt
+    uncalled_none (Some d) h = by_name (same_name d.name newest)
+      where
+        by_name : (q : Bool) → WhileThere NoOrigin (if q then None else Some d)
+        by_name true = tt
+        by_name false = h
+
+    other_none : (p : Origin) (v : Option Delivery) → is_joined (Some p) newest v ≡ false → WhileThere NoOrigin v → WhileThere NoOrigin (option_map (joined newest p) v)
+    other_none p None e h = tt
+    other_none p (Some d) e h = ap (λ (q : Bool). (if q then with_origin p d else d).origin) e ∙ h
+
+    by : (j : Option Origin) → is_joined j newest (delivery t n) ≡ false → WhileThere NoOrigin (with_binding j newest b (bindings t + 1 == n) (delivery t n))
+    by None e = by_test (bindings t + 1 == n) (λ f. absurd (too_high given (eqb-true (bindings t + 1) n f))) (λ f. rw f (uncalled_none (delivery t n) none))
+    by (Some p) e = other_none p (delivery t n) e none
 
 pub spent : (u : List Entry) (n : ℕ) → Spent u n
 spent [] n = inl refl
@@ -151,7 +184,7 @@ spent (Did s ∷ t) n = by (spent t n)
   where
     by : Spent t n → Spent (Did s ∷ t) n
     by (inl none) = inl none
-    by (inr was) = inr (record { once = was.once; given = was.given; none = all_none (delivery t n) (delivery (Did s ∷ t) n) was.none (entry_follows (Did s) t n was.given) })
+    by (inr was) = inr (record { once = was.once; given = was.given; none = quiet_none (Did s) t n (λ name. refl) was.none was.given })
 spent (Out c i ∷ t) n = put_spent c i t n (spent t n)
 spent (Took c k ∷ t) n = by (spent t n)
   where
@@ -164,17 +197,14 @@ spent (Booked acts full ∷ t) n = by (spent t n)
     by : Spent t n → Spent (Booked acts full ∷ t) n
     by (inl none) = inl none
     by (inr was) = inr (record { once = was.once; given = was.given; none = was.none })
-spent (Bound b ∷ t) n = by (spent t n)
+spent (Bound b ∷ t) n = by_test (is_joined (joins_standing b.kind) (name_in t b) (delivery t n)) (λ e. inl (rw e refl)) (λ e. as_before e (spent t n))
   where
-    higher : (a k : ℕ) → a ≤ k → a ≤ k + 1
-    higher a k h = omega (arith, h)
-
-    by : Spent t n → Spent (Bound b ∷ t) n
-    by (inl none) = inl none
-    by (inr was) = inr (record {
-      once = was.once;
-      given = higher n (bindings t) was.given;
-      none = all_none (delivery t n) (delivery (Bound b ∷ t) n) was.none (entry_follows (Bound b) t n was.given);
+    as_before : is_joined (joins_standing b.kind) (name_in t b) (delivery t n) ≡ false → Spent t n → Spent (Bound b ∷ t) n
+    as_before e (inl none) = inl (rw e none)
+    as_before e (inr was) = inr (record {
+      once = rw e was.once;
+      given = more_bound (Bound b) t n refl was.given;
+      none = unjoined_none b t n e was.given was.none;
     })
 
 pub told_at_most_once : (u : List Entry) (n : ℕ) → tellings u n ≤ 1
@@ -228,39 +258,81 @@ was_left c own id = record {
 was_frames : (c own id : ℕ) → Frames (WasUnder c own id)
 was_frames c own id x count d under = under
 
-not_under : (c own id : ℕ) (f : Delivery → Delivery) → ((d : Delivery) → WasUnder c own id d (f d)) → (v : Option Delivery) → WhileThere (NotUnder c own id) v
-    → WhileThere (NotUnder c own id) (option_and_then (λ d. unless_over (f d)) v)
-not_under c own id f was None none = tt
-not_under c own id f was (Some d) none = unless_left (NotUnder c own id) (f d) (λ under. none (was d under))
+-- ... unless a producer's delivery is joined to it
+abbrev UnlessJoined : ℕ → ℕ → ℕ → List Entry → Delivery → Type 0
+UnlessJoined c own id later d = joined_in later d.name ≡ None → NotUnder c own id d
 
-uncalled_under : (c own id : ℕ) (name : DeliveryName) (v : Option Delivery) → WhileThere (NotUnder c own id) v → WhileThere (NotUnder c own id) (unless_called name v)
-uncalled_under c own id name None none = none
-uncalled_under c own id name (Some d) none = by (same_name d.name name)
+abbrev Under : ℕ → ℕ → ℕ → List Entry → List Entry → ℕ → Type 0
+Under c own id later t n = WhileThere (UnlessJoined c own id later) (delivery t n)
+
+-- what changes no name, and gives no report that is due
+changed_under : (c own id : ℕ) (later : List Entry) (f : Delivery → Delivery) → ((d : Delivery) → WasUnder c own id d (f d)) → ((d : Delivery) → (f d).name ≡ d.name)
+    → (v : Option Delivery) → WhileThere (UnlessJoined c own id later) v → WhileThere (UnlessJoined c own id later) (option_and_then (λ d. unless_over (f d)) v)
+changed_under c own id later f was named None none = tt
+changed_under c own id later f was named (Some d) none =
+    unless_left (UnlessJoined c own id later) (f d) (λ alone under. none (sym (ap (joined_in later) (named d)) ∙ alone) (was d under))
+
+-- a binding
+bound_under : (c own id : ℕ) (later : List Entry) (b : Binding) (t : List Entry) (n : ℕ) → n ≤ bindings t → Under c own id later t n → Under c own id (Bound b ∷ later) (Bound b ∷ t) n
+bound_under c own id later b t n given none = by (joins_standing b.kind) refl
   where
-    by : (b : Bool) → WhileThere (NotUnder c own id) (if b then None else Some d)
-    by true = tt
-    by false = none
+    newest : DeliveryName
+    newest = name_in t b
 
-entry_under : (c own id : ℕ) (e : Entry) (t : List Entry) (n : ℕ) → n ≤ bindings t → WhileThere (NotUnder c own id) (delivery t n)
-    → WhileThere (NotUnder c own id) (delivery (e ∷ t) n)
-entry_under c own id (Did s) t n given none =
-    not_under c own id (after_event s.event (channels_found t) (named t) (acts_found t) n) (event_left (WasUnder c own id) (was_left c own id) s.event (channels_found t) (named t) (acts_found t) n) (delivery t n) none
-entry_under c own id (Out d i) t n given none =
-    not_under c own id (after_put (number_named t) i d n (sending t d)) (item_left (WasUnder c own id) (was_left c own id) (was_frames c own id) (number_named t) i d n (sending t d)) (delivery t n) none
-entry_under c own id (Took d k) t n given none = none
-entry_under c own id (Began g) t n given none = tt
-entry_under c own id (Booked acts full) t n given none = none
-entry_under c own id (Bound b) t n given none =
-    by_test (bindings t + 1 == n) (λ e. absurd (too_high n (bindings t) given (eqb-true (bindings t + 1) n e))) (λ e. rw e (uncalled_under c own id (name_in t b) (delivery t n) none))
+    too_high : n ≤ bindings t → bindings t + 1 ≡ n → ⊥
+    too_high h e = omega (arith, h, e)
+
+    before : (name : DeliveryName) → joined_in (Bound b ∷ later) name ≡ None → joined_in later name ≡ None
+    before name = by_row (is_row_of b.row name) (joins_standing b.kind)
+      where
+        by_row : (q : Bool) (j : Option Origin) → (if q then either_origin j (joined_in later name) else joined_in later name) ≡ None → joined_in later name ≡ None
+        by_row true None e = e
+        by_row true (Some p) e = absurd (none_not_some (sym e))
+        by_row false j e = e
+
+    stays : (v : Option Delivery) → WhileThere (UnlessJoined c own id later) v → WhileThere (UnlessJoined c own id (Bound b ∷ later)) (unless_called newest v)
+    stays None h = tt
+    stays (Some d) h = by_name (same_name d.name newest)
+      where
+        by_name : (q : Bool) → WhileThere (UnlessJoined c own id (Bound b ∷ later)) (if q then None else Some d)
+        by_name true = tt
+        by_name false = λ alone. h (before d.name alone)
+
+    joins : (p : Origin) → joins_standing b.kind ≡ Some p → (v : Option Delivery) → delivery t n ≡ v → WhileThere (UnlessJoined c own id later) v
+        → WhileThere (UnlessJoined c own id (Bound b ∷ later)) (option_map (joined newest p) v)
+    joins p is None there h = tt
+    joins p is (Some d) there h =
+        by_test (same_name d.name newest)
+        (λ e. rw e (λ alone. absurd (none_not_some (sym alone ∙ of_row (sym (has_its_row t n d b there) ∙ e)))))
+        (λ e. rw e (λ alone. h (before d.name alone)))
+      where
+        of_row : is_row_of b.row d.name ≡ true → joined_in (Bound b ∷ later) d.name ≡ Some p
+        of_row e = ap (λ (q : Bool). if q then either_origin (joins_standing b.kind) (joined_in later d.name) else joined_in later d.name) e ∙ ap (λ (j : Option Origin). either_origin j (joined_in later d.name)) is
+
+    by : (j : Option Origin) → joins_standing b.kind ≡ j → WhileThere (UnlessJoined c own id (Bound b ∷ later)) (with_binding j newest b (bindings t + 1 == n) (delivery t n))
+    by None is = by_test (bindings t + 1 == n) (λ e. absurd (too_high given (eqb-true (bindings t + 1) n e))) (λ e. rw e (stays (delivery t n) none))
+    by (Some p) is = joins p is (delivery t n) refl none
+
+entry_under : (c own id : ℕ) (later : List Entry) (e : Entry) (t : List Entry) (n : ℕ) → is_opening e ≡ false → n ≤ bindings t → Under c own id later t n → Under c own id (e ∷ later) (e ∷ t) n
+entry_under c own id later (Did s) t n one given none =
+    changed_under c own id later (after_event s.event (channels_found t) (named t) (acts_found t) n) (event_left (WasUnder c own id) (was_left c own id) s.event (channels_found t) (named t) (acts_found t) n)
+    (λ d. (event_follows s.event (channels_found t) (named t) (acts_found t) n d).name) (delivery t n) none
+entry_under c own id later (Out d i) t n one given none =
+    changed_under c own id later (after_put (number_named t) i d n (sending t d)) (item_left (WasUnder c own id) (was_left c own id) (was_frames c own id) (number_named t) i d n (sending t d))
+    (λ e. (item_follows (number_named t) i d n (sending t d) e).name) (delivery t n) none
+entry_under c own id later (Took d k) t n one given none = none
+entry_under c own id later (Began g) t n one given none = absurd cc
+entry_under c own id later (Booked acts full) t n one given none = none
+entry_under c own id later (Bound b) t n one given none = bound_under c own id later b t n given none
+
+later_under : (c own id : ℕ) (later t : List Entry) (n : ℕ) → IsOneRun later → n ≤ bindings t → WhileThere (NotUnder c own id) (delivery t n) → Under c own id later (later ++ t) n
+later_under c own id [] t n one given none = first (delivery t n) none
   where
-    too_high : (n k : ℕ) → n ≤ k → k + 1 ≡ n → ⊥
-    too_high n k h e = omega (arith, h, e)
-
-later_under : (c own id : ℕ) (later t : List Entry) (n : ℕ) → IsOneRun later → n ≤ bindings t → WhileThere (NotUnder c own id) (delivery t n)
-    → WhileThere (NotUnder c own id) (delivery (later ++ t) n)
-later_under c own id [] t n one given none = none
+    first : (v : Option Delivery) → WhileThere (NotUnder c own id) v → WhileThere (UnlessJoined c own id []) v
+    first None h = tt
+    first (Some d) h = λ alone. h
 later_under c own id (e ∷ later) t n one given none =
-    entry_under c own id e (later ++ t) n (all_bound later t n one.1 given) (later_under c own id later t n one.1 given none)
+    entry_under c own id later e (later ++ t) n one.0 (all_bound later t n one.1 given) (later_under c own id later t n one.1 given none)
 
 -- the id of a disposition of one id is in its range
 own_range : (first : ℕ) → in_range first first first ≡ true
@@ -287,7 +359,7 @@ told_under Receiver x c own d role one under =
     clash e = cc
 
 pub told_anew : (t later : List Entry) (c own : ℕ) (sasl : Bool) (x : Disposition) (payload : List ℕ) (n : ℕ) → IsOneRun later → x.role ≡ Receiver → x.last ≡ None
-    → n ≤ bindings t → WhileThere (λ d. IsUnder c own x.first d → ⊥) (delivery (later ++ Out c (item.Frame sasl own (perf.Disposition x) payload) ∷ t) n)
+    → n ≤ bindings t → WhileThere (λ d. joined_in later d.name ≡ None → IsUnder c own x.first d → ⊥) (delivery (later ++ Out c (item.Frame sasl own (perf.Disposition x) payload) ∷ t) n)
 told_anew t later c own sasl x payload n run role one given =
     later_under c own x.first later (Out c (item.Frame sasl own (perf.Disposition x) payload) ∷ t) n run given (by (delivery t n))
   where

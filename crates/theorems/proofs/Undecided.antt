@@ -203,7 +203,7 @@ event_closed _ known names acts n d e = e
 pub record Was (gone : Attachment → Bool) (t : List Entry) (n : ℕ) (e : Delivery) : Type 0 where
   pub before : Delivery
   pub there : delivery t n ≡ Some before
-  pub follows : Follows before e
+  pub follows : Follows None before e
   pub undecided : is_undecided e ≡ true → is_undecided before ≡ true
   pub comes : Comes before e
   -- its link is none of those that end, nor is the producer's
@@ -239,7 +239,7 @@ was_did s t n e now =
     in record {
       before = was.0;
       there = was.1;
-      follows = subst (λ (f : Delivery). Follows was.0 f) (sym was.2) (event_follows s.event (channels_found t) (named t) (acts_found t) n was.0);
+      follows = subst (λ (f : Delivery). Follows None was.0 f) (sym was.2) (event_follows s.event (channels_found t) (named t) (acts_found t) n was.0);
       undecided = open_before (after_event s.event (channels_found t) (named t) (acts_found t) n) (event_closed s.event (channels_found t) (named t) (acts_found t) n) was.0 e was.2;
       comes = subst (λ (f : Delivery). Comes was.0 f) (sym was.2) (event_left Comes comes_left s.event (channels_found t) (named t) (acts_found t) n was.0);
       spares = λ h. event_spares s.event (channels_found t) (named t) (acts_found t) n was.0 (sym (ap is_undecided was.2) ∙ h);
@@ -252,7 +252,7 @@ was_out c i t n e now =
     in record {
       before = was.0;
       there = was.1;
-      follows = subst (λ (f : Delivery). Follows was.0 f) (sym was.2) (item_follows (number_named t) i c n (sending t c) was.0);
+      follows = subst (λ (f : Delivery). Follows None was.0 f) (sym was.2) (item_follows (number_named t) i c n (sending t c) was.0);
       undecided = open_before (after_put (number_named t) i c n (sending t c)) (put_closed (number_named t) i c n (sending t c)) was.0 e was.2;
       comes = subst (λ (f : Delivery). Comes was.0 f) (sym was.2) (item_left Comes comes_left comes_frames (number_named t) i c n (sending t c) was.0);
       spares = λ h. put_spares (number_named t) i c n (sending t c) was.0 (sym (ap is_undecided was.2) ∙ h);

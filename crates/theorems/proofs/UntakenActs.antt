@@ -1,6 +1,6 @@
 -- What takes don't change: an event that ends no connection has the same acts in a trace without its takes, and so its item has the same answer.
 use Rattle.std.proofs.Common.{◌≡◌, ◌∙◌, ap, refl, ℕ, ◌+◌, ◌-◌, ◌^◌, Bool, true, false, List, [], ◌∷◌, ◌++◌, map}
-use Rattle.std.specs.Prelude.{Option, Some, None, ◌||◌, if◌then◌else◌, is_none, option_map, option_and_then}
+use Rattle.std.specs.Prelude.{Option, Some, None, ◌||◌, if◌then◌else◌, is_none, is_some, filter, filter_map, option_map, option_and_then}
 use Rattle.amqp_model.specs.declared.perf.Disposition.{Disposition as ADisposition}
 use Rattle.amqp_model.specs.declared.perf.Perf.{Perf}
 use Rattle.amqp_model.specs.declared.perf.Perf.TheVariants as perf
@@ -35,7 +35,7 @@ use Rattle.router_trace.specs.Deliveries.{last_of, none_if_ended}
 use Rattle.router_trace.specs.LinkFrames.{plain_answer}
 use Rattle.router_trace.specs.Links.{Link, link, link_place, durable_key}
 use Rattle.router_trace.specs.Sessions.{own_of, session_on}
-use Rattle.router_trace.specs.Settling.{middle_on, part_of}
+use Rattle.router_trace.specs.Settling.{ids_between, middle_on, part_of}
 use Rattle.state_links.specs.Fits.{channel_of}
 use Rattle.state_deliveries.specs.declared.change.Change.{Change}
 use Rattle.state_deliveries.specs.Deciding.{gathered_below, decision_of, decided_rows, row_from, rows_from}
@@ -47,14 +47,15 @@ use Rattle.reply_rows.specs.Booking.{answer_at}
 use Rattle.router_reply.specs.Admitting.{without_acts, terminus_for, admission_of, admitted_to, whole_admission, part_admission, taken_admission, unless_ends, event_admission, admits}
 use Rattle.router_reply.specs.Asking.{attach_in, decided_for, map_decides, forgotten_for, map_forgets}
 use Rattle.router_reply.specs.Deciding.{lost, stolen_from, stolen_for, ended_by, listed, event_changes, as_kept, decided, settled_on, sent_from, closed_terminus, forgotten_by, forgotten_in, item_forgets, forgotten, made_for, terminus_by, terminus_in, terminus_of_event}
-use Rattle.router_reply.specs.Joining.{settled_whole, row_joined, is_held_on, unless_held, settled_by_transfer}
+use Rattle.router_reply.specs.Joining.{settled_whole, is_held_on, unless_held, settled_by_transfer, rows_claimed}
+use Rattle.reply_transfers.specs.Joining.{row_joined}
 use Rattle.router_reply.specs.Acts.{Journaled, live_answer, event_answer, answer_acts, planned_acts, admitted_acts, or_admits, event_acts, finds_full, journaled, book_in, acts_of, before_acts, found_journal, full_at, answer_of}
 use Rattle.theorems.specs.Takes.{untaken}
 use Rattle.theorems.proofs.Plain.{plain, Calm, stood_found}
 use Rattle.theorems.proofs.Untaken.{same_theirs, same_journaled}
-use Rattle.theorems.proofs.UntakenDeliveries.{same_bindings, same_delivery}
+use Rattle.theorems.proofs.UntakenDeliveries.{same_bindings, same_delivery, same_claims}
 use Rattle.theorems.proofs.UntakenLinks.{same_key_at, same_link, same_link_place, same_holder}
-use Rattle.theorems.proofs.UntakenRows.{same_answer_at, same_consumer_at, same_claimed_id, same_taken_key, same_resumed_key}
+use Rattle.theorems.proofs.UntakenRows.{same_answer_at, same_row_under, same_consumer_at, same_claimed_id, same_taken_key, same_resumed_key}
 
 -- What an event that ends no connection does to the book, by what events alone leave of its connection: the changes of deliveries that it brings,
 -- the rows that it decides, the answer to its item, what is planned, and what is admitted.
@@ -154,10 +155,13 @@ same_decided b t e a none = λ j. same_changed t e a none j ++ decided_for b (at
 same_rows_from : (t : List Entry) (c o first last : ℕ) → rows_from t c o first last ≡ rows_from (untaken t) c o first last
 same_rows_from t c o first last = λ j. gathered_below (same_bindings t j + 1) (λ n. row_from c o first last (same_delivery t n j))
 
-same_settled : (t : List Entry) (c : ℕ) (own : Option ℕ) (r : Role) (x : ADisposition) → settled_on t c own r x ≡ settled_on (untaken t) c own r x
-same_settled t c (Some own) Sender x = ap (λ (rows : List RowNumber). if x.settled then rows else []) (same_rows_from t c own x.first (last_of x))
-same_settled t c (Some own) Receiver x = refl
-same_settled t c None r x = refl
+same_rows_claimed : (b : BookView) (t : List Entry) (c o first last : ℕ) → rows_claimed b t c o first last ≡ rows_claimed b (untaken t) c o first last
+same_rows_claimed b t c o first last = λ j. filter_map (λ id. option_map (λ r. r.number) (same_row_under b t c o id j)) (filter (λ id. is_some (same_claims t c o id j)) (ids_between first last))
+
+same_settled : (b : BookView) (t : List Entry) (c : ℕ) (own : Option ℕ) (r : Role) (x : ADisposition) → settled_on b t c own r x ≡ settled_on b (untaken t) c own r x
+same_settled b t c (Some own) Sender x = ap (λ (rows : List RowNumber). if x.settled then rows else []) (same_rows_claimed b t c own x.first (last_of x))
+same_settled b t c (Some own) Receiver x = refl
+same_settled b t c None r x = refl
 
 same_closed : (b : BookView) (t : List Entry) (c : ℕ) (a : Answer) → closed_terminus b t c a ≡ closed_terminus b (untaken t) c a
 same_closed b t c (Detach own handle true None) = ap (λ (l : Option Link). option_and_then (λ key. terminus_of key b.termini) (durable_key l)) (same_link t c own handle)
@@ -181,7 +185,7 @@ same_transfer b t c x _ = refl
 same_forgotten_by : (b : BookView) (t : List Entry) (c : ℕ) (own : Option ℕ) (body : Perf) (a : Answer)
     → forgotten_by b t c own body a ≡ forgotten_by b (untaken t) c own body a
 same_forgotten_by b t c own (perf.Transfer x) a = same_transfer b t c x a
-same_forgotten_by b t c own (perf.Disposition x) a = same_settled t c own x.role x
+same_forgotten_by b t c own (perf.Disposition x) a = same_settled b t c own x.role x
 same_forgotten_by b t c own (perf.Detach x) a = ap (sent_from b) (same_closed b t c a)
 same_forgotten_by b t c own _ a = refl
 

@@ -1,6 +1,6 @@
 -- What takes don't change: a trace without its takes has the same grants, and chooses the same consumers.
-use Rattle.std.proofs.Common.{◌≡◌, ◌∙◌, refl, ℕ, ◌+◌, ◌==◌, ◌&&◌, List, [], ◌∷◌, ◌++◌}
-use Rattle.std.specs.Prelude.{Option, Some, None, if◌then◌else◌, is_none}
+use Rattle.std.proofs.Common.{◌≡◌, ◌∙◌, ap, refl, ℕ, ◌+◌, ◌==◌, ◌&&◌, List, [], ◌∷◌, ◌++◌}
+use Rattle.std.specs.Prelude.{length, ◌||◌, Option, Some, None, if◌then◌else◌}
 use Rattle.amqp_link.specs.Credit as credit
 use Rattle.route_credit.specs.Granting.{choice, grants_of}
 use Rattle.state_pools.specs.Sharing.{Figure, consumer, producer, sharing}
@@ -8,16 +8,17 @@ use Rattle.router_trace.specs.declared.handle.Attachment.{Attachment}
 use Rattle.router_trace.specs.Trace.{Entry, Did, Out, Took, Bound, Booked, Began}
 use Rattle.route_table.specs.Places.{distribution_of}
 use Rattle.router_trace.specs.Configuration.{routing, distribution}
-use Rattle.router_trace.specs.Links.{Link, Happened, sends, receives, numbered, attachments}
-use Rattle.router_trace.specs.Deliveries.{waits_on, undecided_on, held_from}
+use Rattle.router_trace.specs.Links.{Link, Happened, sends, receives, if_attached, numbered, place_of, attachments}
+use Rattle.router_trace.specs.Deliveries.{is_message, waits_on, undecided_on, held_from}
 use Rattle.router_trace.specs.Following.{link_of}
 use Rattle.router_trace.specs.Numbers.{count_below}
+use Rattle.state_links.specs.Looking.{link_on, numbered_link}
 use Rattle.state_messages.specs.declared.grant.LinkGrant.{LinkGrant}
 use Rattle.state_messages.specs.Figures.{waiting, undecided, held, free_of, unused_credit, figure_by, figure_on, figure_at, figure}
-use Rattle.state_messages.specs.Messages.{is_of, last_chosen, pool_of, choice_of, grant_on, grant_at, grants_on, if_some, wants, lowest_below, grants_of_address, grants, grant_flow, grant_flows, grants_due}
+use Rattle.state_messages.specs.Messages.{is_of, last_chosen, pool_of, choice_of, grant_on, grant_at, grants_on, if_some, wants, lowest_below, grants_of_address, lent, owes_some, owed, or_owed, grants, grant_flow, grant_flows, grants_due}
 use Rattle.theorems.specs.Takes.{untaken}
 use Rattle.theorems.proofs.Untaken.{same_session}
-use Rattle.theorems.proofs.UntakenLinks.{same_attachments, same_link}
+use Rattle.theorems.proofs.UntakenLinks.{same_attached, same_attachments, same_link}
 use Rattle.theorems.proofs.UntakenDeliveries.{same_bindings, same_delivery, same_numbered}
 
 -- what each link has
@@ -33,8 +34,8 @@ same_held t number = λ j. count_below (same_bindings t j + 1) (λ n. held_from 
 
 same_figure_by : (t : List Entry) (l : Link) (h : Happened) → figure_by t l h ≡ figure_by (untaken t) l h
 same_figure_by t l (sends list) =
-    λ j. consumer l.address (free_of l.drains (credit.credit list) (same_waiting t l.number j) (same_undecided t l.number j)) (same_undecided t l.number j)
-same_figure_by t l (receives list) = λ j. producer l.address (unused_credit list) (same_held t l.number j)
+    λ j. consumer l.address (free_of (l.drains || l.incomplete) (credit.credit list) (same_waiting t l.number j) (same_undecided t l.number j)) (same_undecided t l.number j)
+same_figure_by t l (receives list) = λ j. producer l.address (unused_credit list + l.owes_due) (length l.due) (same_held t l.number j)
 
 same_figure_on : (t : List Entry) (number : ℕ) (v : Option Link) → figure_on t number v ≡ figure_on (untaken t) number v
 same_figure_on t number None = refl
@@ -71,7 +72,7 @@ same_last (Out c i ∷ t) address = same_last t address
 same_last (Took c n ∷ t) address = same_last t address
 same_last (Began g ∷ t) address = refl
 same_last (Bound b ∷ t) address =
-    λ j. if is_none b.taken_up && is_of address (same_link t b.consumer.conn.0 b.consumer.channel b.consumer.handle j) b.consumer.number then b.consumer.number else same_last t address j
+    λ j. if is_message b.kind && is_of address (same_link t b.consumer.conn.0 b.consumer.channel b.consumer.handle j) b.consumer.number then b.consumer.number else same_last t address j
 same_last (Booked acts full ∷ t) address = same_last t address
 
 same_pool : (t : List Entry) (address : List ℕ) → pool_of t address ≡ pool_of (untaken t) address
@@ -95,7 +96,7 @@ same_grants_on t (sum ∷ sums) =
 same_wants_of : (t : List Entry) (v : Option Figure) → wants t v ≡ wants (untaken t) v
 same_wants_of t None = refl
 same_wants_of t (Some (consumer address free pending)) = refl
-same_wants_of t (Some (producer address unused kept)) = λ j. if_some (grants_of (same_pool t address j)) address
+same_wants_of t (Some (producer address unused due kept)) = λ j. if_some (grants_of (same_pool t address j)) address
 
 same_wants : (t : List Entry) (n : ℕ) → wants t (figure t n) ≡ wants (untaken t) (figure (untaken t) n)
 same_wants t n = (λ j. wants t (same_figure t n j)) ∙ same_wants_of t (figure (untaken t) n)
@@ -105,11 +106,42 @@ same_of_address t None = refl
 same_of_address t (Some address) =
     (λ j. grants_on t (grants_of (same_pool t address j))) ∙ same_grants_on t (grants_of (pool_of (untaken t) address))
 
-same_granted : (t : List Entry) → grants t ≡ grants (untaken t)
-unfolding grants
-same_granted t =
+same_lent : (t : List Entry) → lent t ≡ lent (untaken t)
+unfolding lent
+same_lent t =
     (λ j. grants_of_address t (lowest_below (same_attachments t j + 1) (λ n. same_wants t n j)))
     ∙ same_of_address t (lowest_below (attachments (untaken t) + 1) (λ n. wants (untaken t) (figure (untaken t) n)))
+
+-- what the newest link owes
+
+same_link_on : (t : List Entry) (v : Option Attachment) → link_on t v ≡ link_on (untaken t) v
+same_link_on t None = refl
+same_link_on t (Some a) = same_link t a.conn.0 a.channel a.handle
+
+same_place : (t : List Entry) (n : ℕ) → place_of t n ≡ place_of (untaken t) n
+same_place t n = same_attached t (numbered t n) ∙ ap (if_attached (untaken t)) (same_numbered t n)
+
+same_numbered_link : (t : List Entry) (n : ℕ) → numbered_link t n ≡ numbered_link (untaken t) n
+same_numbered_link t n = (λ j. link_on t (same_place t n j)) ∙ same_link_on t (place_of (untaken t) n)
+
+same_owes : (t : List Entry) → owes_some (numbered_link t (attachments t)) ≡ owes_some (numbered_link (untaken t) (attachments (untaken t)))
+same_owes t = (λ j. owes_some (numbered_link t (same_attachments t j))) ∙ ap owes_some (same_numbered_link t (attachments (untaken t)))
+
+same_newest : (t : List Entry) → grant_at t (attachments t) 0 (numbered t (attachments t)) ≡ grant_at (untaken t) (attachments (untaken t)) 0 (numbered (untaken t) (attachments (untaken t)))
+same_newest t =
+    (λ j. grant_at t (same_attachments t j) 0 (numbered t (same_attachments t j)))
+    ∙ (λ j. grant_at t (attachments (untaken t)) 0 (same_numbered t (attachments (untaken t)) j))
+    ∙ same_grant_at t (attachments (untaken t)) 0 (numbered (untaken t) (attachments (untaken t)))
+
+same_owed : (t : List Entry) → owed t ≡ owed (untaken t)
+same_owed t = λ j. if same_owes t j then same_newest t j else []
+
+same_or_owed : (t : List Entry) (gs : List LinkGrant) → or_owed t gs ≡ or_owed (untaken t) gs
+same_or_owed t [] = same_owed t
+same_or_owed t (g ∷ gs) = refl
+
+same_granted : (t : List Entry) → grants t ≡ grants (untaken t)
+same_granted t = (λ j. or_owed t (same_lent t j)) ∙ same_or_owed t (lent (untaken t))
 
 -- the flows that carry the grants
 

@@ -126,7 +126,7 @@ same_last k (Bound x ∷ t) = same_last k t
 same_last k (Booked acts full ∷ t) = same_last k t
 same_last k (Began g ∷ t) = refl
 
-same_attached : (t : List Entry) (v : Option Attachment) → if_attached t v ≡ if_attached (untaken t) v
+pub same_attached : (t : List Entry) (v : Option Attachment) → if_attached t v ≡ if_attached (untaken t) v
 same_attached t None = refl
 same_attached t (Some a) = λ j. if has_number a.number (same_link t a.conn.0 a.channel a.handle j) then Some a else None
 

@@ -4,6 +4,7 @@ use Rattle.std.specs.Prelude.{Option, Some, None}
 use Rattle.book_model.specs.declared.row.RowNumber.{RowNumber}
 use Rattle.book_model.specs.declared.terminus.LinkKey.{LinkKey}
 use Rattle.router_trace.specs.declared.binding.Binding.{Binding}
+use Rattle.router_trace.specs.declared.binding.BindingKind.TheVariants as kind
 use Rattle.router_trace.specs.declared.binding.Resumed.{Resumed}
 use Rattle.router_trace.specs.declared.binding.DeliveryName.TheVariants.{Row}
 use Rattle.router_trace.specs.declared.handle.Attachment.{Attachment}
@@ -32,12 +33,11 @@ untaken_bound (Some b) t = refl
 same_taken_up : (t : List Entry) (row : RowNumber) (how : Resumed) (format : ℕ) (payload : List ℕ) (at : Attachment) → taken_up_by t row how format payload at ≡ taken_up_by (untaken t) row how format payload at
 same_taken_up t row how format payload at = λ j. record {
   consumer = at;
-  origin = origin_in (same_called t (Row row) j);
   row = Some row;
   lasting = same_lasts t at j;
   format = format;
   payload = payload_as how payload;
-  taken_up = Some (record { how = how; told = told_in (same_called t (Row row) j); early = early_in (same_called t (Row row) j) });
+  kind = kind.TakenUp (record { how = how; origin = origin_in (same_called t (Row row) j); told = told_in (same_called t (Row row) j); early = early_in (same_called t (Row row) j) });
 }
 
 untaken_bound_to : (at : Attachment) (rs : List Sending) (t u : List Entry) → untaken t ≡ u → untaken (bound_to at rs t) ≡ bound_to at rs u

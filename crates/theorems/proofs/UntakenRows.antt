@@ -13,12 +13,15 @@ use Rattle.amqp_model.specs.declared.state.DeliveryState.TheVariants as state
 use Rattle.amqp_model.specs.declared.item.Item.{Item}
 use Rattle.amqp_model.specs.declared.item.Item.TheVariants as item
 use Rattle.amqp_conn.specs.declared.conn.Conn.{Conn}
+use Rattle.book_model.specs.declared.row.Row.{Row}
 use Rattle.book_model.specs.declared.row.RowNumber.{RowNumber}
 use Rattle.book_model.specs.Book.{BookView, terminus_of}
 use Rattle.book_model.specs.declared.terminus.LinkKey.{LinkKey}
 use Rattle.amqp_link.specs.declared.part.Delivery.{Delivery as Told}
 use Rattle.amqp_link.specs.declared.part.Part.{Part}
 use Rattle.amqp_link.specs.declared.part.Part.TheVariants as part
+use Rattle.router_trace.specs.declared.binding.BindingKind.TheVariants as kind
+use Rattle.router_trace.specs.declared.binding.DeliveryName.TheVariants as name
 use Rattle.router_trace.specs.declared.binding.Origin.{Origin}
 use Rattle.router_trace.specs.declared.condition.Condition.{Condition}
 use Rattle.router_trace.specs.declared.condition.Condition.TheVariants.{NotAllowed, ResourceLimitExceeded, MessageSizeExceeded}
@@ -29,7 +32,8 @@ use Rattle.router_trace.specs.Trace.{Entry, Put, goes, puts, each_to}
 use Rattle.router_trace.specs.Configuration.{is_multicast}
 use Rattle.router_trace.specs.LinkFrames.{plain_answer, answer_to, detach_item}
 use Rattle.router_trace.specs.Links.{Link, link, free_handle, holder, key_at, link_place, durable_key}
-use Rattle.router_trace.specs.Deliveries.{terminal, last_of, named, tag_in}
+use Rattle.router_trace.specs.Claims.{Claim, claims}
+use Rattle.router_trace.specs.Deliveries.{joined_to, joining, terminal, last_of, named, tag_in}
 use Rattle.router_trace.specs.DeliveryFrames.{outcome_item}
 use Rattle.router_trace.specs.Numbers.{count_below, first_below}
 use Rattle.router_trace.specs.Settling.{ids_between, is_open_as, names_open, is_open_id, is_of_link, is_unbound_on, unbound, is_tagged_on, uses_tag, middle_on, part_of}
@@ -39,13 +43,14 @@ use Rattle.reply_rows.specs.declared.answer.Answer.TheVariants.{Attach, Detach, 
 use Rattle.reply_rows.specs.Rows.{Finds, said, item_reply}
 use Rattle.reply_rows.specs.Finding.{finds}
 use Rattle.reply_rows.specs.Booking.{wants_durable, wanted_address, new_terminus, has_room, durable_refusal, book_refusal, booked_attach, stands_from, repeats, booked_transfer, booked, answer_at}
-use Rattle.reply_transfers.specs.Transfers.{claimed_id, settled_answers, from_link, origin_of, lasts_on, may_pass, consumer_for, fresh_bound, whole_bound, let_go, unless_many, ignored_put, released_by, released, unbound_put, whole_put, part_put, part_bound}
-use Rattle.router_reply.specs.Acts.{found_journal}
+use Rattle.reply_transfers.specs.Transfers.{claimed_id, settled_answers, from_link, origin_of, lasts_on, may_pass, consumer_for, fresh_bound, row_resumed, join_from, joined_on, joined_if, resumed_bound, unless_joined, resumed_put, whole_bound, let_go, unless_many, ignored_put, released_by, released, unbound_put, whole_put, part_put, part_bound}
+use Rattle.reply_transfers.specs.Joining.{row_joined, row_claimed, row_under}
+use Rattle.router_reply.specs.Acts.{book_in, found_journal}
 use Rattle.router_reply.specs.Resuming.{asked_key, key_taken, key_by, key_in, taken_key, attach_in, if_receives, resumed_key, map_for}
 use Rattle.router_reply.specs.Replies.{map_told, stolen_by, attach_answer, taken_after, taken, refused, row_found, bound_for, links_put, item_put}
 use Rattle.theorems.specs.Takes.{untaken}
-use Rattle.theorems.proofs.Untaken.{untaken_goes, same_place, same_free}
-use Rattle.theorems.proofs.UntakenDeliveries.{same_named, same_delivery, same_claims, same_numbered}
+use Rattle.theorems.proofs.Untaken.{untaken_goes, same_place, same_free, same_journaled}
+use Rattle.theorems.proofs.UntakenDeliveries.{same_named, same_delivery, same_called, same_claims, same_numbered}
 use Rattle.theorems.proofs.UntakenGrants.{same_distribution, same_choice}
 use Rattle.theorems.proofs.UntakenLinks.{same_key_at, same_largest, same_free_handle, same_link, same_link_place, same_holder}
 
@@ -182,16 +187,48 @@ same_consumer_for : (t : List Entry) (c own handle : ℕ) (d : Told) (row : Opti
 same_consumer_for t c own handle d row =
     λ j. if may_pass (lasts_on (same_link t c own handle j)) (same_claimed_id t c own handle d.id j) row then same_consumer_at t c own handle j else None
 
-same_whole_put : (t : List Entry) (c own handle : ℕ) (d : Told) (row : Option RowNumber) → whole_put t c own handle d row ≡ whole_put (untaken t) c own handle d row
-same_whole_put t c own handle d row =
-    λ j. if d.resume then (same_ignored_put t c own handle (claimed_id t c own handle d.id) ∙ ap (ignored_put (untaken t) c own handle) (same_claimed_id t c own handle d.id)) j
+-- the row that a resumed one joins
+
+same_row_claimed : (b : BookView) (t : List Entry) (c own : ℕ) (v : Option Claim) → row_claimed b t c own v ≡ row_claimed b (untaken t) c own v
+same_row_claimed b t c own None = refl
+same_row_claimed b t c own (Some v) = λ j. row_joined b (durable_key (same_link t c own v.handle j)) v.tag
+
+pub same_row_under : (b : BookView) (t : List Entry) (c own id : ℕ) → row_under b t c own id ≡ row_under b (untaken t) c own id
+same_row_under b t c own id = same_row_claimed b t c own (claims t c own id) ∙ ap (row_claimed b (untaken t) c own) (same_claims t c own id)
+
+same_row_resumed : (b : BookView) (t : List Entry) (c own : ℕ) (q : Option ℕ) → row_resumed b t c own q ≡ row_resumed b (untaken t) c own q
+same_row_resumed b t c own None = refl
+same_row_resumed b t c own (Some id) = same_row_under b t c own id
+
+same_join : (t : List Entry) (from : Attachment) (id : ℕ) (r : Row) → join_from t from id r ≡ join_from (untaken t) from id r
+same_join t from id r = λ j. joining (origin_of from id) r.number (joined_to (same_called t (name.Row r.number) j) r.outcome)
+
+same_joined_on : (t : List Entry) (c own handle id : ℕ) (r : Row) (l : Option Link) → joined_on t c own handle id r l ≡ joined_on (untaken t) c own handle id r l
+same_joined_on t c own handle id r None = refl
+same_joined_on t c own handle id r (Some l) = λ j. Some (same_join t (from_link c own handle l) id r j)
+
+same_joined_if : (t : List Entry) (c own handle id : ℕ) (v : Option Row) (l : Option Link) → joined_if t c own handle id v l ≡ joined_if (untaken t) c own handle id v l
+same_joined_if t c own handle id None l = refl
+same_joined_if t c own handle id (Some r) l = same_joined_on t c own handle id r l
+
+same_resumed_bound : (b : BookView) (t : List Entry) (c own handle : ℕ) (q : Option ℕ) (l : Option Link) → resumed_bound b t c own handle q l ≡ resumed_bound b (untaken t) c own handle q l
+same_resumed_bound b t c own handle None l = refl
+same_resumed_bound b t c own handle (Some id) l =
+    (λ j. joined_if t c own handle id (same_row_under b t c own id j) l) ∙ same_joined_if t c own handle id (row_under b (untaken t) c own id) l
+
+same_resumed_put : (b : BookView) (t : List Entry) (c own handle : ℕ) (q : Option ℕ) → resumed_put b t c own handle q ≡ resumed_put b (untaken t) c own handle q
+same_resumed_put b t c own handle q = λ j. unless_joined (same_row_resumed b t c own q j) (same_ignored_put t c own handle q j)
+
+same_whole_put : (b : BookView) (t : List Entry) (c own handle : ℕ) (d : Told) (row : Option RowNumber) → whole_put b t c own handle d row ≡ whole_put b (untaken t) c own handle d row
+same_whole_put b t c own handle d row =
+    λ j. if d.resume then (same_resumed_put b t c own handle (claimed_id t c own handle d.id) ∙ ap (resumed_put b (untaken t) c own handle) (same_claimed_id t c own handle d.id)) j
     else (same_unbound_put t c own handle (claimed_id t c own handle d.id) (consumer_for t c own handle d row)
     ∙ (λ i. unbound_put (untaken t) c own handle (same_claimed_id t c own handle d.id i) (same_consumer_for t c own handle d row i))) j
 
-same_part_put : (t : List Entry) (c own handle : ℕ) (row : Option RowNumber) (q : Option Part) → part_put t c own handle row q ≡ part_put (untaken t) c own handle row q
-same_part_put t c own handle row (Some (part.Whole d payload)) = same_whole_put t c own handle d row
-same_part_put t c own handle row (Some part.TooLarge) = same_let_go t c own handle MessageSizeExceeded
-same_part_put t c own handle row _ = refl
+same_part_put : (b : BookView) (t : List Entry) (c own handle : ℕ) (row : Option RowNumber) (q : Option Part) → part_put b t c own handle row q ≡ part_put b (untaken t) c own handle row q
+same_part_put b t c own handle row (Some (part.Whole d payload)) = same_whole_put b t c own handle d row
+same_part_put b t c own handle row (Some part.TooLarge) = same_let_go t c own handle MessageSizeExceeded
+same_part_put b t c own handle row _ = refl
 
 pub same_lasts : (t : List Entry) (at : Attachment) → lasts t at ≡ lasts (untaken t) at
 same_lasts t at = ap (λ (l : Option Link). is_some (durable_key l)) (same_link t at.conn.0 at.channel at.handle)
@@ -199,7 +236,7 @@ same_lasts t at = ap (λ (l : Option Link). is_some (durable_key l)) (same_link 
 same_binding : (t : List Entry) (origin : Option Origin) (row : Option RowNumber) (format : ℕ) (payload : List ℕ) (at : Attachment)
     → binding_to t origin row format payload at ≡ binding_to (untaken t) origin row format payload at
 same_binding t origin row format payload at =
-    λ j. record { consumer = at; origin = origin; row = row; lasting = same_lasts t at j; format = format; payload = payload; taken_up = None }
+    λ j. record { consumer = at; row = row; lasting = same_lasts t at j; format = format; payload = payload; kind = kind.Message origin }
 
 same_binding_for : (t : List Entry) (from : Attachment) (origin : Option Origin) (row : Option RowNumber) (format : ℕ) (payload : List ℕ)
     → binding_for t from origin row format payload ≡ binding_for (untaken t) from origin row format payload
@@ -218,16 +255,22 @@ same_fresh t c own handle d row payload (Some l) =
     from : Attachment
     from = from_link c own handle l
 
-same_whole_bound : (t : List Entry) (c own handle : ℕ) (d : Told) (row : Option RowNumber) (payload : List ℕ)
-    → whole_bound t c own handle d row payload ≡ whole_bound (untaken t) c own handle d row payload
-same_whole_bound t c own handle d row payload =
-    λ j. if d.resume then None else (same_fresh t c own handle d row payload (link t c own handle)
+same_whole_bound : (b : BookView) (t : List Entry) (c own handle : ℕ) (d : Told) (row : Option RowNumber) (payload : List ℕ)
+    → whole_bound b t c own handle d row payload ≡ whole_bound b (untaken t) c own handle d row payload
+same_whole_bound b t c own handle d row payload =
+    λ j. if d.resume then (same_resumed_bound b t c own handle (claimed_id t c own handle d.id) (link t c own handle)
+    ∙ (λ i. resumed_bound b (untaken t) c own handle (same_claimed_id t c own handle d.id i) (same_link t c own handle i))) j
+    else (same_fresh t c own handle d row payload (link t c own handle)
     ∙ ap (fresh_bound (untaken t) c own handle d row payload) (same_link t c own handle)) j
 
-same_part_bound : (t : List Entry) (c own handle : ℕ) (row : Option RowNumber) (q : Option Part) → part_bound t c own handle row q ≡ part_bound (untaken t) c own handle row q
-same_part_bound t c own handle row (Some (part.Whole d payload)) = same_whole_bound t c own handle d row payload
-same_part_bound t c own handle row (Some part.TooLarge) = refl
-same_part_bound t c own handle row _ = refl
+same_part_bound : (b : BookView) (t : List Entry) (c own handle : ℕ) (row : Option RowNumber) (q : Option Part) → part_bound b t c own handle row q ≡ part_bound b (untaken t) c own handle row q
+same_part_bound b t c own handle row (Some (part.Whole d payload)) = same_whole_bound b t c own handle d row payload
+same_part_bound b t c own handle row (Some part.TooLarge) = refl
+same_part_bound b t c own handle row _ = refl
+
+-- the book by which a transfer is answered
+same_book : (t : List Entry) → book_in t ≡ book_in (untaken t)
+same_book t = ap (λ j. j.book) (same_journaled t)
 
 -- a disposition
 
@@ -253,8 +296,8 @@ same_links t u c (item.Frame sasl channel body payload) a journal rows = by_perf
     by_transfer : (x : ATransfer) (a : Answer)
         → links_put t u c (item.Frame sasl channel (perf.Transfer x) payload) a ≡ links_put (untaken t) (untaken u) c (item.Frame sasl channel (perf.Transfer x) payload) a
     by_transfer x (Taken own handle) =
-        (λ j. each_to c (part_put u c own handle (rows j) (part_of (item.Frame sasl channel (perf.Transfer x) payload) (λ p. same_link_place t c own p j))))
-        ∙ ap (each_to c) (same_part_put u c own handle (row_found (untaken t)) (part_of (item.Frame sasl channel (perf.Transfer x) payload) (link_place (untaken t) c own)))
+        (λ j. each_to c (part_put (same_book t j) u c own handle (rows j) (part_of (item.Frame sasl channel (perf.Transfer x) payload) (λ p. same_link_place t c own p j))))
+        ∙ ap (each_to c) (same_part_put (book_in (untaken t)) u c own handle (row_found (untaken t)) (part_of (item.Frame sasl channel (perf.Transfer x) payload) (link_place (untaken t) c own)))
     by_transfer x _ = refl
 
     by_disposition : (x : ADisposition) (a : Answer)
@@ -281,6 +324,6 @@ same_put id t u c p i a journal rows =
 
 pub same_bound_for : (t u : List Entry) (c : ℕ) (i : Item) (a : Answer) → row_found t ≡ row_found (untaken t) → bound_for t u c i a ≡ bound_for (untaken t) (untaken u) c i a
 same_bound_for t u c i (Taken own handle) rows =
-    (λ j. part_bound u c own handle (rows j) (part_of i (λ p. same_link_place t c own p j)))
-    ∙ same_part_bound u c own handle (row_found (untaken t)) (part_of i (link_place (untaken t) c own))
+    (λ j. part_bound (same_book t j) u c own handle (rows j) (part_of i (λ p. same_link_place t c own p j)))
+    ∙ same_part_bound (book_in (untaken t)) u c own handle (row_found (untaken t)) (part_of i (link_place (untaken t) c own))
 same_bound_for t u c i _ rows = refl

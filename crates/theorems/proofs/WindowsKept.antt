@@ -15,6 +15,8 @@ use Rattle.amqp_link.specs.declared.part.Delivery.{Delivery as Told}
 use Rattle.amqp_link.specs.declared.part.Part.{Part}
 use Rattle.amqp_link.specs.declared.part.Part.TheVariants as part
 use Rattle.amqp_session.specs.Session.{Session, remote_window}
+use Rattle.book_model.specs.Book.{BookView}
+use Rattle.book_model.specs.declared.row.Row.{Row}
 use Rattle.book_model.specs.declared.row.RowNumber.{RowNumber}
 use Rattle.router_trace.specs.Trace.{Beginning, Entry, Did, Out, Put, Step, goes, puts, each_to, ups}
 use Rattle.router_trace.specs.Configuration.{beginning}
@@ -44,10 +46,10 @@ use Rattle.state_messages.specs.Messages.{grants_due, with_bound}
 use Rattle.reply_rows.specs.declared.answer.Answer.{Answer}
 use Rattle.reply_rows.specs.declared.answer.Answer.TheVariants.{Nothing, Header, Open, Close, CloseWith, Begin, End, Flow, Attach, Refuse, Detach, LinkFlow, Taken, Settle}
 use Rattle.reply_rows.specs.Rows.{said}
-use Rattle.reply_transfers.specs.Transfers.{claimed_id, lasts_on, consumer_for, let_go, unless_many, ignored_put, released_by, unbound_put, whole_put, part_put, settled_answers}
+use Rattle.reply_transfers.specs.Transfers.{claimed_id, lasts_on, consumer_for, let_go, unless_many, ignored_put, row_resumed, unless_joined, resumed_put, released_by, unbound_put, whole_put, part_put, settled_answers}
 use Rattle.router_reply.specs.Resuming.{resumed}
 use Rattle.router_reply.specs.Replies.{closing_of, ends, heard, stolen_by, with_map, attach_answer, refused, bound_by, item_row, own_row, replied}
-use Rattle.router_reply.specs.Acts.{answer_of, booked}
+use Rattle.router_reply.specs.Acts.{answer_of, book_in, booked}
 use Rattle.router_core.specs.Replies.{answered, handled}
 use Rattle.router_core.proofs.Booking.{booked_keeps}
 use Rattle.core_machine.specs.Moves.{took_one}
@@ -172,18 +174,22 @@ none_unbound after c own handle None None = tt
 none_unbound after c own handle (Some id) None = none_released after c own handle (lasts_on (link after c own handle)) id
 none_unbound after c own handle q (Some consumer) = tt
 
-none_whole : (after : List Entry) (c own handle : ℕ) (d : Told) (row : Option RowNumber) → NoTransfer (whole_put after c own handle d row)
-none_whole after c own handle d row = by d.resume
+none_resumed : (after : List Entry) (c own handle : ℕ) (q : Option ℕ) (r : Option Row) → NoTransfer (unless_joined r (ignored_put after c own handle q))
+none_resumed after c own handle q None = none_ignored after c own handle q
+none_resumed after c own handle q (Some r) = tt
+
+none_whole : (b : BookView) (after : List Entry) (c own handle : ℕ) (d : Told) (row : Option RowNumber) → NoTransfer (whole_put b after c own handle d row)
+none_whole b after c own handle d row = by d.resume
   where
-    by : (b : Bool) → NoTransfer (if b then ignored_put after c own handle (claimed_id after c own handle d.id)
+    by : (resumed : Bool) → NoTransfer (if resumed then resumed_put b after c own handle (claimed_id after c own handle d.id)
         else unbound_put after c own handle (claimed_id after c own handle d.id) (consumer_for after c own handle d row))
-    by true = none_ignored after c own handle (claimed_id after c own handle d.id)
+    by true = none_resumed after c own handle (claimed_id after c own handle d.id) (row_resumed b after c own (claimed_id after c own handle d.id))
     by false = none_unbound after c own handle (claimed_id after c own handle d.id) (consumer_for after c own handle d row)
 
-none_part : (after : List Entry) (c own handle : ℕ) (row : Option RowNumber) (q : Option Part) → NoTransfer (part_put after c own handle row q)
-none_part after c own handle row (Some (part.Whole d payload)) = none_whole after c own handle d row
-none_part after c own handle row (Some part.TooLarge) = none_gone after c own handle MessageSizeExceeded
-none_part after c own handle row _ = tt
+none_part : (b : BookView) (after : List Entry) (c own handle : ℕ) (row : Option RowNumber) (q : Option Part) → NoTransfer (part_put b after c own handle row q)
+none_part b after c own handle row (Some (part.Whole d payload)) = none_whole b after c own handle d row
+none_part b after c own handle row (Some part.TooLarge) = none_gone after c own handle MessageSizeExceeded
+none_part b after c own handle row _ = tt
 
 none_settled : (own : ℕ) (s : Option DeliveryState) (ids : List ℕ) → NoTransfer (settled_answers own s ids)
 none_settled own None ids = tt
@@ -198,7 +204,7 @@ none_item id t after c i (Some p) =
     (λ own ours x. none_both (stolen_by (holder after (key_at after c (answer_to x 0)))) _ (none_stolen (holder after (key_at after c (answer_to x 0))))
     (none_to c _ (none_attach (largest_frame after c) own _ ours x)))
     (λ own handle e x. none_to c _ (none_refused (largest_frame after c) own handle e x))
-    (λ own handle row q. none_to c _ (none_part after c own handle row q))
+    (λ own handle row q. none_to c _ (none_part (book_in t) after c own handle row q))
     (λ own s ids. none_to c _ (none_settled own s ids))
     i (answer_of t c p i)
 

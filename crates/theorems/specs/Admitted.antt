@@ -1,6 +1,6 @@
 -- Durable messages and the book (AMQP 1.0 part 2, sections 2.6.12 and 2.7.5; part 3, sections 3.5.3 to 3.5.5): a message that has a row is bound once the
 -- row is in the book.
-use Rattle.std.specs.Prelude.{◌≡◌, ◌<◌, ◌≤◌, ℕ, ◌+◌, ◌==◌, ◌&&◌, Bool, true, false, is_none, is_some, if◌then◌else◌, [], ◌∷◌, Option, Some, None, unwrap_or, List}
+use Rattle.std.specs.Prelude.{◌≡◌, ◌<◌, ◌≤◌, ℕ, ◌+◌, ◌==◌, ◌&&◌, Bool, true, false, if◌then◌else◌, [], ◌∷◌, Option, Some, None, unwrap_or, List}
 use Rattle.amqp_link.specs.declared.part.Delivery.{Delivery as Told}
 use Rattle.book_model.specs.declared.act.Act.TheVariants.{Admit}
 use Rattle.book_model.specs.declared.act.Admission.{Admission}
@@ -9,6 +9,7 @@ use Rattle.book_model.specs.declared.terminus.TerminusNumber.{TerminusNumber}
 use Rattle.book_model.specs.Book.{BookView, admit_refusal}
 use Rattle.router_trace.specs.declared.binding.Binding.{Binding}
 use Rattle.router_trace.specs.declared.binding.Origin.{Origin}
+use Rattle.router_trace.specs.Deliveries.{origin_of, is_message}
 use Rattle.router_trace.specs.Following.{link_of}
 use Rattle.router_trace.specs.Links.{durable_key}
 use Rattle.router_trace.specs.Trace.{Trace, Beginning, Did, Out, Took, Bound, Booked, Began}
@@ -36,7 +37,7 @@ pub record IsAdmitted (t : Trace) (b : Binding) (row : RowNumber) : Type 0 where
   pub applies : admit_refusal (book_in before) admission ≡ None
   pub number : admission.row ≡ row
   pub is_next : row.0 ≡ (book_in before).next_row
-  pub producer : IsFromTerminus b.origin t (book_in before) admission.producer
+  pub producer : IsFromTerminus (origin_of b.kind) t (book_in before) admission.producer
   pub consumer : admission.consumer ≡ terminus_for (book_in before) (durable_key (link_of t b.consumer))
   pub tag : admission.tag ≡ unwrap_or message.tag (record { items = [] })
   pub format : admission.format ≡ b.format
@@ -46,15 +47,15 @@ abbrev pub IsAdmittedUnder : Trace → Binding → Option RowNumber → Type 0
 IsAdmittedUnder t b None = Unit {0}
 IsAdmittedUnder t b (Some row) = IsAdmitted t b row
 
--- a row that is taken up again was admitted before (`TakesUp`)
-abbrev pub IsAdmittedUnless : Bool → Trace → Binding → Type 0
-IsAdmittedUnless true t b = Unit {0}
-IsAdmittedUnless false t b = IsAdmittedUnder t b b.row
+-- a row that is bound again was admitted before (`TakesUp`, `JoinsRow`)
+abbrev pub IsAdmittedIf : Bool → Trace → Binding → Type 0
+IsAdmittedIf true t b = IsAdmittedUnder t b b.row
+IsAdmittedIf false t b = Unit {0}
 
 abbrev pub RowIsAdmitted : Trace → Binding → Type 0
-RowIsAdmitted t b = IsAdmittedUnless (is_some b.taken_up) t b
+RowIsAdmitted t b = IsAdmittedIf (is_message b.kind) t b
 
--- how often the row with a number was bound, but for the times when it was taken up again
+-- how often the row with a number was bound, but for the times when it was bound again
 abbrev pub is_row : Option RowNumber → ℕ → Bool
 is_row None n = false
 is_row (Some row) n = row.0 == n
@@ -64,7 +65,7 @@ times_bound [] n = 0
 times_bound (Did s ∷ t) n = times_bound t n
 times_bound (Out c i ∷ t) n = times_bound t n
 times_bound (Took c k ∷ t) n = times_bound t n
-times_bound (Bound b ∷ t) n = times_bound t n + (if is_none b.taken_up && is_row b.row n then 1 else 0)
+times_bound (Bound b ∷ t) n = times_bound t n + (if is_message b.kind && is_row b.row n then 1 else 0)
 times_bound (Booked acts full ∷ t) n = times_bound t n
 times_bound (Began g ∷ t) n = times_bound t n
 

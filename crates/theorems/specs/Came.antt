@@ -14,6 +14,8 @@ use Rattle.book_model.specs.declared.row.RowNumber.{RowNumber}
 use Rattle.book_model.specs.declared.terminus.LinkKey.{LinkKey}
 use Rattle.book_model.specs.declared.terminus.Terminus.{Terminus}
 use Rattle.router_trace.specs.declared.binding.Binding.{Binding}
+use Rattle.router_trace.specs.declared.binding.BindingKind.{BindingKind}
+use Rattle.router_trace.specs.declared.binding.BindingKind.TheVariants as kind
 use Rattle.router_trace.specs.declared.binding.Origin.{Origin}
 use Rattle.router_trace.specs.declared.channel.PeerChannel.TheVariants.{Mapped}
 use Rattle.router_trace.specs.declared.event.ConnectionId.{ConnectionId}
@@ -22,14 +24,15 @@ use Rattle.router_trace.specs.declared.event.Event.TheVariants as event
 use Rattle.router_trace.specs.Trace.{Trace, Did, Out, Took, Bound, Booked, Began, Step}
 use Rattle.router_trace.specs.declared.binding.DeliveryName.TheVariants.{Row}
 use Rattle.router_trace.specs.declared.binding.TakenUp.{TakenUp}
-use Rattle.router_trace.specs.Deliveries.{Delivery, delivery as delivery_in, acts_found, called, outcome_among, outcome_as, origin_in, told_in, early_in}
+use Rattle.router_trace.specs.Deliveries.{Delivery, delivery as delivery_in, origin_of, joined_by, acts_found, called, outcome_among, outcome_as, origin_in, told_in, early_in}
 use Rattle.router_trace.specs.Sessions.{theirs}
-use Rattle.router_trace.specs.Links.{Link, receives, link, link_place, on}
+use Rattle.router_trace.specs.Links.{Link, receives, link, link_place, on, durable_key}
+use Rattle.router_trace.specs.Claims.{claims, Claim}
 use Rattle.router_trace.specs.Settling.{is_claimed_on}
 use Rattle.state_messages.specs.Asking.{consumer_with}
 use Rattle.state_messages.specs.Messages.{consumer_of, lasts, payload_as}
 use Rattle.reply_transfers.specs.Transfers.{claimed_id, from_link, lasts_on}
-use Rattle.router_reply.specs.Acts.{book_found}
+use Rattle.router_reply.specs.Acts.{book_found, book_in}
 use Rattle.router_reply.specs.Replies.{row_found}
 use Rattle.theorems.specs.OneConsumer.{IsOfMessage}
 
@@ -106,8 +109,8 @@ pub record BindsMessage (t : Trace) (b : Binding) : Type 0 where
   pub producer : Link
   pub attached : link t conn own handle ≡ Some producer
   pub chosen : consumer_of t (Some producer) ≡ Some b.consumer
-  pub from : ComesFrom b.origin t conn own handle producer message
-  pub has_row : HasRowOn (lasts_on (Some producer)) b.origin b.row
+  pub from : ComesFrom (origin_of b.kind) t conn own handle producer message
+  pub has_row : HasRowOn (lasts_on (Some producer)) (origin_of b.kind) b.row
   pub lasting : b.lasting ≡ lasts t b.consumer
 
 -- the trace that the last event found
@@ -125,7 +128,7 @@ last_found (Began g ∷ t) = []
 -- delivery is that of the delivery which it had until then, whether that was told, or settled early, or neither.
 pub record TakesUp (t : Trace) (b : Binding) : Type 0 where
   pub brought : TakenUp
-  pub taken : b.taken_up ≡ Some brought
+  pub taken : b.kind ≡ kind.TakenUp brought
   pub row : ARow
   pub number : b.row ≡ Some row.number
   pub earlier : List ARow
@@ -138,7 +141,7 @@ pub record TakesUp (t : Trace) (b : Binding) : Type 0 where
   pub of_key : terminus_of key (book_found (last_found t)).termini ≡ Some terminus
   pub waits : is_for terminus.number.0 row ≡ true
   pub attached : consumer_with t key ≡ Some b.consumer
-  pub origin : b.origin ≡ origin_in (called t (Row row.number))
+  pub origin : brought.origin ≡ origin_in (called t (Row row.number))
   pub told : brought.told ≡ told_in (called t (Row row.number))
   pub early : brought.early ≡ early_in (called t (Row row.number))
   pub lasting : b.lasting ≡ lasts t b.consumer
@@ -154,18 +157,51 @@ BringsItsOutcome t b =
     (takes : TakesUp t b)
     → IsOutcomeThen takes.row.outcome (outcome_among (acts_found (last_found t)) takes.row.number) (outcome_as takes.brought.how)
 
--- What is bound is a message, or a row that is taken up again.
-abbrev pub BindsAs : Bool → Trace → Binding → Type 0
-BindsAs true t b = TakesUp t b
-BindsAs false t b = BindsMessage t b
+-- A row is bound again, too, when a delivery of its producer is joined to it, which the producer resumes and hasn't settled (2.6.13). That is just
+-- complete; and the book after the acts of that event has the row, unforgotten, for the terminus of the producer's durable link, with the tag under
+-- which the producer claims the delivery's id. From then on the row's outcome is told to that delivery: the row's delivery gets it as its origin, or a
+-- new one does, which is never sent and has the outcome that the book has of the row.
+pub record JoinsRow (t : Trace) (b : Binding) (origin : Origin) : Type 0 where
+  pub conn : ℕ
+  pub own : ℕ
+  pub handle : ℕ
+  pub message : Told
+  pub payload : List ℕ
+  pub came : CameWhole t conn own handle message payload
+  pub once : bound_since t ≡ 0
+  pub resumed : message.resume ≡ true
+  pub producer : Link
+  pub attached : link t conn own handle ≡ Some producer
+  pub from : ComesFrom (Some origin) t conn own handle producer message
+  pub claim : Claim
+  pub claimed : claims t conn own origin.id ≡ Some claim
+  pub on_link : claim.handle ≡ handle
+  pub key : LinkKey
+  pub durable : durable_key (Some producer) ≡ Some key
+  pub terminus : Terminus
+  pub of_key : terminus_of key (book_in t).termini ≡ Some terminus
+  pub row : ARow
+  pub earlier : List ARow
+  pub later : List ARow
+  pub kept : (book_in t).rows ≡ earlier ++ row ∷ later
+  pub its_producer : row.producer.0 ≡ terminus.number.0
+  pub same_tag : claim.tag ≡ Some row.tag.items
+  pub unforgotten : row.forgotten ≡ false
+  pub joins : b ≡ joined_by t origin row.number row.outcome
 
-abbrev pub BindsOrTakesUp : Trace → Binding → Type 0
-BindsOrTakesUp t b = BindsAs (is_some b.taken_up) t b
+-- What is bound is a message, or a row that is taken up again, or a row to which its producer's delivery is joined.
+abbrev pub BindsAs : BindingKind → Trace → Binding → Type 0
+BindsAs (kind.Message origin) t b = BindsMessage t b
+BindsAs (kind.TakenUp brought) t b = TakesUp t b
+BindsAs (kind.Joined origin to) t b = JoinsRow t b origin
 
--- So each delivery is of a message that was received completely and was bound, or of a row that was taken up.
+abbrev pub BindsByKind : Trace → Binding → Type 0
+BindsByKind t b = BindsAs b.kind t b
+
+-- So each delivery is of a message that was received completely and was bound, or of a row that was bound again.
 pub record CameAndWasBound (u : Trace) (n : ℕ) (d : Delivery) : Type 0 where
   pub message : IsOfMessage u n d
-  pub binds : BindsOrTakesUp message.before message.binding
+  pub binds : BindsByKind message.before message.binding
 
 abbrev pub EachDeliveryCame : Trace → Type 0
 EachDeliveryCame u = (n : ℕ) (d : Delivery) → delivery_in u n ≡ Some d → CameAndWasBound u n d

@@ -9,15 +9,15 @@ use Rattle.amqp_model.specs.declared.item.Item.TheVariants as item
 use Rattle.router_trace.specs.declared.binding.Binding.{Binding}
 use Rattle.router_trace.specs.declared.binding.DeliveryName.{DeliveryName}
 use Rattle.router_trace.specs.Trace.{Trace, Did, Out, Took, Bound, Booked, Began, IsOneRun}
-use Rattle.router_trace.specs.Deliveries.{Delivery, bindings, number_named, delivery, sending, carried, tag_in, tag_of, tagged, is_number}
+use Rattle.router_trace.specs.Deliveries.{Delivery, bindings, counters, joins_standing, number_named, delivery, sending, carried, tag_in, tag_of, tagged, is_number}
 use Rattle.theorems.specs.Each.{EachOut, EachBound}
 
--- Numbers are small: fewer than 2^64 messages were bound, and the row of each that has one is below 2^64.
+-- Numbers are small: fewer than 2^64 messages without a row were bound, and the row of each that has one is below 2^64.
 abbrev pub HasSmallRow : Trace → Binding → Type 0
 HasSmallRow t b = IfSome b.row (λ r. r.0 < 2 ^ 64)
 
 abbrev pub HasSmallNumbers : Trace → Type 0
-HasSmallNumbers t = (bindings t < 2 ^ 64) × EachBound HasSmallRow t
+HasSmallNumbers t = (counters t < 2 ^ 64) × EachBound HasSmallRow t
 
 -- The first frame of a delivery: it has an id, the delivery's tag and the message format, and nothing of the delivery was sent before. The tag tells
 -- the delivery's name. (It has 8 bytes of a number.)
@@ -87,7 +87,7 @@ pub record IsBeginning (bytes whole : List ℕ) : Type 0 where
   pub joined : bytes ++ rest ≡ whole
 
 abbrev pub GoesInOrder : Trace → Type 0
-GoesInOrder u = HasSmallNumbers u → (b : Binding) (t later : Trace) → IsOneRun later → u ≡ later ++ Bound b ∷ t → IsBeginning (bytes_out u (bindings t + 1)) b.payload
+GoesInOrder u = HasSmallNumbers u → (b : Binding) (t later : Trace) → IsOneRun later → joins_standing b.kind ≡ None → u ≡ later ++ Bound b ∷ t → IsBeginning (bytes_out u (bindings t + 1)) b.payload
 
 abbrev pub perf_completes : Perf → Trace → ℕ → Item → ℕ → Type 0
 perf_completes (perf.Transfer x) t c i own =

@@ -19,7 +19,7 @@ use Rattle.router_trace.specs.declared.channel.PeerChannel.TheVariants.{Mapped}
 use Rattle.router_trace.specs.declared.binding.Binding.{Binding}
 use Rattle.router_trace.specs.Trace.{Trace, Entry, Did, Out, Bound, Step, IsOneRun}
 use Rattle.router_trace.specs.Links.{ends_handle}
-use Rattle.router_trace.specs.Deliveries.{Delivery, bindings, brought, outcome_as, acts_found, outcome_among, channels_found, number_named, delivery, named, terminal, decision, failed, closes, last_of, tag_in, carried, sending}
+use Rattle.router_trace.specs.Deliveries.{Delivery, bindings, outcome_in, joins_standing, acts_found, outcome_among, channels_found, number_named, delivery, named, terminal, decision, failed, closes, last_of, tag_in, carried, sending}
 
 -- Its consumer gave it: a disposition was received, as a receiver's, on the link's session; the delivery's id is in its range, and
 -- names this delivery; the outcome is its state if that is terminal, and modified with delivery-failed if it settles without one.
@@ -94,13 +94,14 @@ pub record SentSettled (entry : Entry) (t : Trace) (n : ℕ) (d : Delivery) : Ty
   pub last : transfer.more ≡ false
   pub presettled : d.presettled ≡ true
 
--- A row that its consumer's link takes up again may be decided: its binding brings the outcome that the book has of it (`BringsItsOutcome`). So there was no
--- delivery with that number before.
+-- A row that is bound again may be decided, when its consumer's link takes it up, or when its producer's delivery is joined to it: its binding brings the
+-- outcome that the book has of it (`BringsItsOutcome`, `JoinsRow`). So there was no delivery with that number before.
 pub record BroughtBack (entry : Entry) (t : Trace) (n : ℕ) (outcome : DeliveryState) : Type 0 where
   pub binding : Binding
   pub entry_is : entry ≡ Bound binding
   pub number : bindings t + 1 ≡ n
-  pub brings : brought (λ u. outcome_as u.how) binding.taken_up ≡ Some outcome
+  pub numbered : joins_standing binding.kind ≡ None
+  pub brings : outcome_in binding.kind ≡ Some outcome
 
 -- an entry after a trace decides the delivery with a number, as it was in the trace
 pub data Decides (entry : Entry) (t : Trace) (n : ℕ) (d : Delivery) (outcome : DeliveryState) : Type 0 where
@@ -139,8 +140,8 @@ pub record DecidedByConsumer (u : Trace) (n : ℕ) (outcome : DeliveryState) : T
   pub decided : Decided u n outcome
   pub by_consumer : IsFoundByConsumer decided.entry decided.before n decided.found outcome decided.decides
 
--- Each outcome of a delivery is as it was given: by its consumer, or the end of the consumer's link, or as the book had it of a row that was taken up
--- again, if its producer hadn't settled it.
+-- Each outcome of a delivery is as it was given: by its consumer, or the end of the consumer's link, or as the book had it of a row that was bound again,
+-- if its producer hadn't settled it.
 abbrev pub OutcomesAreGiven : Type 0
 OutcomesAreGiven = (u : Trace) (n : ℕ) (d : Delivery) (outcome : DeliveryState)
     → delivery u n ≡ Some d → d.outcome ≡ Some outcome → Decided u n outcome

@@ -1,6 +1,6 @@
 -- Durable deliveries and the book (AMQP 1.0 part 2, section 2.6.12; part 3, section 3.4): the outcome of one stands in the book before its producer is
 -- told it, and no row is decided twice.
-use Rattle.std.specs.Prelude.{◌≡◌, ◌≤◌, ℕ, ◌+◌, ◌==◌, ◌||◌, nat_le, Bool, true, false, if◌then◌else◌, List, [], ◌∷◌, Option, Some, None, option_map}
+use Rattle.std.specs.Prelude.{◌≡◌, ◌≤◌, ◌⊎◌, ℕ, ◌+◌, ◌==◌, ◌||◌, nat_le, Bool, true, false, if◌then◌else◌, List, [], ◌∷◌, Option, Some, None, option_map}
 use Rattle.amqp_model.specs.declared.perf.Disposition.{Disposition}
 use Rattle.amqp_model.specs.declared.perf.Perf.{Perf}
 use Rattle.amqp_model.specs.declared.perf.Perf.TheVariants as perf
@@ -17,15 +17,18 @@ use Rattle.journal_store.specs.Acting.{journal_outcome}
 use Rattle.router_trace.specs.declared.binding.DeliveryName.{DeliveryName}
 use Rattle.router_trace.specs.declared.binding.DeliveryName.TheVariants.{Row, Counter}
 use Rattle.router_trace.specs.Trace.{Trace, Beginning, Did, Out, Took, Bound, Booked, Began}
+use Rattle.router_trace.specs.DeliveryFrames.{kept_outcome}
 use Rattle.router_reply.specs.Acts.{book_in}
 use Rattle.theorems.specs.Each.{EachOut}
 use Rattle.theorems.specs.Carried.{HasSmallNumbers}
 use Rattle.theorems.specs.Told.{TellsOutcome}
 
--- A row of the book that is decided, with this outcome as the journal keeps it (`journal_outcome`: itself, if it is within the limits of its types).
+-- A row of the book that is decided, with the outcome that is told: as the journal keeps that (`journal_outcome`: itself, if it is within the limits of
+-- its types); or the row was decided before it was bound, and its outcome is told as dispositions have it (`kept_outcome`). Of an outcome that a router
+-- has decided both say the same.
 abbrev pub IsDecidedAs : Option ARow → Option DeliveryState → Type 0
-IsDecidedAs None outcome = ⊥
-IsDecidedAs (Some r) outcome = r.outcome ≡ option_map journal_outcome outcome
+IsDecidedAs None told = ⊥
+IsDecidedAs (Some r) told = (r.outcome ≡ option_map journal_outcome told) ⊎ (told ≡ option_map kept_outcome r.outcome)
 
 abbrev pub RowIsDecided : BookView → DeliveryName → Option DeliveryState → Type 0
 RowIsDecided b (Row r) outcome = IsDecidedAs (row_at r.0 b.rows) outcome

@@ -14,7 +14,7 @@ use Rattle.theorems.specs.Durable.{IsKeptFirst, RowIsAdmitted, EachRowIsBoundOnc
 use Rattle.theorems.specs.Each.{EachOut, EachBound}
 use Rattle.theorems.specs.Lives.{InLives, InSmallLives}
 use Rattle.theorems.specs.Locked.{Kind, UnderTheLock, UnderTheLockIfSmall}
-use Rattle.theorems.specs.Messages.{BindsOrTakesUp, BringsItsOutcome, EachDeliveryCame, StaysWithConsumer, NeverComesBack, OfMessages, CarriesWhatWasBound, FramesJoin, OutcomesAreGiven, OutcomesAreOfConsumers, ToldAtMostOnce, ToldAnew, TellsAsGiven}
+use Rattle.theorems.specs.Messages.{BindsByKind, BringsItsOutcome, EachDeliveryCame, StaysWithConsumer, NeverComesBack, OfMessages, CarriesWhatWasBound, FramesJoin, OutcomesAreGiven, OutcomesAreOfConsumers, ToldAtMostOnce, ToldAnew, TellsAsGiven}
 use Rattle.theorems.specs.Order.{KeepsOrder, BeginsWithHeaders}
 use Rattle.theorems.specs.Stops.{Stopping, AnyMomentLeavesAPrefix, TheEndLeavesAll, EndsALife, GoesOnFrom}
 use Rattle.theorems.specs.Windows.{WindowKept}
@@ -44,7 +44,7 @@ FramesCarryWhatWasBound = Always (EachOut CarriesWhatWasBound) × Always FramesJ
 -- the outcome that the book has of it.
 abbrev pub MessagesAreBoundOnce : Type 0
 MessagesAreBoundOnce =
-    Always (EachBound BindsOrTakesUp) × Always EachDeliveryCame × AlwaysOnSound (EachBound BringsItsOutcome)
+    Always (EachBound BindsByKind) × Always EachDeliveryCame × AlwaysOnSound (EachBound BringsItsOutcome)
 
 -- An outcome is what the consumer gave, or what the end of its link gives; or its message came settled, and was sent.
 abbrev pub OutcomesAreAsGiven : Type 0

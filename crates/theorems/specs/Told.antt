@@ -11,16 +11,17 @@ use Rattle.amqp_model.specs.declared.item.Item.{Item}
 use Rattle.amqp_model.specs.declared.item.Item.TheVariants as item
 use Rattle.amqp_link.specs.declared.part.Delivery.{Delivery as Told}
 use Rattle.book_model.specs.declared.row.RowNumber.{RowNumber}
+use Rattle.router_trace.specs.declared.binding.DeliveryName.{DeliveryName}
 use Rattle.router_trace.specs.declared.binding.Origin.{Origin}
 use Rattle.router_trace.specs.Trace.{Trace, Did, Out, Took, Bound, Booked, Began, IsOneRun}
-use Rattle.router_trace.specs.Deliveries.{Delivery, has_row, bindings, delivery, is_meant, origin_id}
+use Rattle.router_trace.specs.Deliveries.{Delivery, has_row, same_name, joins_standing, name_in, bindings, delivery, is_meant, origin_id}
 use Rattle.router_trace.specs.DeliveryFrames.{kept_outcome}
 use Rattle.router_trace.specs.Links.{Link, link}
 use Rattle.router_trace.specs.Settling.{is_claimed_on}
 use Rattle.state_messages.specs.Messages.{consumer_of}
 use Rattle.reply_transfers.specs.Transfers.{lasts_on}
 use Rattle.router_reply.specs.Replies.{row_found}
-use Rattle.theorems.specs.OneConsumer.{WhileThere}
+use Rattle.theorems.specs.OneConsumer.{WhileThere, joined_in}
 use Rattle.theorems.specs.Decided.{DecidedByConsumer}
 use Rattle.theorems.specs.Came.{CameWhole}
 
@@ -38,28 +39,34 @@ abbrev pub tells : Item → ℕ → Option Delivery → Bool
 tells (item.Frame sasl own body payload) c (Some d) = tells_in body c own d.origin
 tells _ c v = false
 
--- how often the outcome of a delivery was reported to its producer
+-- a producer's resumed delivery is joined to this one
+abbrev pub is_joined : Option Origin → DeliveryName → Option Delivery → Bool
+is_joined (Some p) name (Some d) = same_name d.name name
+is_joined _ name v = false
+
+-- how often the outcome of a delivery was reported to its producer, since a resumed delivery of the producer was joined to it last
 abbrev pub tellings : Trace → ℕ → ℕ
 tellings [] n = 0
 tellings (Did s ∷ t) n = tellings t n
 tellings (Out c i ∷ t) n = tellings t n + (if tells i c (delivery t n) then 1 else 0)
 tellings (Took c k ∷ t) n = tellings t n
-tellings (Bound b ∷ t) n = tellings t n
+tellings (Bound b ∷ t) n = if is_joined (joins_standing b.kind) (name_in t b) (delivery t n) then 0 else tellings t n
 tellings (Booked acts full ∷ t) n = tellings t n
 tellings (Began g ∷ t) n = 0
 
--- at most once in a run, whatever happens
+-- at most once in a run, whatever happens, and at most once more for each delivery with which the producer resumes it
 abbrev pub ToldAtMostOnce : Type 0
 ToldAtMostOnce = (u : Trace) (n : ℕ) → tellings u n ≤ 1
 
 -- After a disposition of the router as a receiver for one id, no delivery that was bound before it still has an outcome to report with
--- that id, on that session: another outcome with the id belongs to a message that was bound later.
+-- that id, on that session, unless a producer's delivery was joined to it since: another outcome with the id belongs to a message that was bound
+-- later, or to a delivery that was joined later.
 abbrev pub IsUnder : ℕ → ℕ → ℕ → Delivery → Type 0
 IsUnder c own id d = origin_id d.origin c own ≡ Some id
 
 abbrev pub ToldAnew : Type 0
 ToldAnew = (t later : Trace) (c own : ℕ) (sasl : Bool) (x : Disposition) (payload : List ℕ) (n : ℕ) → IsOneRun later → x.role ≡ Receiver → x.last ≡ None → n ≤ bindings t
-    → WhileThere (λ d. IsUnder c own x.first d → ⊥) (delivery (later ++ Out c (item.Frame sasl own (perf.Disposition x) payload) ∷ t) n)
+    → WhileThere (λ d. joined_in later d.name ≡ None → IsUnder c own x.first d → ⊥) (delivery (later ++ Out c (item.Frame sasl own (perf.Disposition x) payload) ∷ t) n)
 
 -- The outcome of a delivery is reported: its producer has not been sent it, and gets it with its own delivery-id, on its link's session. It is
 -- the outcome that the consumer gave before, as the router keeps it, and none was reported before. A durable delivery isn't settled by that.

@@ -8,12 +8,12 @@ use Rattle.router_core.proofs.router.reply_to.Goals as goal
 
 pub returns : goal.returns
 returns c = on_ok_weaker c.after.result
-    (λ is t ready row.
+    (λ is t ready book row.
     let e = c.args.event in
     let r = c.args.ready.now in
     let u : List Entry = replied c.args.id.now t (step_of e) in
     let ours = told_ours t e r.answer r.resumption c.replace-resumption.result c.told_map-ours.result.items ready.resumed c.replace-resumption.ensures.value c.told_map-ours.ensures.map in
-    let fits = c.in-Ok.ensures t ready.tables (c.deref.ensures.value ∙ ready.ends) ready.answer row ours ready.heard in
+    let fits = c.in-Ok.ensures t ready.tables (c.deref.ensures.value ∙ ready.ends) ready.answer book row ours ready.heard in
     is (resumed t e u)
     (resumes_told c.take_up.new.state t e r.answer r.resumption c.replace-resumption.result c.told_map-ours.new.resumption u ready.answer ready.resumed c.replace-resumption.ensures.value
     c.told_map-ours.ensures.key c.told_map-ours.ensures.rows (c.in_ok-take_up.ensures u fits)))

@@ -3,6 +3,7 @@ use Rattle.std.proofs.lemmas.Result.{on_ok_weaker}
 use Rattle.std.specs.Prelude.{Option}
 use Rattle.amqp_link.specs.declared.part.Part.{Part}
 use Rattle.amqp_model.specs.declared.state.UnsettledDelivery.{UnsettledDelivery}
+use Rattle.book_model.specs.Book.{BookView}
 use Rattle.book_model.specs.declared.row.RowNumber.{RowNumber}
 use Rattle.router_trace.specs.Trace.{Entry, Put, goes, puts}
 use Rattle.router_trace.specs.Sessions.{theirs, maps}
@@ -15,7 +16,7 @@ use Rattle.reply_rows.specs.declared.answer.Answer.{Answer}
 use Rattle.reply_rows.specs.declared.answer.Answer.TheVariants.{Taken, Settle}
 use Rattle.reply_rows.specs.Rows.{said}
 use Rattle.reply_rows.proofs.Mapped.{IsHere, answer_here}
-use Rattle.router_reply.specs.Acts.{found_journal, full_at}
+use Rattle.router_reply.specs.Acts.{book_in, found_journal, full_at}
 use Rattle.router_reply.specs.Heard.{ids_named, ids_found}
 use Rattle.router_reply.specs.Resuming.{told_map}
 use Rattle.reply_transfers.specs.Transfers.{given_after, disposition_in}
@@ -25,7 +26,7 @@ use Rattle.router_reply.proofs.events.begin_item.Goals as goal
 
 pub returns-in-Taken : goal.returns-in-Taken
 returns-in-Taken c = on_ok_weaker c.take_part.result
-    (λ is t after fit heard answer row.
+    (λ is t after fit heard answer book row.
     let id = c.args.id.now in
     let item = c.args.item.now in
     let conn = c.args.conn.0 in
@@ -35,19 +36,20 @@ returns-in-Taken c = on_ok_weaker c.take_part.result
     let ours : Answer → List UnsettledDelivery = told_map t (event.Item c.args.conn item) in
     let here : maps (theirs t conn (channel_of item)) own ≡ true =
     subst (λ (a : Answer). IsHere (maps (theirs t conn (channel_of item))) a) (sym answer ∙ c.in-Taken.is) (answer_here (full_at t (event.Item c.args.conn item)) (found_journal t).book phase t conn item) in
-    let u : List Entry = given_after after conn own handle (row_found t) (part_of item (link_place t conn own)) in
+    let u : List Entry = given_after (book_in t) after conn own handle (row_found t) (part_of item (link_place t conn own)) in
     let same : goes (attach_put u conn (ours (Taken own handle)) item (Taken own handle)) u ≡ after_answer id t after conn phase item (Taken own handle) =
     ap (λ (ps : List Put). goes ps u) (taken_left u conn (ours (Taken own handle)) item own handle) ∙ sym (taken_is id t after conn phase item own handle) in (
       u,
-      subst (λ (p : Option Part). TablesFit c.take_part.new.state (given_after after conn own handle (row_found t) p)) (c.take.ensures.value ∙ heard.part own here)
-          (subst (λ (r : Option RowNumber). TablesFit c.take_part.new.state (given_after after conn own handle r c.take.result)) row (is after fit)),
+      subst (λ (p : Option Part). TablesFit c.take_part.new.state (given_after (book_in t) after conn own handle (row_found t) p)) (c.take.ensures.value ∙ heard.part own here)
+          (subst (λ (r : Option RowNumber). TablesFit c.take_part.new.state (given_after (book_in t) after conn own handle r c.take.result)) row
+          (subst (λ (b : BookView). TablesFit c.take_part.new.state (given_after b after conn own handle c.args.row c.take.result)) book (is after fit))),
       subst (λ (a : Answer). goes (attach_put u conn (ours a) item a) u ≡ after_answer id t after conn phase item a) (sym c.in-Taken.is) same,
     ))
     c.take_part.ensures
 
 pub returns-in-Settle : goal.returns-in-Settle
 returns-in-Settle c = on_ok_weaker c.on_settle.result
-    (λ is t after fit heard answer row.
+    (λ is t after fit heard answer book row.
     let id = c.args.id.now in
     let item = c.args.item.now in
     let conn = c.args.conn.0 in
@@ -65,7 +67,7 @@ returns-in-Settle c = on_ok_weaker c.on_settle.result
 
 pub returns-in_default : goal.returns-in_default
 returns-in_default c = on_ok_weaker c.say.result
-    (λ is t after fit heard answer row.
+    (λ is t after fit heard answer book row.
     let id = c.args.id.now in
     let item = c.args.item.now in
     let conn = c.args.conn.0 in

@@ -1,6 +1,6 @@
 use Rattle.theorems.specs.Always.{OnSound}
 use Rattle.theorems.specs.Each.{EachBound}
-use Rattle.theorems.specs.Came.{BindsOrTakesUp, BringsItsOutcome, EachDeliveryCame}
+use Rattle.theorems.specs.Came.{BindsByKind, BringsItsOutcome, EachDeliveryCame}
 use Rattle.theorems.proofs.Always.{holds_always, holds_from}
 use Rattle.theorems.proofs.AllSound.{trace_sound, all_came}
 use Rattle.theorems.proofs.Brings.{trace_brings}
@@ -9,7 +9,7 @@ use Rattle.theorems.proofs.theorems.messages_are_bound_once.Goals as goal
 
 pub returns : goal.returns
 returns c = (
-  holds_always (EachBound BindsOrTakesUp) (λ id g u trace. (trace_sound id g u trace).binds) (λ id lives u all. (lives_sound id lives u all).binds),
+  holds_always (EachBound BindsByKind) (λ id g u trace. (trace_sound id g u trace).binds) (λ id lives u all. (lives_sound id lives u all).binds),
   holds_always EachDeliveryCame (λ id g u trace. all_came u (trace_sound id g u trace).binds) (λ id lives u all. all_came u (lives_sound id lives u all).binds),
   (
     holds_from (OnSound (λ g u. EachBound BringsItsOutcome u)) (λ id g u trace sound. (trace_brings id g u trace sound).brings),

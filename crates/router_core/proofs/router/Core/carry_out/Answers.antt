@@ -33,7 +33,7 @@ returns-clause-fits g c = λ t f taken.
     journals_after c.prepare.new.self c.write.new.self t e c.in-Ok.field-0.acts.items (journals_stored core c.prepare.new.self t (ap store_of c.prepare.ensures.rest) f.journal) acts
     c.in-Ok-write.ensures.book c.in-Ok-write.ensures.count c.in-Ok-write.ensures.suits in
     let tables : TablesFit (state_of c.answer.new.self) (handled (id_of core) t (step_of e)) =
-    subst (λ (id : List ℕ). TablesFit (state_of c.answer.new.self) (answered id (booked t e) (step_of e))) same (c.in-Ok-answer.ensures.tables (booked t e) ready row) in
+    subst (λ (id : List ℕ). TablesFit (state_of c.answer.new.self) (answered id (booked t e) (step_of e))) same (c.in-Ok-answer.ensures.tables (booked t e) ready journal.book row) in
     fits_handled c.answer.new.self (id_of core) t e taken.taken tables c.in-Ok-answer.ensures.started (journals_stored c.write.new.self c.answer.new.self (booked t e) c.answer.ensures.store journal)
 
 pub returns-clause-written : goal.returns-clause-written

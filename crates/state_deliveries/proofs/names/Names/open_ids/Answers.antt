@@ -6,7 +6,7 @@ use Rattle.std.proofs.lemmas.List.{append-nil, drop_all}
 use Rattle.state_deliveries.specs.Naming.{opens}
 use Rattle.state_collections.specs.Ids.{at_id}
 use Rattle.state_deliveries.proofs.Opened.{is_there, is_small}
-use Rattle.state_deliveries.proofs.Ranges.{passing}
+use Rattle.router_trace.proofs.Ranges.{passing}
 use Rattle.state_deliveries.proofs.names.Names.open_ids.Goals as goal
 
 pub returns : goal.returns

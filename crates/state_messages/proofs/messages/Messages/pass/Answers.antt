@@ -16,7 +16,7 @@ returns-in_ok-bind-in-Some-2-clause-fits c = λ t old.
     let bound : Binding = message_to c.args.origin c.args.row lasting c.args.format c.args.payload c.in-Some.consumer in
     passed _ t c.in-Some.consumer c.args.origin c.args.row lasting c.args.format c.args.payload (consumer_of t (link_of t c.args.from)) chosen (c.lasts-lasting.ensures t noted.links)
     (bound_fits c.choose.new.self _ bound t refl refl refl
-    (c.in_ok-bind-in-Some-2.ensures t bound refl noted.incoming) (c.in_ok-bind-in-Some.ensures.fits t noted.deliveries) c.in_ok-bind-in-Some.ensures.touches noted)
+    (c.in_ok-bind-in-Some-2.ensures t bound refl noted.incoming) (c.in_ok-bind-in-Some.ensures.fits t refl noted.deliveries) c.in_ok-bind-in-Some.ensures.touches noted)
 
 pub returns-in-None-clause-fits : goal.returns-in-None-clause-fits
 returns-in-None-clause-fits c = λ t old.

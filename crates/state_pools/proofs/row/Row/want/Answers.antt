@@ -15,9 +15,9 @@ returns-in-Some-clause-quiet c enough share =
 
 pub returns-in-Some-clause-changed : goal.returns-in-Some-clause-changed
 returns-in-Some-clause-changed c share same a =
-    let change : Sharing → Sharing = λ pool. wanted (without_consumer pool c.args.number) c.args.number c.args.unused 0 c.args.held in
+    let change : Sharing → Sharing = λ pool. wanted (without_consumer pool c.args.number) c.args.number c.args.unused c.args.due c.args.held in
     written share (at c.args.self.now.pools) c.as_bytes-place.result.now (at (c.get_mut.follows.lender c.want.new.self)) c.in-Some.there.now c.want.new.self change c.in-Some.ensures.value
-    (c.get_mut.follows.holds c.want.new.self) (c.in_ok-want.ensures.wanted ∙ ap (λ pool. wanted pool c.args.number c.args.unused 0 c.args.held) c.drop_consumer.ensures) a
+    (c.get_mut.follows.holds c.want.new.self) (c.in_ok-want.ensures.wanted ∙ ap (λ pool. wanted pool c.args.number c.args.unused c.args.due c.args.held) c.drop_consumer.ensures) a
     ∙ ap (λ q. with_pool (pool_in_row share c.args.self.now) q change a) c.as_bytes-place.ensures.value
 
 pub returns-clause-quiet : goal.returns-clause-quiet
@@ -25,9 +25,9 @@ returns-clause-quiet c enough = absurd cc
 
 pub returns-clause-changed : goal.returns-clause-changed
 returns-clause-changed c share same a =
-    let change : Sharing → Sharing = λ pool. wanted (without_consumer pool c.args.number) c.args.number c.args.unused 0 c.args.held in
+    let change : Sharing → Sharing = λ pool. wanted (without_consumer pool c.args.number) c.args.number c.args.unused c.args.due c.args.held in
     let new = c.new-pool.ensures ∙ ap no_links (c.distribution.ensures ∙ same ∙ ap share (sym c.as_bytes-place.ensures.value)) in
     c.in_ok-put.ensures share a
     ∙ begun share (at c.args.self.now.pools) c.as_bytes-place.result.now (at c.get_mut.follows.lender-at-none) c.get_mut.follows.holds-at-none c.want-2.new.self change c.in_default.ensures.value
-    (c.in_ok-want-2.ensures.wanted ∙ ap (λ pool. wanted pool c.args.number c.args.unused 0 c.args.held) new) a
+    (c.in_ok-want-2.ensures.wanted ∙ ap (λ pool. wanted pool c.args.number c.args.unused c.args.due c.args.held) new) a
     ∙ ap (λ q. with_pool (pool_in_row share c.args.self.now) q change a) c.as_bytes-place.ensures.value

@@ -1,5 +1,5 @@
 -- The ids in a range that pass a test, found among those that a table has.
-use Rattle.std.proofs.Common.{◌≡◌, ◌∙◌, ◌<◌, ◌≤◌, ◌+◌, ◌%◌, ◌^◌, ◌||◌, ◌&&◌, ◌++◌, ℕ, zero, suc, Bool, true, false, refl, sym, ap, subst, cond, arith, List, [], ◌∷◌}
+use Rattle.std.proofs.Common.{◌≡◌, ◌∙◌, ◌<◌, ◌≤◌, ◌+◌, ◌%◌, ◌^◌, ◌||◌, ◌&&◌, ◌++◌, ℕ, zero, suc, Bool, true, false, refl, sym, ap, subst, cond, arith, List, [], ◌∷◌, drop, append_assoc, append-nil}
 use Rattle.std.specs.Prelude.{◌==◌, nat_lt, nat_le, if◌then◌else◌}
 use Rattle.std.specs.List.{filter, AllByRecursion}
 use Rattle.std.specs.List.Sorted.{IsStrictlySortedBy}
@@ -241,3 +241,26 @@ passing first last p there ids f low is_there rise exact =
     both true false true h = h refl
     both true false false h = refl
     both false t q h = refl
+
+-- A rising list with exactly the ids of the range that pass has them in order.
+pub all_passing : (first last : ℕ) (p : ℕ → Bool) (ids : List ℕ) → first < 2 ^ 32 → ((id : ℕ) → p id ≡ true → id < 2 ^ 32) → Small ids
+    → IsRising first ids → ((id : ℕ) → id < 2 ^ 32 → has id ids ≡ (in_range first last id && p id)) → ids ≡ filter p (ids_between first last)
+all_passing first last p ids f low small rise exact =
+    same_list first f ids (filter p (ids_between first last)) rise
+    (IsStrictlySortedBy-filter (by_distance first) p (ids_between first last) (between_rises first last f))
+    small (filter_small p (ids_between first last) low)
+    (λ id s. exact id s ∙ ap (λ b. b && p id) (sym (has_between first last id f s)) ∙ sym (has_filter p id (ids_between first last)))
+
+-- Small ids that were copied from a list, and those that remain.
+pub record AreCopied (found : List ℕ) (k : ℕ) (ids : List ℕ) : Type 0 where
+  pub whole : found ++ drop k ids ≡ ids
+  pub small : Small found
+
+pub one_copied : (found ids : List ℕ) (k x y : ℕ) → drop k ids ≡ x ∷ drop (k + 1) ids → y ≡ x → y < 2 ^ 32 → AreCopied found k ids → AreCopied (found ++ y ∷ []) (k + 1) ids
+one_copied found ids k x y next is low copied = record {
+  whole = append_assoc found (y ∷ []) (drop (k + 1) ids) ∙ ap (λ z. found ++ (z ∷ drop (k + 1) ids)) is ∙ ap (λ rest. found ++ rest) (sym next) ∙ copied.whole;
+  small = snoc_all (λ id. id < 2 ^ 32) found y copied.small low;
+}
+
+pub all_copied : (found ids : List ℕ) (k : ℕ) → drop k ids ≡ [] → AreCopied found k ids → found ≡ ids
+all_copied found ids k none copied = sym (append-nil found) ∙ ap (λ rest. found ++ rest) (sym none) ∙ copied.whole
