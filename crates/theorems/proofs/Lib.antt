@@ -55,6 +55,7 @@ pub mod Joins
 pub mod Lasting
 pub mod Taking
 pub mod Brings
+pub mod Mapped
 pub mod Consuming
 pub mod Naming
 pub mod Keeps

@@ -3,3 +3,4 @@ pub use Rattle.theorems.specs.Keeping.{IsKeptFirst}
 pub use Rattle.theorems.specs.Admitted.{RowIsAdmitted, EachRowIsBoundOnce, EachNewRowIsBound}
 pub use Rattle.theorems.specs.Kept.{OutcomeIsKept, EachOutcomeIsKept, EachRowIsDecidedOnce, RowsAreDecidedOnce}
 pub use Rattle.theorems.specs.Accepting.{RowsAreAcceptedByConsumers, AcceptedIsTrue}
+pub use Rattle.theorems.specs.Mapped.{MapIsOfBook, MapIsTrue}

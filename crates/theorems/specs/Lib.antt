@@ -17,6 +17,7 @@ pub mod Decided
 pub mod Told
 pub mod Kept
 pub mod Accepting
+pub mod Mapped
 pub mod Keeping
 pub mod Admitted
 pub mod Order

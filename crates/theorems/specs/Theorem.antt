@@ -10,7 +10,7 @@ use Rattle.router_core.specs.declared.router.Core.{Core}
 use Rattle.theorems.specs.Alike.{AnsweredAlone, SameWheneverTaken, SameHoweverCut}
 use Rattle.theorems.specs.Always.{Always, AlwaysFrom, AlwaysInTurn, AlwaysOnSound, InOneRun, InScripts, OnSound}
 use Rattle.theorems.specs.Credit.{WithinCredit}
-use Rattle.theorems.specs.Durable.{IsKeptFirst, RowIsAdmitted, EachRowIsBoundOnce, EachNewRowIsBound, OutcomeIsKept, EachOutcomeIsKept, EachRowIsDecidedOnce, RowsAreDecidedOnce, RowsAreAcceptedByConsumers, AcceptedIsTrue}
+use Rattle.theorems.specs.Durable.{IsKeptFirst, RowIsAdmitted, EachRowIsBoundOnce, EachNewRowIsBound, OutcomeIsKept, EachOutcomeIsKept, EachRowIsDecidedOnce, RowsAreDecidedOnce, RowsAreAcceptedByConsumers, AcceptedIsTrue, MapIsOfBook, MapIsTrue}
 use Rattle.theorems.specs.Each.{EachOut, EachBound}
 use Rattle.theorems.specs.Lives.{InLives, InSmallLives}
 use Rattle.theorems.specs.Locked.{Kind, UnderTheLock, UnderTheLockIfSmall}
@@ -60,9 +60,11 @@ DurableOutcomesAreKeptFirst =
     AlwaysInTurn (OnSound EachOutcomeIsKept) × AlwaysFrom (OnSound EachRowIsDecidedOnce)
     × InSmallLives (EachOut OutcomeIsKept) × InLives RowsAreDecidedOnce
 
--- What the book has as accepted its consumer accepted, in this run or an earlier one; no producer is told accepted before.
+-- What the book has as accepted its consumer accepted, in this run or an earlier one; no producer is told accepted
+-- before, by a disposition or by the map of an attach, which has what the book has.
 abbrev pub AcceptedIsToldTruly : Type 0
-AcceptedIsToldTruly = InLives RowsAreAcceptedByConsumers × InSmallLives (EachOut AcceptedIsTrue)
+AcceptedIsToldTruly =
+    InLives RowsAreAcceptedByConsumers × InSmallLives (EachOut AcceptedIsTrue) × AlwaysOnSound (EachOut MapIsOfBook) × InLives (EachOut MapIsTrue)
 
 -- Under the lock, whatever threads do and whatever runs were before: within credit, outcomes kept first, decided once.
 abbrev pub TheLockKeepsThem : {T : Type 0} → Kind T → Type 0
