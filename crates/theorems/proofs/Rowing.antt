@@ -183,7 +183,7 @@ bound_kept b u can was = record {
 -- a row that is taken up
 
 -- the attachment with a key, if the router is the sender there, is one on which it sends
-taken_sends : (u : Trace) (key : LinkKey) (a : Attachment) → consumer_with u key ≡ Some a → Sends u a
+pub taken_sends : (u : Trace) (key : LinkKey) (a : Attachment) → consumer_with u key ≡ Some a → Sends u a
 taken_sends u key a is = by_last (last_of_key u key) is
   where
     by_link : (x : Attachment) (v : Option Link) → link_of u x ≡ v → has_number x.number v ≡ true → is_consumer v ≡ true → Sends u x

@@ -4,3 +4,4 @@ pub use Rattle.theorems.specs.Admitted.{RowIsAdmitted, EachRowIsBoundOnce, EachN
 pub use Rattle.theorems.specs.Kept.{OutcomeIsKept, EachOutcomeIsKept, EachRowIsDecidedOnce, RowsAreDecidedOnce}
 pub use Rattle.theorems.specs.Accepting.{RowsAreAcceptedByConsumers, AcceptedIsTrue}
 pub use Rattle.theorems.specs.Mapped.{MapIsOfBook, MapIsTrue}
+pub use Rattle.theorems.specs.OwnConsumer.{GoesToOwnConsumer, NumbersAreGivenOnce}

@@ -18,6 +18,7 @@ pub mod Told
 pub mod Kept
 pub mod Accepting
 pub mod Mapped
+pub mod OwnConsumer
 pub mod Keeping
 pub mod Admitted
 pub mod Order

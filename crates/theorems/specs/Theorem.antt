@@ -10,7 +10,7 @@ use Rattle.router_core.specs.declared.router.Core.{Core}
 use Rattle.theorems.specs.Alike.{AnsweredAlone, SameWheneverTaken, SameHoweverCut}
 use Rattle.theorems.specs.Always.{Always, AlwaysFrom, AlwaysInTurn, AlwaysOnSound, InOneRun, InScripts, OnSound}
 use Rattle.theorems.specs.Credit.{WithinCredit}
-use Rattle.theorems.specs.Durable.{IsKeptFirst, RowIsAdmitted, EachRowIsBoundOnce, EachNewRowIsBound, OutcomeIsKept, EachOutcomeIsKept, EachRowIsDecidedOnce, RowsAreDecidedOnce, RowsAreAcceptedByConsumers, AcceptedIsTrue, MapIsOfBook, MapIsTrue}
+use Rattle.theorems.specs.Durable.{IsKeptFirst, RowIsAdmitted, EachRowIsBoundOnce, EachNewRowIsBound, OutcomeIsKept, EachOutcomeIsKept, EachRowIsDecidedOnce, RowsAreDecidedOnce, RowsAreAcceptedByConsumers, AcceptedIsTrue, MapIsOfBook, MapIsTrue, GoesToOwnConsumer, NumbersAreGivenOnce}
 use Rattle.theorems.specs.Each.{EachOut, EachBound}
 use Rattle.theorems.specs.Lives.{InLives, InSmallLives}
 use Rattle.theorems.specs.Locked.{Kind, UnderTheLock, UnderTheLockIfSmall}
@@ -65,6 +65,11 @@ DurableOutcomesAreKeptFirst =
 abbrev pub AcceptedIsToldTruly : Type 0
 AcceptedIsToldTruly =
     InLives RowsAreAcceptedByConsumers × InSmallLives (EachOut AcceptedIsTrue) × AlwaysOnSound (EachOut MapIsOfBook) × InLives (EachOut MapIsTrue)
+
+-- What is sent of a row goes to the link of the consumer for which it was admitted, in this run or an earlier one; it
+-- was admitted once, and so its consumer's terminus was made once.
+abbrev pub RowsStayWithConsumers : Type 0
+RowsStayWithConsumers = InLives (EachOut GoesToOwnConsumer) × InLives NumbersAreGivenOnce
 
 -- Under the lock, whatever threads do and whatever runs were before: within credit, outcomes kept first, decided once.
 abbrev pub TheLockKeepsThem : {T : Type 0} → Kind T → Type 0

@@ -9,7 +9,7 @@ ghost use Rattle.theorems.specs.Theorem.{AStopLeavesAPrefix, ARouterGoesOn};
 ghost use Rattle.theorems.specs.Theorem.{NoDeliveryStartsBeyondCredit};
 ghost use Rattle.theorems.specs.Theorem.{ADeliveryHasOneConsumer, FramesCarryWhatWasBound, MessagesAreBoundOnce};
 ghost use Rattle.theorems.specs.Theorem.{OutcomesAreAsGiven, OutcomesAreToldOnce, DurableOutcomesAreKeptFirst};
-ghost use Rattle.theorems.specs.Theorem.{AcceptedIsToldTruly, TheLockKeepsThem};
+ghost use Rattle.theorems.specs.Theorem.{AcceptedIsToldTruly, RowsStayWithConsumers, TheLockKeepsThem};
 ghost use Rattle.theorems.specs.Theorem.{DurableLinksAreKeptFirst, DurableMessagesAreKeptFirst};
 ghost use Rattle.theorems.specs.Theorem.{ConnectionsKeepOrder, WindowsAreKept};
 ghost use Rattle.theorems.specs.Theorem.{ScriptsKeepOrder, ScriptsKeepWindowsAndCredit};
@@ -120,6 +120,14 @@ pub fn durable_outcomes_are_kept_first()
 /// may have been in an earlier run, whose end was lost to all but the book (AMQP 1.0 part 2, sections 2.6.12, 2.6.13 and 2.7.3).
 pub fn accepted_is_told_truly()
     ensures { AcceptedIsToldTruly }
+{}
+
+/// Over every list of runs, each ended by a stop anywhere: each transfer for a delivery with a row goes to the link of the row's own consumer. The
+/// row was admitted, in this run or an earlier one, for a terminus that was made, and the link is durable and has that terminus' key; or for
+/// none, in this run, and the link is the one to which its message was bound then. In all runs together at most one row is admitted under a number,
+/// and at most one terminus made under one, so that a row has one consumer (AMQP 1.0 part 2, section 2.6.12, and part 3, sections 3.5.3 to 3.5.5).
+pub fn rows_stay_with_consumers()
+    ensures { RowsStayWithConsumers }
 {}
 
 /// A router under the lock, whatever its threads do, has a history since its very opening, which is a trace: on no link does it
