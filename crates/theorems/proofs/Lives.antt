@@ -14,6 +14,7 @@ use Rattle.theorems.specs.Keeping.{IsKeptFirst}
 use Rattle.theorems.specs.Kept.{OutcomeIsKept, RowsAreDecidedOnce}
 use Rattle.theorems.specs.Lives.{Life, Lives, CutOff, GoesInTurn, InLives, InSmallLives, AtEachEnd}
 use Rattle.theorems.specs.Mapped.{MapIsOfBook}
+use Rattle.theorems.specs.OwnRow.{TellsItsOwnRow}
 use Rattle.theorems.specs.Windows.{WindowKept}
 use Rattle.theorems.proofs.AllSound.{moves_sound}
 use Rattle.theorems.proofs.Brings.{Brings, no_brings, opened_brings, moves_brings, cut_brings}
@@ -97,3 +98,6 @@ lives_past id (x ∷ xs) u all small =
 
 pub lives_outcomes : InSmallLives (EachOut OutcomeIsKept)
 lives_outcomes = λ id lives u all small. (lives_past id lives u all small).law
+
+pub lives_tell_own : InSmallLives (EachOut TellsItsOwnRow)
+lives_tell_own = λ id lives u all small. (lives_past id lives u all small).own

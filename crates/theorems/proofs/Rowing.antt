@@ -173,6 +173,7 @@ can_message u b o is binds fact = record {
 pub bound_kept : (b : Binding) (u : Trace) → CanBind u b → Kept u [] → Kept (Bound b ∷ u) []
 bound_kept b u can was = record {
   law = was.law;
+  own = was.own;
   facts = bound_facts b u can.new can.joined was.facts;
   standing = bound_standing b u can.consumer can.producer was.standing;
   named = bound_named b u was.named;

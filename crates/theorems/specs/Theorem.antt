@@ -10,7 +10,7 @@ use Rattle.router_core.specs.declared.router.Core.{Core}
 use Rattle.theorems.specs.Alike.{AnsweredAlone, SameWheneverTaken, SameHoweverCut}
 use Rattle.theorems.specs.Always.{Always, AlwaysFrom, AlwaysInTurn, AlwaysOnSound, InOneRun, InScripts, OnSound}
 use Rattle.theorems.specs.Credit.{WithinCredit}
-use Rattle.theorems.specs.Durable.{IsKeptFirst, RowIsAdmitted, EachRowIsBoundOnce, EachNewRowIsBound, OutcomeIsKept, EachOutcomeIsKept, EachRowIsDecidedOnce, RowsAreDecidedOnce, RowsAreAcceptedByConsumers, AcceptedIsTrue, MapIsOfBook, MapIsTrue, GoesToOwnConsumer, NumbersAreGivenOnce}
+use Rattle.theorems.specs.Durable.{IsKeptFirst, RowIsAdmitted, EachRowIsBoundOnce, EachNewRowIsBound, OutcomeIsKept, EachOutcomeIsKept, EachRowIsDecidedOnce, RowsAreDecidedOnce, RowsAreAcceptedByConsumers, AcceptedIsTrue, MapIsOfBook, MapIsTrue, GoesToOwnConsumer, NumbersAreGivenOnce, TellsItsOwnRow}
 use Rattle.theorems.specs.Each.{EachOut, EachBound}
 use Rattle.theorems.specs.Lives.{InLives, InSmallLives}
 use Rattle.theorems.specs.Locked.{Kind, UnderTheLock, UnderTheLockIfSmall}
@@ -54,11 +54,12 @@ OutcomesAreAsGiven = OutcomesAreGiven × OutcomesAreOfConsumers
 abbrev pub OutcomesAreToldOnce : Type 0
 OutcomesAreToldOnce = ToldAtMostOnce × ToldAnew × Always (EachOut TellsAsGiven)
 
--- The outcome of a delivery with a row is in the journal's book before it is told, and no row is decided twice.
+-- The outcome of a delivery with a row is in the journal's book before it is told, to the row's own producer, and no row
+-- is decided twice.
 abbrev pub DurableOutcomesAreKeptFirst : Type 0
 DurableOutcomesAreKeptFirst =
     AlwaysInTurn (OnSound EachOutcomeIsKept) × AlwaysFrom (OnSound EachRowIsDecidedOnce)
-    × InSmallLives (EachOut OutcomeIsKept) × InLives RowsAreDecidedOnce
+    × InSmallLives (EachOut OutcomeIsKept) × InLives RowsAreDecidedOnce × InSmallLives (EachOut TellsItsOwnRow)
 
 -- What the book has as accepted its consumer accepted, in this run or an earlier one; no producer is told accepted
 -- before, by a disposition or by the map of an attach, which has what the book has.

@@ -108,7 +108,9 @@ pub fn outcomes_are_told_once()
 /// (its numbers rise, no limit is passed, and the termini that rows keep stand): where a producer is told the outcome
 /// of a delivery with a row, the book has that row, decided, with that outcome. `Core::handle` has the book on the
 /// disk before it puts anything out, so no crash loses an outcome that was told. Each row is decided at most once,
-/// whatever happens (AMQP 1.0 part 2, section 2.6.12, and part 3, section 3.4). Lists of events have such traces.
+/// whatever happens. Over every list of runs the row that is told is the producer's own: it came on the terminus of the
+/// producer's link, with the tag of the delivery that the producer is told of (AMQP 1.0 part 2, section 2.6.12, and part
+/// 3, section 3.4). Lists of events have such traces.
 pub fn durable_outcomes_are_kept_first()
     ensures { DurableOutcomesAreKeptFirst }
 {}
