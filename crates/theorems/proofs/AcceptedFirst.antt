@@ -44,7 +44,7 @@ use Rattle.theorems.specs.Accepting.{WasAccepted, RowsAreAcceptedByConsumers, Ac
 use Rattle.theorems.specs.Came.{last_found}
 use Rattle.theorems.specs.Each.{EachOut}
 use Rattle.theorems.specs.Kept.{IsDecidedAs, RowIsDecided, OutcomeIsKept, role_is_decided, perf_is_decided}
-use Rattle.theorems.specs.Mapped.{IsToldOf, IsTrueEntry, EachEntry, EachTold, EachToldIn, MapIsTrue}
+use Rattle.theorems.specs.Mapped.{AnyEntry, IsToldOf, IsTrueEntry, EachEntry, EachTold, EachToldIn, MapIsTrue}
 use Rattle.theorems.specs.Lives.{Life, Lives, GoesInTurn, InLives, InSmallLives, AtEachEnd}
 use Rattle.theorems.proofs.Accepting.{acts_accept}
 use Rattle.theorems.proofs.Among.{Stands, stands_in_both, stands_in_filter_map, stands_after, parts}
@@ -333,11 +333,15 @@ entries_true t c a (d ∷ ds) all = (entry_true t c a d all, entries_true t c a 
 map_true : (t : Trace) (c : ℕ) (i : Item) → always_kept t c i → Accepted t → MapIsTrue t c i
 map_true t c (item.Frame sasl own body payload) kept all = by body
   where
-    by_role : (r : Role) (a : Attach) → EachTold (IsTrueEntry t c) r a
-    by_role Receiver a = entries_true t c a (entries_of a.unsettled) all
-    by_role Sender a = tt
+    any : (a : Attach) (entries : List UnsettledDelivery) → EachEntry (AnyEntry a) entries
+    any a [] = tt
+    any a (d ∷ ds) = (tt, any a ds)
 
-    by : (body : Perf) → EachToldIn (IsTrueEntry t c) body
+    by_role : (r : Role) (a : Attach) → EachTold (IsTrueEntry t c) AnyEntry r a
+    by_role Receiver a = entries_true t c a (entries_of a.unsettled) all
+    by_role Sender a = any a (entries_of a.unsettled)
+
+    by : (body : Perf) → EachToldIn (IsTrueEntry t c) AnyEntry body
     by (perf.Attach a) = by_role a.role a
     by _ = tt
 map_true t c _ kept all = tt

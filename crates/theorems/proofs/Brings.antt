@@ -117,7 +117,7 @@ found_row id t s u b up ordered lasting known =
           (planned t s.event up.key (answer_for t s.event) (key_before t s.event up.key known.by_key)) ordered there);
     }
 
-outcome_is : (o how : Option DeliveryState) (theirs : Option DeliveryState → Option DeliveryState) (given : Option DeliveryState)
+pub outcome_is : (o how : Option DeliveryState) (theirs : Option DeliveryState → Option DeliveryState) (given : Option DeliveryState)
     → how ≡ either_outcome o (theirs o) → given ≡ option_map journal_outcome (theirs o) → IsOutcomeThen o given how
 outcome_is (Some s) how theirs given gets acts = gets
 outcome_is None how theirs given gets acts = ap (option_map journal_outcome) gets ∙ sym acts

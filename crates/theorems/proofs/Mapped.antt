@@ -1,4 +1,4 @@
--- In every trace of the router that was opened on a sound book, the map with which it answers a producer's attach has the rows of the book, with their outcomes.
+-- In every trace of the router that was opened on a sound book, the map with which it answers an attach has the rows of the book, with their outcomes.
 use Rattle.std.proofs.Common.{◌≡◌, ◌∙◌, sym, ap, refl, subst, ◌⊎◌, inl, inr, ℕ, ◌<◌, Bool, true, false, not, ◌&&◌, ◌||◌, List, [], ◌∷◌, ◌++◌, append-nil}
 use Rattle.std.specs.Prelude.{◌==◌, Option, Some, None, map, filter, is_none, is_some, option_map, if◌then◌else◌}
 use Rattle.std.specs.List.{list_any}
@@ -21,7 +21,7 @@ use Rattle.book_model.specs.declared.row.Row.{Row as ARow}
 use Rattle.book_model.specs.declared.row.RowNumber.{RowNumber}
 use Rattle.book_model.specs.declared.terminus.LinkKey.{LinkKey}
 use Rattle.book_model.specs.declared.terminus.Terminus.{Terminus}
-use Rattle.book_model.specs.Book.{BookView, row_at, terminus_of, is_from, is_of, is_undecided, decided, forgotten, effects}
+use Rattle.book_model.specs.Book.{BookView, row_at, terminus_of, is_from, is_for, is_of, is_undecided, decided, forgotten, effects}
 use Rattle.book_model.specs.Sound.{IsSound}
 use Rattle.gate_journal.specs.Ordered.{IsOrdered, number_of_row}
 use Rattle.journal_store.proofs.Sound.{sound_is_ordered}
@@ -47,13 +47,13 @@ use Rattle.router_trace.specs.declared.event.Event.TheVariants as event
 use Rattle.router_trace.specs.declared.handle.Attachment.{Attachment}
 use Rattle.state_sessions.specs.Windows.{windows}
 use Rattle.state_messages.specs.Messages.{grants_due, with_bound}
-use Rattle.resume_core.specs.Resuming.{entries_of, brief_outcome, is_unforgotten, is_forgotten_by, is_unsettled_after, producer_entry, forgotten_rows, producer_map}
+use Rattle.resume_core.specs.Resuming.{entries_of, brief_outcome, map_entry, is_unforgotten, is_forgotten_by, is_unsettled_after, producer_entry, forgotten_rows, producer_map, row_tag, told_of, is_told_of, outcome_given, outcome_after, listed_entry, consumer_entry, consumer_map}
 use Rattle.reply_rows.specs.declared.answer.Answer.{Answer}
 use Rattle.reply_rows.specs.declared.answer.Answer.TheVariants.{Attach, Refuse}
-use Rattle.reply_rows.specs.Booking.{wanted_key, wanted_address, wants_durable, new_terminus, rows_of, sent_rows, answer_at}
+use Rattle.reply_rows.specs.Booking.{wanted_key, wanted_address, wants_durable, new_terminus, rows_of, sent_rows, bound_rows, answer_at}
 use Rattle.reply_rows.specs.Rows.{said}
-use Rattle.router_reply.specs.Acts.{Journaled, live_answer, event_answer, answer_acts, admitted_acts, or_admits, event_acts, finds_full, journaled, book_in, acts_of, book_after_event, booked, answer_of}
-use Rattle.router_reply.specs.Asking.{all_rows, forgotten_of, forgotten_for}
+use Rattle.router_reply.specs.Acts.{Journaled, live_answer, event_answer, answer_acts, admitted_acts, or_admits, event_acts, finds_full, journaled, book_in, acts_of, book_after_event, booked, book_found, answer_of, answer_by, answer_to_event}
+use Rattle.router_reply.specs.Asking.{all_rows, rows_at, receives, resumed_key, forgotten_of, forgotten_for}
 use Rattle.router_reply.specs.Deciding.{decided as decided_in, forgotten as forgotten_at, item_forgets, terminus_of_event}
 use Rattle.router_reply.specs.Resuming.{map_of, map_for, resumed}
 use Rattle.router_reply.specs.Replies.{closing_of, ends, heard, with_map, map_told, attach_answer, taken_after, taken, stolen_by, refused, bound_by, item_put, item_row, own_row, replied}
@@ -67,10 +67,10 @@ use Rattle.router_core.proofs.Following.{Steps, passed_on, passed_keeps}
 use Rattle.router_core.proofs.Resuming.{resumed_keeps}
 use Rattle.theorems.specs.Came.{last_found}
 use Rattle.theorems.specs.Each.{EachOut}
-use Rattle.theorems.specs.Mapped.{IsToldOf, IsOfRow, IsEntry, EachEntry, EachTold, EachToldIn, EachToldBy, MapIsOfBook}
-use Rattle.theorems.proofs.Among.{Stands as StandsIn, stands_in_both, stands_in_filter, stands_in_map, parts}
+use Rattle.theorems.specs.Mapped.{IsToldOf, IsOfRow, IsOfBoundRow, IsEntry, IsBoundEntry, EachEntry, EachTold, EachToldIn, EachToldBy, MapIsOfBook}
+use Rattle.theorems.proofs.Among.{Stands as StandsIn, stands_in_both, stands_in_filter, stands_in_filter_map, stands_in_map, parts}
 use Rattle.theorems.proofs.Booked.{IsPlanned, admitted_stay, all_stay}
-use Rattle.theorems.proofs.Brings.{Brings, start_brings, handled_brings, took_brings}
+use Rattle.theorems.proofs.Brings.{Brings, outcome_is, start_brings, handled_brings, took_brings}
 use Rattle.theorems.proofs.AllSound.{acted_sound, handled_sound}
 use Rattle.theorems.proofs.Giving.{row_given, acts_give}
 use Rattle.theorems.proofs.Keeping.{answer_after, Stands, names_on, detach_names, key_there, mapped_key, attach_stands}
@@ -78,6 +78,7 @@ use Rattle.theorems.proofs.Looking.{found_in, found_below}
 use Rattle.theorems.proofs.Made.{stays_terminus, admitted_keep}
 use Rattle.theorems.proofs.Resumed.{ends_found, bound_found}
 use Rattle.theorems.proofs.Rows.{Rows, start_rows, took_rows, handled_rows}
+use Rattle.theorems.proofs.Served.{row_gets}
 use Rattle.theorems.proofs.Settling.{settled, settled_row, Stays}
 use Rattle.theorems.proofs.Sound.{Sound, sound_start, took_sound}
 use Rattle.theorems.proofs.Tests.{some_same, none_not_some}
@@ -234,6 +235,12 @@ row_there n (x ∷ rows) r e = by (x.number.0 == n) e (λ later. inr (row_there 
     by true e more = inl (some_same e)
     by false e more = more e
 
+-- the entry that a consumer's map has of a row
+listed_is : (tag : List ℕ) (told : Bool) (outcome : Option DeliveryState) (entry : UnsettledDelivery) → listed_entry tag told outcome ≡ Some entry → map_entry tag outcome ≡ entry
+listed_is tag true outcome entry is = some_same is
+listed_is tag false None entry is = some_same is
+listed_is tag false (Some outcome) entry is = absurd (none_not_some is)
+
 -- An attach that is taken.
 
 module _ (t : Trace) (from : ConnectionId) (sasl : Bool) (channel : ℕ) (a : AnAttach) (payload : List ℕ) (p : Conn) (own : ℕ) where
@@ -291,6 +298,7 @@ module _ (t : Trace) (from : ConnectionId) (sasl : Bool) (channel : ℕ) (a : An
       by true = refl
       by false = refl
 
+  -- a producer's map
   abbrev Entry : UnsettledDelivery → Type 0
   Entry entry = IsOfRow (book_after_event t attached) (acts_of t attached) wished entry
 
@@ -343,12 +351,72 @@ module _ (t : Trace) (from : ConnectionId) (sasl : Bool) (channel : ℕ) (a : An
           subst (λ (r : Role). EachEntry Entry (map_of r complete theirs (book_in t) (terminus_of wished (book_in t).termini))) (sym role)
           (by_terminus wants (terminus_of wished (book_in t).termini) refl)
 
+  -- a consumer's map
+  abbrev BoundEntry : UnsettledDelivery → Type 0
+  BoundEntry entry = IsOfBoundRow (book_in t) (acts_of t attached) wished entry
+
+  resumes : standing (found t attached from.0) ≡ Some p → answer_of (booked t attached) from.0 p body ≡ Attach own → a.role ≡ Receiver → wants_durable a ≡ true
+      → resumed_key (booked t attached) attached (answer_to_event (booked t attached) attached) ≡ Some wished
+  resumes stands answers role wants =
+      ap (λ (v : Option Conn). resumed_key (booked t attached) attached (answer_by (booked t attached) from.0 body v)) stands
+      ∙ ap (resumed_key (booked t attached) attached) answers
+      ∙ ap (λ (r : Role). if receives r then (if wants_durable a then Some wished else None) else None) role
+      ∙ ap (λ (w : Bool). if w then Some wished else None) wants
+
+  bound_entry_is : Brings t → standing (found t attached from.0) ≡ Some p → answer_of (booked t attached) from.0 p body ≡ Attach own → a.role ≡ Receiver → wants_durable a ≡ true
+      → (x : Terminus) → terminus_of wished (book_in t).termini ≡ Some x → (entry : UnsettledDelivery) → StandsIn UnsettledDelivery entry (consumer_map (entries_of a.unsettled) (bound_rows (book_in t) x))
+      → BoundEntry entry
+  bound_entry_is brings stands answers role wants x there entry is =
+      let ordered : IsOrdered (book_in t) = sound_is_ordered (book_in t) brings.book in
+      let theirs : List UnsettledDelivery = entries_of a.unsettled in
+      let one = stands_in_filter_map ARow UnsettledDelivery (consumer_entry theirs) entry (bound_rows (book_in t) x) is in
+      let row : ARow = one.0 in
+      let bound = stands_in_filter ARow (is_for x.number.0) row (rows_of (book_in t) x) one.1 in
+      let kept = stands_in_filter ARow (is_of x.number.0) row (book_in t).rows bound.0 in
+      let place = parts ARow row (book_in t).rows kept.0 in
+      let same : map_entry (row_tag row) (outcome_after theirs row) ≡ entry = listed_is (row_tag row) (is_told_of theirs row) (outcome_after theirs row) entry one.2 in
+      record {
+        terminus = x;
+        of_key = there;
+        row = row;
+        earlier = place.0;
+        later = place.1;
+        kept = place.2;
+        waits = bound.1;
+        its_tag = ap (λ (d : UnsettledDelivery). d.tag.items) (sym same);
+        outcome = outcome_after theirs row;
+        is_outcome = outcome_is row.outcome (outcome_after theirs row) (outcome_given (told_of theirs row)) (outcome_among (acts_of t attached) row.number) refl
+            (row_gets t attached wished a x row ordered brings.lasting (resumes stands answers role wants) refl there (one_there (book_in t).rows row ordered.rows_rise kept.0) bound.1);
+        state = ap (λ (d : UnsettledDelivery). d.state) (sym same);
+      }
+
+  pub bound_map_is : Brings t → standing (found t attached from.0) ≡ Some p → answer_of (booked t attached) from.0 p body ≡ Attach own → a.role ≡ Receiver
+      → EachEntry BoundEntry (map_told (booked t attached) from.0 a (Attach own))
+  bound_map_is brings stands answers role = by_wish (wants_durable a) refl
+    where
+      complete : Bool
+      complete = not a.incomplete_unsettled
+
+      theirs : List UnsettledDelivery
+      theirs = entries_of a.unsettled
+
+      by_terminus : wants_durable a ≡ true → (v : Option Terminus) → terminus_of wished (book_in t).termini ≡ v → EachEntry BoundEntry (consumer_map theirs (rows_at (book_in t) v))
+      by_terminus wants None there = tt
+      by_terminus wants (Some x) there =
+          each_of BoundEntry (consumer_map theirs (bound_rows (book_in t) x)) (λ d is. bound_entry_is brings stands answers role wants x there d is)
+
+      by_wish : (w : Bool) → wants_durable a ≡ w → EachEntry BoundEntry (map_for (book_in t) (Some a) (if w then Some wished else None))
+      by_wish false wants = tt
+      by_wish true wants =
+          subst (λ (r : Role). EachEntry BoundEntry (map_of r complete theirs (book_in t) (terminus_of wished (book_in t).termini))) (sym role)
+          (by_terminus wants (terminus_of wished (book_in t).termini) refl)
+
 -- items that contain no attach
 
 abbrev pub Mapped : Trace → Type 0
 Mapped t = EachOut MapIsOfBook t
 
-less_perf : (body : Perf) (t : Trace) (c : ℕ) → is_attach_in body ≡ false → EachToldIn (IsEntry t c) body
+less_perf : (body : Perf) (t : Trace) (c : ℕ) → is_attach_in body ≡ false → EachToldIn (IsEntry t c) (IsBoundEntry t c) body
 less_perf (perf.Attach a) t c none = absurd cc
 less_perf _ t c none = tt
 
@@ -373,8 +441,8 @@ ends_mapped id (d ∷ ds) t was =
 -- the answers to an attach
 
 -- a refusal has no map
-refusal_mapped : (r : Role) (a p : AnAttach) (t : Trace) (c : ℕ) → p.unsettled ≡ None → EachTold (IsEntry t c) r p
-refusal_mapped Sender a p t c none = tt
+refusal_mapped : (r : Role) (a p : AnAttach) (t : Trace) (c : ℕ) → p.unsettled ≡ None → EachTold (IsEntry t c) (IsBoundEntry t c) r p
+refusal_mapped Sender a p t c none = subst (λ (v : Option (List UnsettledDelivery)). EachEntry (IsBoundEntry t c p) (entries_of v)) (sym none) tt
 refusal_mapped Receiver a p t c none = subst (λ (v : Option (List UnsettledDelivery)). EachEntry (IsEntry t c p) (entries_of v)) (sym none) tt
 
 refused_mapped : (t : Trace) (largest c own handle : ℕ) (e : Condition) (a : AnAttach) → Mapped t → Mapped (goes (each_to c (refused largest own handle e a)) t)
@@ -415,11 +483,12 @@ record StandsFound (t : Trace) (e : Event) (c : ℕ) (w : Trace) : Type 0 where
   stands : Stands t e c w
   found : last_found w ≡ booked t e
 
-abbrev IsMap : Trace → Event → ℕ → AnAttach → List UnsettledDelivery → Type 0
-IsMap t e c a ours = a.role ≡ Sender → EachEntry (IsOfRow (book_after_event t e) (acts_of t e) (wanted_key t c a)) ours
+record IsMap (t : Trace) (e : Event) (c : ℕ) (a : AnAttach) (ours : List UnsettledDelivery) : Type 0 where
+  sent : a.role ≡ Sender → EachEntry (IsOfRow (book_after_event t e) (acts_of t e) (wanted_key t c a)) ours
+  bound : a.role ≡ Receiver → EachEntry (IsOfBoundRow (book_in t) (acts_of t e) (wanted_key t c a)) ours
 
 answer_mapped : (t w : Trace) (e : Event) (c h : ℕ) (ours : List UnsettledDelivery) (a : AnAttach) → IsMap t e c a ours → StandsFound t e c w
-    → EachTold (IsEntry w c) (with_map ours (answer_to a h)).role (with_map ours (answer_to a h))
+    → EachTold (IsEntry w c) (IsBoundEntry w c) (with_map ours (answer_to a h)).role (with_map ours (answer_to a h))
 answer_mapped t w e c h ours a entries at = by a.role refl
   where
     answer : AnAttach
@@ -428,17 +497,23 @@ answer_mapped t w e c h ours a entries at = by a.role refl
     key : key_at w c answer ≡ wanted_key t c a
     key = mapped_key ours w c (answer_to a h) ∙ key_there t w c a h at.stands.names
 
-    here : a.role ≡ Sender → EachEntry (IsEntry w c answer) (entries_of answer.unsettled)
-    here role =
+    -- of a producer, and of a consumer
+    sent : a.role ≡ Sender → EachEntry (IsEntry w c answer) (entries_of answer.unsettled)
+    sent role =
         subst (λ (ds : List UnsettledDelivery). EachEntry (IsEntry w c answer) ds) (sym (answer_entries ours a h))
         (subst (λ (k : LinkKey). EachEntry (IsOfRow (book_in w) (acts_found (last_found w)) k) ours) (sym key)
         (subst (λ (v : Trace). EachEntry (IsOfRow (book_in w) (acts_found v) (wanted_key t c a)) ours) (sym at.found)
-        (subst (λ (b : BookView). EachEntry (IsOfRow b (acts_of t e) (wanted_key t c a)) ours) (sym at.stands.book) (entries role))))
+        (subst (λ (b : BookView). EachEntry (IsOfRow b (acts_of t e) (wanted_key t c a)) ours) (sym at.stands.book) (entries.sent role))))
 
-    by : (r : Role) → a.role ≡ r → EachTold (IsEntry w c) answer.role answer
-    by Sender role =
-        subst (λ (r : Role). EachTold (IsEntry w c) r answer) (sym (answer_role ours a h ∙ ap other role)) (here role)
-    by Receiver role = subst (λ (r : Role). EachTold (IsEntry w c) r answer) (sym (answer_role ours a h ∙ ap other role)) tt
+    bound : a.role ≡ Receiver → EachEntry (IsBoundEntry w c answer) (entries_of answer.unsettled)
+    bound role =
+        subst (λ (ds : List UnsettledDelivery). EachEntry (IsBoundEntry w c answer) ds) (sym (answer_entries ours a h))
+        (subst (λ (k : LinkKey). EachEntry (IsOfBoundRow (book_found (last_found w)) (acts_found (last_found w)) k) ours) (sym key)
+        (subst (λ (v : Trace). EachEntry (IsOfBoundRow (book_found v) (acts_found v) (wanted_key t c a)) ours) (sym at.found) (entries.bound role)))
+
+    by : (r : Role) → a.role ≡ r → EachTold (IsEntry w c) (IsBoundEntry w c) answer.role answer
+    by Sender role = subst (λ (r : Role). EachTold (IsEntry w c) (IsBoundEntry w c) r answer) (sym (answer_role ours a h ∙ ap other role)) (sent role)
+    by Receiver role = subst (λ (r : Role). EachTold (IsEntry w c) (IsBoundEntry w c) r answer) (sym (answer_role ours a h ∙ ap other role)) (bound role)
 
 answer_there : (t w : Trace) (e : Event) (c own largest : ℕ) (free : Option ℕ) (ours : List UnsettledDelivery) (a : AnAttach) → IsMap t e c a ours → StandsFound t e c w → Mapped w
     → Mapped (goes (each_to c (attach_answer largest own free ours a)) w)
@@ -470,13 +545,13 @@ taken_mapped t u w e c own ours a entries at was = by (holder u (key_at u c (ans
 more_none : (c : ℕ) (is : List Item) → Attachless (each_to c is) → Attachless (each_to c is ++ [])
 more_none c is less = subst (λ (ps : List Put). Attachless ps) (sym (append-nil (each_to c is))) less
 
-attach_row : (id : List ℕ) (t u w : Trace) (from : ConnectionId) (sasl : Bool) (channel : ℕ) (a : AnAttach) (payload : List ℕ) → IsOrdered (book_in t)
+attach_row : (id : List ℕ) (t u w : Trace) (from : ConnectionId) (sasl : Bool) (channel : ℕ) (a : AnAttach) (payload : List ℕ) → Brings t
     → ((p : Conn) → standing (found t (event.Item from (item.Frame sasl channel (perf.Attach a) payload)) from.0) ≡ Some p
     → StandsFound t (event.Item from (item.Frame sasl channel (perf.Attach a) payload)) from.0 w) → Mapped w
     → (v : Option Conn) → standing (found t (event.Item from (item.Frame sasl channel (perf.Attach a) payload)) from.0) ≡ v
     → Mapped (goes (item_row id (booked t (event.Item from (item.Frame sasl channel (perf.Attach a) payload))) u from.0 (item.Frame sasl channel (perf.Attach a) payload) v) w)
-attach_row id t u w from sasl channel a payload ordered stands was None none = was
-attach_row id t u w from sasl channel a payload ordered stands was (Some p) here = by (answer_of (booked t e) from.0 p i) refl
+attach_row id t u w from sasl channel a payload brings stands was None none = was
+attach_row id t u w from sasl channel a payload brings stands was (Some p) here = by (answer_of (booked t e) from.0 p i) refl
   where
     i : Item
     i = item.Frame sasl channel (perf.Attach a) payload
@@ -487,20 +562,23 @@ attach_row id t u w from sasl channel a payload ordered stands was (Some p) here
     by : (x : Answer) → answer_of (booked t e) from.0 p i ≡ x → Mapped (goes (item_put id (booked t e) u from.0 p i x) w)
     by (Attach own) answers =
         taken_mapped t u w e from.0 own (map_told (booked t e) from.0 a (Attach own)) a
-        (λ role. map_is t from sasl channel a payload p own ordered (takes_it t from sasl channel a payload p own here answers) role) (stands p here) was
+        (record {
+          sent = λ role. map_is t from sasl channel a payload p own (sound_is_ordered (book_in t) brings.book) (takes_it t from sasl channel a payload p own here answers) role;
+          bound = λ role. bound_map_is t from sasl channel a payload p own brings here answers role;
+        }) (stands p here) was
     by (Refuse own handle x) answers = refused_mapped w (largest_frame u from.0) from.0 own handle x a was
     by x answers = goes_mapped (each_to from.0 (said id p x) ++ []) w (more_none from.0 (said id p x) (less_said id from.0 p x)) was
 
-row_mapped : (id : List ℕ) (t : Trace) (s : Step) (e : Event) → s.event ≡ e → (b : Option Binding) → IsOrdered (book_in t)
+row_mapped : (id : List ℕ) (t : Trace) (s : Step) (e : Event) → s.event ≡ e → (b : Option Binding) → Brings t
     → Mapped (with_bound b (ends id (due t e) (Did s ∷ booked t e)))
     → Mapped (goes (own_row id (booked t e) (ends id (due t e) (Did s ∷ booked t e)) e) (with_bound b (ends id (due t e) (Did s ∷ booked t e))))
-row_mapped id t s (event.Item from (item.Frame sasl channel (perf.Attach a) payload)) is b ordered was =
+row_mapped id t s (event.Item from (item.Frame sasl channel (perf.Attach a) payload)) is b brings was =
     let e : Event = event.Item from (item.Frame sasl channel (perf.Attach a) payload) in
     let u : Trace = ends id (due t e) (Did s ∷ booked t e) in
-    attach_row id t u (with_bound b u) from sasl channel a payload ordered
+    attach_row id t u (with_bound b u) from sasl channel a payload brings
     (λ p here. record { stands = attach_stands id t from sasl channel a payload s b is p here; found = bound_found b u ∙ ends_found id (due t e) (Did s ∷ booked t e) })
     was (standing (found t e from.0)) refl
-row_mapped id t s e is b ordered was =
+row_mapped id t s e is b brings was =
     let u : Trace = ends id (due t e) (Did s ∷ booked t e) in
     goes_mapped (own_row id (booked t e) u e) (with_bound b u) (less_row id (booked t e) u e refl) was
 
@@ -512,13 +590,13 @@ passed_mapped = record {
   granting = λ t was. goes_mapped (grants_due t) t (on_less t (grants_due t) (grants_on t)) was;
 }
 
-pub handled_mapped : (id : List ℕ) (t : Trace) (s : Step) → IsSound (book_in t) → Mapped t → Mapped (handled id t s)
-handled_mapped id t s sound was =
+pub handled_mapped : (id : List ℕ) (t : Trace) (s : Step) → Brings t → Mapped t → Mapped (handled id t s)
+handled_mapped id t s brings was =
     let at : Trace = booked t s.event in
     let u : Trace = heard id at s in
     let b : Option Binding = bound_by at u s.event in
     let rows : Mapped (replied id at s) =
-    row_mapped id t s s.event refl b (sound_is_ordered (book_in t) sound) (bound_mapped b u (ends_mapped id (due t s.event) (Did s ∷ at) was)) in
+    row_mapped id t s s.event refl b brings (bound_mapped b u (ends_mapped id (due t s.event) (Did s ∷ at) was)) in
     let resumes : Trace = resumed at s.event (replied id at s) in
     let behind : Trace = passed_on resumes in
     goes_mapped (windows behind) behind (less_windows behind)
@@ -528,7 +606,7 @@ pub moves_mapped : (id : List ℕ) (ms : List Move) (t u : Trace) → Rows t →
 moves_mapped id [] t u rows sound brings was went = subst Mapped (sym went) was
 moves_mapped id (handles s ∷ ms) t u rows sound brings was went =
     moves_mapped id ms (handled id t s) u (handled_rows id t s rows) (handled_sound id t s rows sound) (handled_brings id t s (acted_sound t s.event sound) brings)
-    (handled_mapped id t s brings.book was) went.1
+    (handled_mapped id t s brings was) went.1
 moves_mapped id (takes x ∷ ms) t u rows sound brings was went =
     moves_mapped id ms (took_one x t) u (took_rows _ _ t rows) (took_sound _ _ t sound) (took_brings _ _ t brings) was went
 

@@ -118,8 +118,9 @@ pub fn durable_outcomes_are_kept_first()
 /// Over every list of runs, each ended by a stop anywhere: a row of the book that is decided as accepted was accepted by its consumer, with a
 /// disposition, or with the map of the attach by which its link came back; and a producer is told accepted, of a delivery with a row, only after
 /// that, by a disposition, or by the map of the router's attach when its own link comes back. Each entry of that map is of a row that the book has
-/// from the link's terminus, unforgotten, with the row's tag and outcome (where the router was opened on a sound book, or after other runs). It
-/// may have been in an earlier run, whose end was lost to all but the book (AMQP 1.0 part 2, sections 2.6.12, 2.6.13 and 2.7.3).
+/// from the link's terminus, unforgotten, with the row's tag and outcome; and each entry of a map for a consumer is of a row that waits for its
+/// terminus, with the outcome that it has after the acts of the attach (where the router was opened on a sound book, or after other runs). It may
+/// have been in an earlier run, whose end was lost to all but the book (AMQP 1.0 part 2, sections 2.6.12, 2.6.13 and 2.7.3).
 pub fn accepted_is_told_truly()
     ensures { AcceptedIsToldTruly }
 {}
