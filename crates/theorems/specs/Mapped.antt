@@ -66,18 +66,19 @@ pub record IsOfBoundRow (b : BookView) (acts : List Act) (key : LinkKey) (entry 
 abbrev pub IsBoundEntry : Trace → ℕ → Attach → UnsettledDelivery → Type 0
 IsBoundEntry t c a entry = IsOfBoundRow (book_found (last_found t)) (acts_found (last_found t)) (key_at t c a) entry
 
--- An entry for a producer with the state accepted is of a row that was accepted.
+-- An entry for a producer with the state accepted is of a row that was accepted; of one for a consumer that isn't said.
 abbrev pub IsTrueEntry : Trace → ℕ → Attach → UnsettledDelivery → Type 0
 IsTrueEntry t c a entry = entry.state ≡ Some state.Accepted → (of : IsEntry t c a entry) → WasAccepted t of.row.number
 
 abbrev pub AnyEntry : Attach → UnsettledDelivery → Type 0
 AnyEntry a entry = Unit {0}
 
--- What holds of each entry of the map in an attach of the router, as a receiver, which answers a producer, and as a sender, which answers a consumer.
+-- what holds of each of these entries
 abbrev pub EachEntry : (UnsettledDelivery → Type 0) → List UnsettledDelivery → Type 0
 EachEntry P [] = Unit {0}
 EachEntry P (d ∷ ds) = P d × EachEntry P ds
 
+-- What holds of each entry of the map in an attach of the router: P, if it answers a producer, as a receiver; Q, if it answers a consumer, as a sender.
 abbrev pub EachTold : (Attach → UnsettledDelivery → Type 0) → (Attach → UnsettledDelivery → Type 0) → Role → Attach → Type 0
 EachTold P Q Receiver a = EachEntry (P a) (entries_of a.unsettled)
 EachTold P Q Sender a = EachEntry (Q a) (entries_of a.unsettled)
