@@ -16,13 +16,23 @@ use Rattle.theorems.specs.Lives.{InLives, InSmallLives}
 use Rattle.theorems.specs.Locked.{Kind, UnderTheLock, UnderTheLockIfSmall}
 use Rattle.theorems.specs.Messages.{BindsByKind, BringsItsOutcome, EachDeliveryCame, StaysWithConsumer, NeverComesBack, OfMessages, CarriesWhatWasBound, FramesJoin, OutcomesAreGiven, OutcomesAreOfConsumers, ToldAtMostOnce, ToldAnew, TellsAsGiven}
 use Rattle.theorems.specs.Order.{KeepsOrder, BeginsWithHeaders}
-use Rattle.theorems.specs.Stops.{Stopping, AnyMomentLeavesAPrefix, TheEndLeavesAll, EndsALife, GoesOnFrom}
+use Rattle.theorems.specs.Stops.{Stopping, AnyMomentLeavesAPrefix, TheEndLeavesAll, AFaultLeavesAllAnswered, EndsALife, EndsALifeAnswered, GoesOnFrom}
 use Rattle.theorems.specs.Windows.{WindowKept}
 
--- Stopped at any moment, the journal opens to the book after some first events, or after the next one too; at the
--- end, if no fault was answered, to the book after all of them. It is the book of the runs before, and of this one.
+-- The headline. Stopped before, within or after any call of its files, the journal reopens to the book of a prefix of the
+-- events handled that holds every event answered; and over every list of runs each row is decided at most once, a producer
+-- is told accepted only after its consumer accepted, and no link starts a delivery beyond its granted credit.
+abbrev pub TheHeadline : {T : Type 0} → Stopping T → Core T → List Event → Core T → Driven → Type 0
+TheHeadline d old es new x =
+    AStopLeavesAPrefix d old es new x × InLives RowsAreDecidedOnce × AcceptedIsToldTruly × InLives WithinCredit
+
+-- Stopped at any moment, the journal opens to the book after some first events, or after the next one too; at the end, if
+-- no fault was answered, to the book after all of them, and if one was, to a book that holds all of which an item was
+-- taken. It is the book of the runs before, and of this one.
 abbrev pub AStopLeavesAPrefix : {T : Type 0} → Stopping T → Core T → List Event → Core T → Driven → Type 0
-AStopLeavesAPrefix d old es new x = AnyMomentLeavesAPrefix d old es new × TheEndLeavesAll d old es new x × EndsALife d old es new
+AStopLeavesAPrefix d old es new x =
+    AnyMomentLeavesAPrefix d old es new × TheEndLeavesAll d old es new x × AFaultLeavesAllAnswered d old es new x
+    × EndsALife d old es new × EndsALifeAnswered d old es new x
 
 -- A router that is opened on what a stop left goes on from the runs of whose book that is.
 abbrev pub ARouterGoesOn : {T : Type 0} → Stopping T → List ℕ → Beginning → Contents → Core T → Type 0
