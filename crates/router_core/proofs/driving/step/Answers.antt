@@ -38,5 +38,5 @@ pub returns-clause-answered : goal.returns-clause-answered
 returns-clause-answered g c =
     on_err_weaker c.empty.result
     (λ broken some t f s.
-    opens_behind g.T.Twin.seen g.T.Twin.may_leave c.hear.new.core c.empty.new.core t c.args.event (c.in_ok-hear.ensures.stands s) c.empty.ensures.store (c.in_ok-hear.ensures.book t f))
+    opens_behind g.T.Twin.seen g.T.Twin.may_leave g.T.Twin.moment g.T.Twin.left_since c.hear.new.core c.empty.new.core t c.args.event (c.in_ok-hear.ensures.stands s) c.empty.ensures.store (c.in_ok-hear.ensures.book t f))
     c.empty.ensures.broken
