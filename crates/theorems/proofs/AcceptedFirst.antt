@@ -5,6 +5,7 @@ use Rattle.amqp_model.specs.PerfSpelling.{state_spelling}
 use Rattle.journal_store.specs.Acting.{journal_outcome}
 use Rattle.router_trace.specs.DeliveryFrames.{bare, kept_outcome, undescribed}
 use Rattle.std.proofs.lemmas.Bool.{eqb-true}
+use Rattle.amqp_model.specs.declared.perf.Attach.{Attach}
 use Rattle.amqp_model.specs.declared.perf.Disposition.{Disposition}
 use Rattle.amqp_model.specs.declared.perf.Perf.{Perf}
 use Rattle.amqp_model.specs.declared.perf.Perf.TheVariants as perf
@@ -12,6 +13,7 @@ use Rattle.amqp_model.specs.declared.perf.Role.{Role}
 use Rattle.amqp_model.specs.declared.perf.Role.TheVariants.{Sender, Receiver}
 use Rattle.amqp_model.specs.declared.state.DeliveryState.{DeliveryState}
 use Rattle.amqp_model.specs.declared.state.DeliveryState.TheVariants as state
+use Rattle.amqp_model.specs.declared.state.UnsettledDelivery.{UnsettledDelivery}
 use Rattle.amqp_model.specs.declared.item.Item.{Item}
 use Rattle.amqp_model.specs.declared.item.Item.TheVariants as item
 use Rattle.book_model.specs.declared.act.Act.{Act}
@@ -27,8 +29,10 @@ use Rattle.router_trace.specs.declared.condition.Condition.TheVariants.{Resource
 use Rattle.router_trace.specs.declared.event.Event.{Event}
 use Rattle.router_trace.specs.Configuration.{opened}
 use Rattle.router_trace.specs.Connection.{conn, due}
+use Rattle.router_trace.specs.Deliveries.{acts_found, outcome_among}
 use Rattle.router_trace.specs.Trace.{Trace, Beginning, Entry, Did, Out, Took, Bound, Booked, Began, Put, Step, did, goes, puts, each_to, step_of}
 use Rattle.state_messages.specs.Messages.{with_bound}
+use Rattle.resume_core.specs.Resuming.{entries_of, brief_outcome}
 use Rattle.router_reply.specs.Acts.{acts_of, book_in, booked}
 use Rattle.router_reply.specs.Replies.{closing_of, ends, heard, bound_by, own_row, replied}
 use Rattle.router_reply.specs.Resuming.{resumed}
@@ -37,8 +41,10 @@ use Rattle.core_machine.specs.Moves.{Move, handles, takes, took_one}
 use Rattle.router_core.proofs.Following.{all_keep}
 use Rattle.router_core.proofs.Resuming.{resumed_keeps}
 use Rattle.theorems.specs.Accepting.{WasAccepted, RowsAreAcceptedByConsumers, AcceptedIsTrue, role_tells_accepted, perf_tells_accepted}
+use Rattle.theorems.specs.Came.{last_found}
 use Rattle.theorems.specs.Each.{EachOut}
 use Rattle.theorems.specs.Kept.{IsDecidedAs, RowIsDecided, OutcomeIsKept, role_is_decided, perf_is_decided}
+use Rattle.theorems.specs.Mapped.{IsToldOf, IsTrueEntry, EachEntry, EachTold, EachToldIn, MapIsTrue}
 use Rattle.theorems.specs.Lives.{Life, Lives, GoesInTurn, InLives, InSmallLives, AtEachEnd}
 use Rattle.theorems.proofs.Accepting.{acts_accept}
 use Rattle.theorems.proofs.Among.{Stands, stands_in_both, stands_in_filter_map, stands_after, parts}
@@ -279,14 +285,62 @@ item_true : (t : Trace) (c : ℕ) (i : Item) → OutcomeIsKept t c i → Accepte
 item_true t c (item.Frame sasl own body payload) kept all = perf_true body t c own kept all
 item_true t c _ kept all = tt
 
-each_true : (t : Trace) → EachOut OutcomeIsKept t → EachOut (λ u c i. Accepted u) t → EachOut AcceptedIsTrue t
-each_true [] kept all = tt
-each_true (Did s ∷ t) kept all = each_true t kept all
-each_true (Out c i ∷ t) kept all = (item_true t c i kept.0 all.0, each_true t kept.1 all.1)
-each_true (Took c n ∷ t) kept all = each_true t kept all
-each_true (Bound b ∷ t) kept all = each_true t kept all
-each_true (Booked acts full ∷ t) kept all = each_true t kept all
-each_true (Began g ∷ t) kept all = each_true t kept all
+abbrev always_kept : Trace → ℕ → Item → Type 0
+always_kept t c i = Unit {0}
+
+none_kept : (t : Trace) → EachOut always_kept t
+none_kept [] = tt
+none_kept (Did s ∷ t) = none_kept t
+none_kept (Out c i ∷ t) = (tt, none_kept t)
+none_kept (Took c n ∷ t) = none_kept t
+none_kept (Bound b ∷ t) = none_kept t
+none_kept (Booked acts full ∷ t) = none_kept t
+none_kept (Began g ∷ t) = none_kept t
+
+module _ (P Q : Trace → ℕ → Item → Type 0) (each : (t : Trace) (c : ℕ) (i : Item) → P t c i → Accepted t → Q t c i) where
+  each_true : (t : Trace) → EachOut P t → EachOut (λ u c i. Accepted u) t → EachOut Q t
+  each_true [] kept all = tt
+  each_true (Did s ∷ t) kept all = each_true t kept all
+  each_true (Out c i ∷ t) kept all = (each t c i kept.0 all.0, each_true t kept.1 all.1)
+  each_true (Took c n ∷ t) kept all = each_true t kept all
+  each_true (Bound b ∷ t) kept all = each_true t kept all
+  each_true (Booked acts full ∷ t) kept all = each_true t kept all
+  each_true (Began g ∷ t) kept all = each_true t kept all
 
 pub lives_tell_truly : InSmallLives (EachOut AcceptedIsTrue)
-lives_tell_truly = λ id lives u all small. each_true u (lives_outcomes id lives u all small) (lives_all id lives u all).each
+lives_tell_truly = λ id lives u all small. each_true OutcomeIsKept AcceptedIsTrue item_true u (lives_outcomes id lives u all small) (lives_all id lives u all).each
+
+-- what maps tell them
+
+brief_accepted : (o : Option DeliveryState) → option_map brief_outcome o ≡ Some state.Accepted → o ≡ Some state.Accepted
+brief_accepted None is = absurd (none_not_some is)
+brief_accepted (Some state.Accepted) is = refl
+brief_accepted (Some state.Released) is = is
+brief_accepted (Some (state.Rejected r)) is = absurd cc
+brief_accepted (Some (state.Modified m)) is = absurd cc
+brief_accepted (Some (state.Received r)) is = is
+brief_accepted (Some (state.Other v)) is = is
+
+entry_true : (t : Trace) (c : ℕ) (a : Attach) (entry : UnsettledDelivery) → Accepted t → IsTrueEntry t c a entry
+entry_true t c a entry all = λ accepted of.
+    all of.row (subst (λ (rows : List ARow). Stands ARow of.row rows) (sym of.kept) (stands_after ARow of.row of.earlier of.later))
+    (brief_accepted of.row.outcome (subst (λ (v : Option DeliveryState). IsToldOf v (outcome_among (acts_found (last_found t)) of.row.number) of.row.outcome) accepted of.state))
+
+entries_true : (t : Trace) (c : ℕ) (a : Attach) (entries : List UnsettledDelivery) → Accepted t → EachEntry (IsTrueEntry t c a) entries
+entries_true t c a [] all = tt
+entries_true t c a (d ∷ ds) all = (entry_true t c a d all, entries_true t c a ds all)
+
+map_true : (t : Trace) (c : ℕ) (i : Item) → always_kept t c i → Accepted t → MapIsTrue t c i
+map_true t c (item.Frame sasl own body payload) kept all = by body
+  where
+    by_role : (r : Role) (a : Attach) → EachTold (IsTrueEntry t c) r a
+    by_role Receiver a = entries_true t c a (entries_of a.unsettled) all
+    by_role Sender a = tt
+
+    by : (body : Perf) → EachToldIn (IsTrueEntry t c) body
+    by (perf.Attach a) = by_role a.role a
+    by _ = tt
+map_true t c _ kept all = tt
+
+pub lives_map_truly : InLives (EachOut MapIsTrue)
+lives_map_truly = λ id lives u all. each_true always_kept MapIsTrue map_true u (none_kept u) (lives_all id lives u all).each

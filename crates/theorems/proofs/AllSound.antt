@@ -50,6 +50,7 @@ use Rattle.theorems.proofs.Quiet.{closing_of_quiet, said_quiet, taken_quiet, ref
 use Rattle.theorems.proofs.Transfers.{IfTaken, transfer_taken}
 use Rattle.theorems.proofs.Arriving.{transfer_sound}
 use Rattle.theorems.proofs.Names.{names_told}
+use Rattle.theorems.proofs.GoingOn.{going_sends}
 use Rattle.theorems.proofs.Sending.{sends_lawful}
 use Rattle.theorems.proofs.Tells.{tells_lawful}
 
@@ -66,7 +67,7 @@ SoundRows t = Sound t × EachBound RowIsAdmitted t
 passed_sound : Steps SoundRows
 passed_sound = record {
   telling = λ t was. (goes_sound (tells t) t (tells_lawful t was.1) was.0, goes_each RowIsAdmitted (tells t) t was.1);
-  sending = λ t was. (goes_sound (sends_due t) t (sends_lawful t was.0.unstarted (names_told t)) was.0, goes_each RowIsAdmitted (sends_due t) t was.1);
+  sending = λ t was. (goes_sound (sends_due t) t (sends_lawful t was.0.unstarted (names_told t) (going_sends t was.0.carries)) was.0, goes_each RowIsAdmitted (sends_due t) t was.1);
   draining = λ t was. (quiet_sound (drains_due t) t (drains_quiet t) was.0, goes_each RowIsAdmitted (drains_due t) t was.1);
   granting = λ t was. (quiet_sound (grants_due t) t (grants_quiet t) was.0, goes_each RowIsAdmitted (grants_due t) t was.1);
 }

@@ -127,6 +127,7 @@ source_spared closed gone_is d p from spared = by (gone_is d.link)
 drop_kept : (u : Trace) (c o h : ℕ) → link u c o h ≡ None → Kept u (change.Ends (gone.Link c o h) false ∷ []) → Kept u []
 drop_kept u c o h none was = record {
   law = was.law;
+  own = was.own;
   facts = λ n d r there name. fact n d r there (was.facts n d r there name);
   standing = was.standing;
   named = was.named;
@@ -281,7 +282,7 @@ taken_kept t u c own ours a at was = by (holder u (key_at u c (answer_to a 0))) 
         let out : Item = detach_item x.channel x.handle false (Some Stolen) in
         let first : Kept u (change.Ends (gone.Link x.conn.0 x.channel x.handle) false ∷ []) = subst (λ (v : Option Attachment). Kept u (stolen_from v)) (held_before x holds) was in
         put_answer (Out x.conn.0 out ∷ u) c own (largest_frame u c) ours a key (key_then x) (none_then x holds) (asked_then x)
-        (next_kept x.conn.0 out u (change.Ends (gone.Link x.conn.0 x.channel x.handle) false) [] tt refl tt (λ n d. refl) (λ a e. e) first)
+        (next_kept x.conn.0 out u (change.Ends (gone.Link x.conn.0 x.channel x.handle) false) [] tt refl tt tt (λ n d. refl) (λ a e. e) first)
 
 -- an attach that is refused
 

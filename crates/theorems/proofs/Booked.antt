@@ -231,11 +231,11 @@ admits_stay : (b : BookView) (o : Option Admission) → Stays b (effects b (admi
 admits_stay b None = subst (λ (c : BookView). Stays b c) (sym (nothing_done b)) (stays_it b)
 admits_stay b (Some x) = admission_stays b x
 
-admitted_stay : (full : Bool) (b : BookView) (t : Trace) (e : Event) → Stays b (effects b (admitted_acts full b t e))
+pub admitted_stay : (full : Bool) (b : BookView) (t : Trace) (e : Event) → Stays b (effects b (admitted_acts full b t e))
 admitted_stay true b t e = subst (λ (c : BookView). Stays b c) (sym (nothing_done b)) (stays_it b)
 admitted_stay false b t e = admits_stay b (event_admission b t e (event_answer false b t e))
 
-all_stay : (b : BookView) (ds : List Decision) (numbers : List RowNumber) (x : Option TerminusAct) (admitted : List Act) → IsOrdered b → Stays b (effects b admitted)
+pub all_stay : (b : BookView) (ds : List Decision) (numbers : List RowNumber) (x : Option TerminusAct) (admitted : List Act) → IsOrdered b → Stays b (effects b admitted)
     → Stays (effects b (settles b ds numbers)) (effects b (or_admits (settled_acts b ds numbers x) admitted))
 all_stay b ds numbers x admitted ordered stay = by (settled_acts b ds numbers x) refl
   where
@@ -252,7 +252,7 @@ all_stay b ds numbers x admitted ordered stay = by (settled_acts b ds numbers x)
 
 -- the facts after the acts of an event that isn't the start
 
-abbrev IsPlanned : Bool → Trace → Event → Type 0
+abbrev pub IsPlanned : Bool → Trace → Event → Type 0
 IsPlanned full t e = planned_acts full (book_in t) t e ≡ answer_acts (book_in t) t e (event_answer full (book_in t) t e)
 
 -- the change of a delivery before the event's own changes leaves its producer

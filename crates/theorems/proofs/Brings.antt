@@ -8,7 +8,8 @@ use Rattle.book_laws.proofs.KeptSound.{empty_sound, acts_keep}
 use Rattle.book_model.specs.declared.row.Row.{Row as ARow}
 use Rattle.book_model.specs.declared.row.RowNumber.{RowNumber}
 use Rattle.book_model.specs.declared.terminus.LinkKey.{LinkKey}
-use Rattle.book_model.specs.Book.{BookView, row_at, terminus_of}
+use Rattle.book_model.specs.declared.terminus.LinkRole.TheVariants.{Producer}
+use Rattle.book_model.specs.Book.{BookView, row_at, same_role, terminus_of}
 use Rattle.book_model.specs.Sound.{IsSound}
 use Rattle.book_core.specs.Rising.{Rises}
 use Rattle.gate_journal.specs.Ordered.{IsOrdered, number_of_row}
@@ -44,7 +45,7 @@ use Rattle.theorems.proofs.Admitted.{is_taken_up, bound_not_taken, bound_row, bo
 use Rattle.theorems.proofs.AllSound.{acted_sound, event_binds, handled_sound}
 use Rattle.theorems.proofs.Booked.{acts_apply, answer_for, RowAfter, row_after}
 use Rattle.theorems.proofs.Lasting.{Lasting, booked_lasting, did_lasting, out_lasting, RowLasts, bound_lasting, message_lasts, joined_lasts, taken_lasts}
-use Rattle.theorems.proofs.Joins.{joined_below}
+use Rattle.theorems.proofs.Joins.{joined_below, joined_role}
 use Rattle.theorems.proofs.Looking.{found_in}
 use Rattle.theorems.proofs.Rows.{Rows, start_rows, took_rows, handled_rows}
 use Rattle.theorems.proofs.Sound.{Sound, sound_start, took_sound}
@@ -53,9 +54,15 @@ use Rattle.theorems.proofs.Served.{key_before, row_gets}
 use Rattle.theorems.proofs.Taking.{taken_durable}
 use Rattle.theorems.proofs.Tests.{none_not_some, some_same}
 
+-- A row that is taken up goes to a durable link; and the terminus of a row that a delivery joins is a producer's.
+pub record BindsRight (t : Trace) (b : Binding) : Type 0 where
+  pub durable : TakesUp t b → lasts t b.consumer ≡ true
+  pub producer : (p : Origin) (joins : JoinsRow t b p) → same_role joins.terminus.key.role Producer ≡ true
+
 pub record Brings (t : Trace) : Type 0 where
   pub book : IsSound (book_in t)
   pub brings : EachBound BringsItsOutcome t
+  pub right : EachBound BindsRight t
   pub lasting : Lasting t
 
 -- a row that is taken up is the one of its number
@@ -131,6 +138,7 @@ taken_brings id t s u b up before known was =
     record {
       book = was.book;
       brings = (λ other. same_outcome t u b ordered (ap book_found known.found_at) up other (brings_it id t s u b up known is), was.brings);
+      right = (record { durable = λ other. durable; producer = λ p joins. joined_role u b p joins (sound_is_ordered (book_in u) was.book) was.book }, was.right);
       lasting = bound_lasting b u (λ new. taken_lasts u b up is.row.known durable) was.lasting;
     }
 
@@ -146,6 +154,7 @@ bound_brings None t fresh was = was
 bound_brings (Some b) t fresh was = record {
   book = was.book;
   brings = (λ takes. absurd (clash (sym (ap is_taken_up takes.taken) ∙ (fresh b refl).2)), was.brings);
+  right = (record { durable = λ takes. absurd (clash (sym (ap is_taken_up takes.taken) ∙ (fresh b refl).2)); producer = λ p joins. joined_role t b p joins ordered was.book }, was.right);
   lasting = bound_lasting b t (by b.kind refl) was.lasting;
 }
   where
@@ -168,17 +177,17 @@ bound_brings (Some b) t fresh was = record {
 booked_brings : (t : Trace) (e : Event) → Brings t → Brings (booked t e)
 booked_brings t e was =
     let ordered : IsOrdered (book_in t) = sound_is_ordered (book_in t) was.book in
-    record { book = acts_keep (book_in t) (acts_of t e) (acts_apply t e ordered) was.book; brings = was.brings; lasting = booked_lasting t e ordered was.lasting }
+    record { book = acts_keep (book_in t) (acts_of t e) (acts_apply t e ordered) was.book; brings = was.brings; right = was.right; lasting = booked_lasting t e ordered was.lasting }
 
 did_brings : (s : Step) (t : Trace) → Brings t → Brings (Did s ∷ t)
-did_brings s t was = record { book = was.book; brings = was.brings; lasting = did_lasting s t was.lasting }
+did_brings s t was = record { book = was.book; brings = was.brings; right = was.right; lasting = did_lasting s t was.lasting }
 
 pub took_brings : (c k : ℕ) (t : Trace) → Brings t → Brings (Took c k ∷ t)
-took_brings c k t was = record { book = was.book; brings = was.brings; lasting = was.lasting }
+took_brings c k t was = record { book = was.book; brings = was.brings; right = was.right; lasting = was.lasting }
 
 goes_brings : (ps : List Put) (t : Trace) → Brings t → Brings (goes ps t)
 goes_brings [] t was = was
-goes_brings (p ∷ ps) t was = goes_brings ps (Out p.conn p.item ∷ t) (record { book = was.book; brings = was.brings; lasting = out_lasting p.conn p.item t was.lasting })
+goes_brings (p ∷ ps) t was = goes_brings ps (Out p.conn p.item ∷ t) (record { book = was.book; brings = was.brings; right = was.right; lasting = out_lasting p.conn p.item t was.lasting })
 
 ends_brings : (id : List ℕ) (cs : List ℕ) (t : Trace) → Brings t → Brings (ends id cs t)
 ends_brings id [] t was = was
@@ -204,7 +213,7 @@ moves_brings id (handles s ∷ ms) t u rows sound was went =
 moves_brings id (takes x ∷ ms) t u rows sound was went = moves_brings id ms (took_one x t) u (took_rows _ _ t rows) (took_sound _ _ t sound) (took_brings _ _ t was) went
 
 pub start_brings : (g : Beginning) → IsSound g.book → Brings (beginning g)
-start_brings g sound = record { book = sound; brings = tt; lasting = λ n d r there name. absurd (none_not_some there) }
+start_brings g sound = record { book = sound; brings = tt; right = tt; lasting = λ n d r there name. absurd (none_not_some there) }
 
 pub trace_brings : (id : List ℕ) (g : Beginning) (u : Trace) → IsTrace id g u → IsSound g.book → Brings u
 trace_brings id g u trace sound = moves_brings id trace.0 (beginning g) u (start_rows g) (sound_start g) (start_brings g sound) trace.1
@@ -212,10 +221,10 @@ trace_brings id g u trace sound = moves_brings id trace.0 (beginning g) u (start
 -- over runs
 
 pub no_brings : Brings []
-no_brings = record { book = empty_sound; brings = tt; lasting = λ n d r there name. absurd (none_not_some there) }
+no_brings = record { book = empty_sound; brings = tt; right = tt; lasting = λ n d r there name. absurd (none_not_some there) }
 
 pub opened_brings : (g : Beginning) (below : Trace) → g.book ≡ book_in below → Brings below → Brings (opened g below)
-opened_brings g below book was = record { book = subst IsSound (sym book) was.book; brings = was.brings; lasting = λ n d r there name. absurd (none_not_some there) }
+opened_brings g below book was = record { book = subst IsSound (sym book) was.book; brings = was.brings; right = was.right; lasting = λ n d r there name. absurd (none_not_some there) }
 
 pub cut_brings : (t : Trace) (e : Event) → Brings t → Brings (did e ∷ booked t e)
 cut_brings t e was = did_brings (step_of e) (booked t e) (booked_brings t e was)

@@ -50,10 +50,10 @@ never true = refl
 never false = refl
 
 close_kept : (c : ℕ) (e : Option Condition) (w : Trace) (ys : List Change) → Kept w (lost c ∷ ys) → Kept (Out c (close_item e) ∷ w) ys
-close_kept c e w ys was = next_kept c (close_item e) w (lost c) ys tt refl tt (λ n d. closed_is (number_named w) false 0 (record { error = option_map error_of e }) [] c n (sending w c) d) (λ a e. rw e refl) was
+close_kept c e w ys was = next_kept c (close_item e) w (lost c) ys tt refl tt tt (λ n d. closed_is (number_named w) false 0 (record { error = option_map error_of e }) [] c n (sending w c) d) (λ a e. rw e refl) was
 
 open_kept : (id : List ℕ) (c : ℕ) (w : Trace) (ys : List Change) → Kept w ys → Kept (Out c (open_item id) ∷ w) ys
-open_kept id c w ys was = same_kept c (open_item id) w ys tt refl tt (λ n d. no_ends false (put_ends (open_item id) c) (λ a. never (a.conn.0 == c)) d) was
+open_kept id c w ys was = same_kept c (open_item id) w ys tt refl tt tt (λ n d. no_ends false (put_ends (open_item id) c) (λ a. never (a.conn.0 == c)) d) was
 
 closing_kept : (id : List ℕ) (p : Conn) (c : ℕ) (e : Condition) (w : Trace) (ys : List Change) → Kept w (lost c ∷ ys) → Kept (goes (each_to c (closing id p e)) w) ys
 closing_kept id p c e w ys was = by p.opened
@@ -80,11 +80,11 @@ said_kept id p t c i w Open none was = plain_kept c (open_item id) w refl was
 said_kept id p t c i w Close none was = close_kept c None w [] was
 said_kept id p t c i w (CloseWith x) none was = closing_kept id p c x w [] was
 said_kept id p t c i w (Begin own peers) none was = plain_kept c (begin_item own peers) w refl was
-said_kept id p t c i w (End own x) none was = next_kept c (end_item own x) w (change.Ends (gone.Session c own) false) [] tt refl tt (λ n d. refl) (λ a e. e) was
+said_kept id p t c i w (End own x) none was = next_kept c (end_item own x) w (change.Ends (gone.Session c own) false) [] tt refl tt tt (λ n d. refl) (λ a e. e) was
 said_kept id p t c i w (Flow own told) none was = plain_kept c (flow_item own told) w refl was
 said_kept id p t c i w (Attach own) none was = subst (λ (xs : List Change). Kept w xs) none was
 said_kept id p t c i w (Refuse own handle x) none was = was
-said_kept id p t c i w (Detach own handle closed x) none was = next_kept c (detach_item own handle closed x) w (change.Ends (gone.Link c own handle) closed) [] tt refl tt (λ n d. refl) (λ a e. e) was
+said_kept id p t c i w (Detach own handle closed x) none was = next_kept c (detach_item own handle closed x) w (change.Ends (gone.Link c own handle) closed) [] tt refl tt tt (λ n d. refl) (λ a e. e) was
 said_kept id p t c i w (LinkFlow own told at) none was = plain_kept c (link_flow_item own told at) w refl was
 said_kept id p t c i w (Taken own handle) none was = was
 said_kept id p t c i w (Settle own) none was = was
@@ -180,6 +180,7 @@ did_kept : (s : Step) (t : Trace) (g : Delivery → Delivery) (xs ys : List Chan
     → ((n : ℕ) (d : Delivery) → delivery t n ≡ Some d → changed_by ys (after_event s.event (channels_found t) (named t) (acts_found t) n d) ≡ changed_by xs (g d)) → DidClaims s t ys → AreBegun s t ys → Ahead t g xs → Kept (Did s ∷ t) ys
 did_kept s t g xs ys same claims begun was = record {
   law = was.law;
+  own = was.own;
   facts = did_facts s t g xs ys was.standing (λ n d there. alike_it (changed_by xs (g d)) (changed_by ys (after_event s.event (channels_found t) (named t) (acts_found t) n d)) (same n d there)) claims was.facts;
   standing = did_standing s t was.standing;
   named = did_named s t was.named;

@@ -56,6 +56,14 @@ joined_sound u b p joins sound =
     row_among (IsSoundRow (book_in u).termini (book_in u).next_row) joins.earlier joins.later joins.row
     (recursion_from_All (IsSoundRow (book_in u).termini (book_in u).next_row) (joins.earlier ++ joins.row ∷ joins.later) (subst (λ (rs : List ARow). All (IsSoundRow (book_in u).termini (book_in u).next_row) rs) joins.kept sound.rows))
 
+-- its terminus is a producer's
+joined_terminus : (u : Trace) (b : Binding) (p : Origin) (joins : JoinsRow u b p) → IsOrdered (book_in u) → terminus_at joins.row.producer.0 (book_in u).termini ≡ Some joins.terminus
+joined_terminus u b p joins ordered =
+    ap (λ (n : ℕ). terminus_at n (book_in u).termini) joins.its_producer ∙ found_at_number joins.key (book_in u).termini joins.terminus ordered.termini_rise joins.of_key
+
+pub joined_role : (u : Trace) (b : Binding) (p : Origin) (joins : JoinsRow u b p) → IsOrdered (book_in u) → IsSound (book_in u) → same_role joins.terminus.key.role Producer ≡ true
+joined_role u b p joins ordered sound = sym (ap (has_role Producer) (joined_terminus u b p joins ordered)) ∙ (joined_sound u b p joins sound).producer joins.unforgotten
+
 -- it came on the producer's link
 joined_from : (u : Trace) (b : Binding) (p : Origin) (joins : JoinsRow u b p) → IsOrdered (book_in u) → IsSound (book_in u) → FromTerminus u (book_in u) p joins.row.producer.0
 joined_from u b p joins ordered sound = record {
@@ -64,12 +72,8 @@ joined_from u b p joins ordered sound = record {
   at = joins.terminus;
   found = joins.of_key;
   number = sym joins.its_producer;
-  role = sym (ap (has_role Producer) there) ∙ (joined_sound u b p joins sound).producer joins.unforgotten;
+  role = joined_role u b p joins ordered sound;
 }
-  where
-    there : terminus_at joins.row.producer.0 (book_in u).termini ≡ Some joins.terminus
-    there =
-        ap (λ (n : ℕ). terminus_at n (book_in u).termini) joins.its_producer ∙ found_at_number joins.key (book_in u).termini joins.terminus ordered.termini_rise joins.of_key
 
 -- what the book has of it, of a delivery with this origin and an outcome that the book has as that of the row
 joined_held : (u : Trace) (b : Binding) (p : Origin) (joins : JoinsRow u b p) → IsOrdered (book_in u) → IsSound (book_in u) → (e : Delivery) → KeptAs joins.row.outcome e.outcome

@@ -306,7 +306,7 @@ pub record SameNames (t u : List Entry) (c : ℕ) : Type 0 where
 names_self : (t : List Entry) (c : ℕ) → SameNames t t c
 names_self t c = record { who = refl; from = refl }
 
-names_on : (t u v : List Entry) (c : ℕ) → SameNames t u c → SameNames u v c → SameNames t v c
+pub names_on : (t u v : List Entry) (c : ℕ) → SameNames t u c → SameNames u v c → SameNames t v c
 names_on t u v c f g = record { who = g.who ∙ f.who; from = g.from ∙ f.from }
 
 names_beside : (t : List Entry) (d c : ℕ) (i : Item) → (d == c) ≡ false → SameNames t (Out d i ∷ t) c
@@ -343,7 +343,7 @@ bound_names : (b : Option Binding) (t : List Entry) (c : ℕ) → SameNames t (w
 bound_names None t c = names_self t c
 bound_names (Some b) t c = record { who = refl; from = refl }
 
-detach_names : (t : List Entry) (d own handle c : ℕ) (closed : Bool) (e : Option Condition) → SameNames t (Out d (detach_item own handle closed e) ∷ t) c
+pub detach_names : (t : List Entry) (d own handle c : ℕ) (closed : Bool) (e : Option Condition) → SameNames t (Out d (detach_item own handle closed e) ∷ t) c
 detach_names t d own handle c closed e = record { who = by_test (d == c) (λ q. rw q refl) (λ q. rw q refl); from = by_test (d == c) (λ q. rw q refl) (λ q. rw q refl) }
 
 -- a trace in which the attach of an event can be answered: the connection's names are as before the event, and the book is after its acts

@@ -12,6 +12,7 @@ use Rattle.amqp_model.specs.declared.item.Item.{Item}
 use Rattle.amqp_model.specs.declared.item.Item.TheVariants as item
 use Rattle.amqp_session.specs.Session.{Session}
 use Rattle.book_model.specs.declared.row.Row.{Row as ARow}
+use Rattle.book_model.specs.declared.row.RowNumber.{RowNumber}
 use Rattle.book_model.specs.Book.{row_at}
 use Rattle.gate_journal.specs.Ordered.{IsOrdered}
 use Rattle.journal_store.specs.Acting.{journal_outcome}
@@ -24,7 +25,8 @@ use Rattle.router_trace.specs.DeliveryFrames.{kept_outcome}
 use Rattle.router_trace.specs.declared.handle.Attachment.{Attachment}
 use Rattle.router_trace.specs.Deliveries.{Delivery, either_origin, source, bindings, has_row, number_named, delivery, sending, is_undecided, ended_by, after_put}
 use Rattle.router_trace.specs.Following.{is_to_be_told, outcome_to, tell, tells_of, tells, sends_due, drains_due}
-use Rattle.router_trace.specs.Links.{ends_handle_in}
+use Rattle.router_trace.specs.Claims.{claims}
+use Rattle.router_trace.specs.Links.{durable_key, ends_handle_in, link}
 use Rattle.router_trace.specs.Sessions.{session}
 use Rattle.state_sessions.specs.Windows.{is_narrow, flow_due, flows_below, windows_over, windows}
 use Rattle.state_deliveries.specs.declared.change.Change.{Change}
@@ -39,9 +41,11 @@ use Rattle.router_core.proofs.Granting.{AllGrants, all_grants}
 use Rattle.theorems.specs.Each.{EachOut}
 use Rattle.theorems.specs.Told.{TellsOutcome}
 use Rattle.theorems.specs.Carried.{HasSmallNumbers}
+use Rattle.theorems.specs.OwnRow.{IsOwnRow, role_tells_own, perf_tells_own, TellsItsOwnRow}
 use Rattle.theorems.specs.Kept.{IsDecidedAs, RowIsDecided, role_is_decided, perf_is_decided, OutcomeIsKept}
 use Rattle.theorems.proofs.Changing.{alike_it, alike_item}
-use Rattle.theorems.proofs.Facts.{kept_form, KeptAs, Agrees, Facts, FactsOf, out_facts, took_facts}
+use Rattle.theorems.proofs.Claimed.{HasClaim}
+use Rattle.theorems.proofs.Facts.{kept_form, FromTerminus, KeptAs, Agrees, Facts, FactsOf, out_facts, took_facts}
 use Rattle.theorems.proofs.Owning.{Owned, ends_it, is_ending, out_owned, took_owned}
 use Rattle.theorems.proofs.Naming.{AreNamed, is_sent_in, is_sent, out_named, IsNaming, sent_named, sends_elim}
 use Rattle.theorems.proofs.Quiet.{drains_quiet}
@@ -54,6 +58,7 @@ clash e = cc
 -- after an entry of an event, while these changes of it are still to come
 pub record Kept (t : Trace) (xs : List Change) : Type 0 where
   pub law : EachOut OutcomeIsKept t
+  pub own : EachOut TellsItsOwnRow t
   pub facts : Facts t xs
   pub standing : Standing t
   pub named : AreNamed t
@@ -63,6 +68,7 @@ pub record Kept (t : Trace) (xs : List Change) : Type 0 where
 -- after the acts of an event, before its entry, which gives deliveries outcomes first
 pub record Ahead (t : Trace) (g : Delivery → Delivery) (xs : List Change) : Type 0 where
   pub law : EachOut OutcomeIsKept t
+  pub own : EachOut TellsItsOwnRow t
   pub facts : FactsOf t g xs
   pub standing : Standing t
   pub named : AreNamed t
@@ -98,6 +104,52 @@ item_decided : (i : Item) (t : Trace) (c : ℕ) → Facts t [] → OutcomeIsKept
 item_decided (item.Frame sasl own body payload) t c facts = perf_decided body t c own facts
 item_decided _ t c facts = tt
 
+-- the row is that of the producer that is told
+
+own_row : (t : Trace) (c own : ℕ) (x : Disposition) (report : TellsOutcome t c own x) (r : RowNumber) (v : Option ARow) → row_at r.0 (book_in t).rows ≡ v → Agrees t (book_in t) v report.of
+    → IsOwnRow t c own report.origin.link.handle x.first r
+own_row t c own x report r v there agrees = by v there agrees
+  where
+    p : Origin
+    p = report.origin
+
+    from : source report.of ≡ Some p
+    from = ap (λ (o : Option Origin). either_origin o report.of.told) report.producer
+
+    by : (v : Option ARow) → row_at r.0 (book_in t).rows ≡ v → Agrees t (book_in t) v report.of → IsOwnRow t c own p.link.handle x.first r
+    by None there agrees = absurd (agrees p from)
+    by (Some row) there agrees =
+        let at : FromTerminus t (book_in t) p row.producer.0 = agrees.from p from in
+        let has : HasClaim t p row.tag.items = agrees.claimed p from in
+        record {
+          row = row;
+          in_the_book = there;
+          unforgotten = agrees.waits p from;
+          key = at.key;
+          durable = ap (λ (k : ℕ). durable_key (link t k own p.link.handle)) (sym report.on_connection)
+              ∙ ap (λ (k : ℕ). durable_key (link t p.link.conn.0 k p.link.handle)) (sym report.on_session) ∙ at.durable;
+          terminus = at.at;
+          of_key = at.found;
+          its_producer = sym at.number;
+          claim = has.claim;
+          claimed = ap (λ (k : ℕ). claims t k own x.first) (sym report.on_connection) ∙ ap (λ (k : ℕ). claims t p.link.conn.0 k x.first) (sym report.on_session)
+              ∙ ap (claims t p.link.conn.0 p.link.channel) (sym report.its_id) ∙ has.there;
+          on_link = has.on_link;
+          same_tag = has.tagged;
+        }
+
+role_own : (role : Role) (t : Trace) (c own : ℕ) (x : Disposition) → Facts t [] → role_tells_own role t c own x
+role_own Receiver t c own x facts = λ report r is. own_row t c own x report r (row_at r.0 (book_in t).rows) refl (facts report.number report.of r report.there is).agrees
+role_own Sender t c own x facts = tt
+
+perf_own : (body : Perf) (t : Trace) (c own : ℕ) → Facts t [] → perf_tells_own body t c own
+perf_own (perf.Disposition x) t c own facts = role_own x.role t c own x facts
+perf_own _ t c own facts = tt
+
+item_own : (i : Item) (t : Trace) (c : ℕ) → Facts t [] → TellsItsOwnRow t c i
+item_own (item.Frame sasl own body payload) t c facts = perf_own body t c own facts
+item_own _ t c facts = tt
+
 -- items
 
 no_ending : (a : Attachment) → is_ending [] a ≡ true → is_ending [] a ≡ false → ⊥
@@ -116,6 +168,7 @@ Spares t c i = (n : ℕ) (d : Delivery) → delivery t n ≡ Some d → is_undec
 pub quiet_kept : (c : ℕ) (i : Item) (t : Trace) → IsFresh t c i → is_sent i ≡ false → Spares t c i → Kept t [] → Kept (Out c i ∷ t) []
 quiet_kept c i t fresh quiet spares was = record {
   law = (item_decided i t c was.facts, was.law);
+  own = (item_own i t c was.facts, was.own);
   facts = out_facts c i t [] [] was.standing fresh (λ n d there settled. alike_item (number_named t) i c n (sending t c) d settled (spares n d there)) was.facts;
   standing = out_standing c i t fresh was.standing;
   named = out_named c i t quiet was.named;
@@ -124,10 +177,11 @@ quiet_kept c i t fresh quiet spares was = record {
 }
 
 -- one that is the next of the changes to come, and one that changes nothing
-pub next_kept : (c : ℕ) (i : Item) (t : Trace) (x : Change) (ys : List Change) → IsFresh t c i → is_sent i ≡ false → OutcomeIsKept t c i
+pub next_kept : (c : ℕ) (i : Item) (t : Trace) (x : Change) (ys : List Change) → IsFresh t c i → is_sent i ≡ false → OutcomeIsKept t c i → TellsItsOwnRow t c i
     → ((n : ℕ) (d : Delivery) → after_put (number_named t) i c n (sending t c) d ≡ changed x d) → ((a : Attachment) → ends_it x a ≡ true → ended_by i c a ≡ true) → Kept t (x ∷ ys) → Kept (Out c i ∷ t) ys
-next_kept c i t x ys fresh quiet keeps is ends was = record {
+next_kept c i t x ys fresh quiet keeps owns is ends was = record {
   law = (keeps, was.law);
+  own = (owns, was.own);
   facts = out_facts c i t (x ∷ ys) ys was.standing fresh (λ n d there settled. alike_it (changed_by ys (changed x d)) (changed_by ys (after_put (number_named t) i c n (sending t c) d)) (ap (changed_by ys) (is n d))) was.facts;
   standing = out_standing c i t fresh was.standing;
   named = out_named c i t quiet was.named;
@@ -135,10 +189,11 @@ next_kept c i t x ys fresh quiet keeps is ends was = record {
   owned = out_owned c i t (x ∷ ys) ys fresh was.standing (λ a e f. ends a (next_one (ends_it x a) (is_ending ys a) e f)) was.owned;
 }
 
-pub same_kept : (c : ℕ) (i : Item) (t : Trace) (ys : List Change) → IsFresh t c i → is_sent i ≡ false → OutcomeIsKept t c i
+pub same_kept : (c : ℕ) (i : Item) (t : Trace) (ys : List Change) → IsFresh t c i → is_sent i ≡ false → OutcomeIsKept t c i → TellsItsOwnRow t c i
     → ((n : ℕ) (d : Delivery) → after_put (number_named t) i c n (sending t c) d ≡ d) → Kept t ys → Kept (Out c i ∷ t) ys
-same_kept c i t ys fresh quiet keeps is was = record {
+same_kept c i t ys fresh quiet keeps owns is was = record {
   law = (keeps, was.law);
+  own = (owns, was.own);
   facts = out_facts c i t ys ys was.standing fresh (λ n d there settled. alike_it (changed_by ys d) (changed_by ys (after_put (number_named t) i c n (sending t c) d)) (ap (changed_by ys) (is n d))) was.facts;
   standing = out_standing c i t fresh was.standing;
   named = out_named c i t quiet was.named;
@@ -207,7 +262,7 @@ plain_goes [] t plain was = was
 plain_goes (p ∷ ps) t plain was = plain_goes ps (Out p.conn p.item ∷ t) plain.1 (plain_kept p.conn p.item t plain.0 was)
 
 pub took_kept : (c k : ℕ) (t : Trace) → Kept t [] → Kept (Took c k ∷ t) []
-took_kept c k t was = record { law = was.law; facts = took_facts c k t [] was.facts; standing = took_standing c k t was.standing; named = was.named; ordered = was.ordered; owned = took_owned c k t [] was.owned }
+took_kept c k t was = record { law = was.law; own = was.own; facts = took_facts c k t [] was.facts; standing = took_standing c k t was.standing; named = was.named; ordered = was.ordered; owned = took_owned c k t [] was.owned }
 
 -- what follows an event's rows
 
@@ -268,6 +323,7 @@ sent_kept t small was = sends_elim t (λ ps. Kept (goes ps t) []) small was (λ 
         let i : Item = item.Frame false d.link.channel (perf.Transfer x) payload in
         record {
           law = (item_decided i t d.link.conn.0 was.facts, was.law);
+          own = (item_own i t d.link.conn.0 was.facts, was.own);
           facts = out_facts d.link.conn.0 i t [] [] was.standing tt
               (λ m e here settled. alike_item (number_named t) i d.link.conn.0 m (sending t d.link.conn.0) e settled (λ undecided. never (e.link.conn.0 == d.link.conn.0))) was.facts;
           standing = out_standing d.link.conn.0 i t tt was.standing;

@@ -62,6 +62,7 @@ use Rattle.theorems.specs.Carried.{HasSmallNumbers}
 use Rattle.theorems.specs.Came.{ComesFrom, TakesUp}
 use Rattle.theorems.specs.Each.{EachOut}
 use Rattle.theorems.specs.Lives.{GoesInTurn}
+use Rattle.theorems.specs.OwnRow.{TellsItsOwnRow}
 use Rattle.theorems.specs.Kept.{OutcomeIsKept, may_be_decided, times_in, times_decided, IsDecidedOnce, EachOutcomeIsKept, EachRowIsDecidedOnce}
 use Rattle.theorems.proofs.Admitted.{answer_after}
 use Rattle.theorems.proofs.AllSound.{acted_sound, handled_sound}
@@ -226,6 +227,7 @@ event_rows id t s event.Start is may was = was
 booked_kept : (t : Trace) (e : Event) → (e ≡ event.Start → (n : ℕ) → delivery t n ≡ None) → Kept t [] → Ahead (booked t e) (gives e (acts_of t e)) (changes_of t e)
 booked_kept t e none was = record {
   law = was.law;
+  own = was.own;
   facts = booked_facts t e was.standing (owned_one t was.owned) was.ordered none was.facts;
   standing = booked_standing t (acts_of t e) was.standing;
   named = was.named;
@@ -391,6 +393,7 @@ start_all g sound = record {
   brings = start_brings g sound;
   kept = λ small. record {
     law = tt;
+    own = tt;
     facts = λ n d r there name. absurd (none_not_some there);
     standing = began_standing g [];
     named = λ n id d there undecided has. absurd (none_not_some there);
@@ -420,10 +423,11 @@ pub record Past (t : Trace) : Type 0 where
   pub rows : Rows t
   pub sound : Sound t
   pub law : EachOut OutcomeIsKept t
+  pub own : EachOut TellsItsOwnRow t
   pub brings : Brings t
 
 pub no_past : Past []
-no_past = record { rows = no_rows; sound = none_sound; law = tt; brings = no_brings }
+no_past = record { rows = no_rows; sound = none_sound; law = tt; own = tt; brings = no_brings }
 
 opened_all : (g : Beginning) (below : Trace) → g.book ≡ book_in below → Past below → All (opened g below)
 opened_all g below book was = record {
@@ -432,6 +436,7 @@ opened_all g below book was = record {
   brings = opened_brings g below book was.brings;
   kept = λ small. record {
     law = was.law;
+    own = was.own;
     facts = λ n d r there name. absurd (none_not_some there);
     standing = began_standing g below;
     named = λ n id d there undecided has. absurd (none_not_some there);
@@ -447,13 +452,14 @@ pub moves_past : (id : List ℕ) (ms : List Move) (g : Beginning) (below u : Tra
 moves_past id ms g below u book was went small =
     let all : All u = moves_all id ms (opened g below) u (opened_all g below book was) went in
     let kept = all.kept small in
-    record { rows = all.rows; sound = all.sound; law = kept.law; brings = all.brings }
+    record { rows = all.rows; sound = all.sound; law = kept.law; own = kept.own; brings = all.brings }
 
 pub cut_past : (t : Trace) (e : Event) → Past t → Past (did e ∷ booked t e)
 cut_past t e was = record {
   rows = cut_rows t e was.rows;
   sound = did_sound (step_of e) (booked t e) (booked_keeps Sound t e (λ acts w. batch_sound t acts w) was.sound);
   law = was.law;
+  own = was.own;
   brings = cut_brings t e was.brings;
 }
 

@@ -14,6 +14,9 @@ pub mod Telling
 pub mod Carrying
 pub mod Names
 pub mod Sound
+pub mod Standing
+pub mod GoingOn
+pub mod LinkNumbers
 pub mod Sending
 pub mod Tells
 pub mod Quiet
@@ -40,7 +43,6 @@ pub mod Looking
 pub mod Applying
 pub mod Once
 pub mod Undecided
-pub mod Standing
 pub mod Changing
 pub mod Hearing
 pub mod Settling
@@ -55,6 +57,7 @@ pub mod Joins
 pub mod Lasting
 pub mod Taking
 pub mod Brings
+pub mod Mapped
 pub mod Consuming
 pub mod Naming
 pub mod Keeps
@@ -69,6 +72,10 @@ pub mod Accepting
 -- Runs that end by stops.
 pub mod Lives
 pub mod AcceptedFirst
+-- The consumer of a row.
+pub mod Origins
+pub mod OwnConsumer
+pub mod GivenOnce
 -- The order on a connection.
 pub mod Headed
 pub mod OnlyHeaders

@@ -13,6 +13,8 @@ use Rattle.theorems.specs.Each.{EachOut}
 use Rattle.theorems.specs.Keeping.{IsKeptFirst}
 use Rattle.theorems.specs.Kept.{OutcomeIsKept, RowsAreDecidedOnce}
 use Rattle.theorems.specs.Lives.{Life, Lives, CutOff, GoesInTurn, InLives, InSmallLives, AtEachEnd}
+use Rattle.theorems.specs.Mapped.{MapIsOfBook}
+use Rattle.theorems.specs.OwnRow.{TellsItsOwnRow}
 use Rattle.theorems.specs.Windows.{WindowKept}
 use Rattle.theorems.proofs.AllSound.{moves_sound}
 use Rattle.theorems.proofs.Brings.{Brings, no_brings, opened_brings, moves_brings, cut_brings}
@@ -20,6 +22,7 @@ use Rattle.theorems.proofs.CreditKept.{moves_within}
 use Rattle.theorems.proofs.Keeping.{moves_kept}
 use Rattle.theorems.proofs.KeptFirst.{Past, no_past, moves_past, cut_past, Once, none_once, opened_once, moves_once, cut_once}
 use Rattle.theorems.proofs.Locked.{goes}
+use Rattle.theorems.proofs.Mapped.{Mapped, moves_mapped}
 use Rattle.theorems.proofs.Rows.{Rows, no_rows, opened_rows, moves_rows, cut_rows}
 use Rattle.theorems.proofs.Sound.{Sound, none_sound, opened_sound, did_sound, batch_sound}
 use Rattle.theorems.proofs.WindowsKept.{moves_keep}
@@ -47,16 +50,17 @@ pub lives_keep_links_first : InLives (EachOut IsKeptFirst)
 lives_keep_links_first =
     lives_keep (EachOut IsKeptFirst) (λ g below book was. was) (λ id ms t u was went. moves_kept id ms t u was (goes id ms t u went)) (λ t e was. was) tt
 
-abbrev RowsSoundBrings : Trace → Type 0
-RowsSoundBrings t = Rows t × Sound t × Brings t
+-- (what the pass over moves carries)
+abbrev Passed : Trace → Type 0
+Passed t = Rows t × Sound t × Brings t × Mapped t
 
-lives_all : InLives RowsSoundBrings
+lives_all : InLives Passed
 lives_all =
-    lives_keep RowsSoundBrings (λ g below book was. (opened_rows g below book was.0, opened_sound g below was.1, opened_brings g below book was.2))
+    lives_keep Passed (λ g below book was. (opened_rows g below book was.0, opened_sound g below was.1, opened_brings g below book was.2, was.3))
     (λ id ms t u was went. let led = goes id ms t u went in
-    (moves_rows id ms t u was.0 led, moves_sound id ms t u was.0 was.1 led, moves_brings id ms t u was.0 was.1 was.2 led))
-    (λ t e was. (cut_rows t e was.0, did_sound (step_of e) (booked t e) (booked_keeps Sound t e (λ acts w. batch_sound t acts w) was.1), cut_brings t e was.2))
-    (no_rows, none_sound, no_brings)
+    (moves_rows id ms t u was.0 led, moves_sound id ms t u was.0 was.1 led, moves_brings id ms t u was.0 was.1 was.2 led, moves_mapped id ms t u was.0 was.1 was.2 was.3 led))
+    (λ t e was. (cut_rows t e was.0, did_sound (step_of e) (booked t e) (booked_keeps Sound t e (λ acts w. batch_sound t acts w) was.1), cut_brings t e was.2, was.3))
+    (no_rows, none_sound, no_brings, tt)
 
 pub lives_rows : InLives Rows
 lives_rows id lives u all = (lives_all id lives u all).0
@@ -66,6 +70,9 @@ lives_sound id lives u all = (lives_all id lives u all).1
 
 pub lives_brings : InLives Brings
 lives_brings id lives u all = (lives_all id lives u all).2
+
+pub lives_mapped : InLives (EachOut MapIsOfBook)
+lives_mapped id lives u all = (lives_all id lives u all).3
 
 pub lives_once : InLives RowsAreDecidedOnce
 lives_once = λ id lives u all.
@@ -91,3 +98,6 @@ lives_past id (x ∷ xs) u all small =
 
 pub lives_outcomes : InSmallLives (EachOut OutcomeIsKept)
 lives_outcomes = λ id lives u all small. (lives_past id lives u all small).law
+
+pub lives_tell_own : InSmallLives (EachOut TellsItsOwnRow)
+lives_tell_own = λ id lives u all small. (lives_past id lives u all small).own

@@ -231,13 +231,13 @@ goes_found : (ps : List Put) (t : Trace) → last_found (goes ps t) ≡ last_fou
 goes_found [] t = refl
 goes_found (p ∷ ps) t = goes_found ps (Out p.conn p.item ∷ t)
 
-ends_found : (id : List ℕ) (ds : List ℕ) (t : Trace) → last_found (ends id ds t) ≡ last_found t
+pub ends_found : (id : List ℕ) (ds : List ℕ) (t : Trace) → last_found (ends id ds t) ≡ last_found t
 ends_found id [] t = refl
 ends_found id (d ∷ ds) t =
     let items : List Item = closing_of id (conn t d) ResourceLimitExceeded
     in ends_found id ds (puts d items t) ∙ goes_found (each_to d items) t
 
-bound_found : (b : Option Binding) (t : Trace) → last_found (with_bound b t) ≡ last_found t
+pub bound_found : (b : Option Binding) (t : Trace) → last_found (with_bound b t) ≡ last_found t
 bound_found None t = refl
 bound_found (Some b) t = refl
 

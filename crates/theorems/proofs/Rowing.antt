@@ -173,6 +173,7 @@ can_message u b o is binds fact = record {
 pub bound_kept : (b : Binding) (u : Trace) → CanBind u b → Kept u [] → Kept (Bound b ∷ u) []
 bound_kept b u can was = record {
   law = was.law;
+  own = was.own;
   facts = bound_facts b u can.new can.joined was.facts;
   standing = bound_standing b u can.consumer can.producer was.standing;
   named = bound_named b u was.named;
@@ -183,7 +184,7 @@ bound_kept b u can was = record {
 -- a row that is taken up
 
 -- the attachment with a key, if the router is the sender there, is one on which it sends
-taken_sends : (u : Trace) (key : LinkKey) (a : Attachment) → consumer_with u key ≡ Some a → Sends u a
+pub taken_sends : (u : Trace) (key : LinkKey) (a : Attachment) → consumer_with u key ≡ Some a → Sends u a
 taken_sends u key a is = by_last (last_of_key u key) is
   where
     by_link : (x : Attachment) (v : Option Link) → link_of u x ≡ v → has_number x.number v ≡ true → is_consumer v ≡ true → Sends u x

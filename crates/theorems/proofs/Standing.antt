@@ -70,7 +70,7 @@ same_rank Consumer Consumer h = refl
 same_text : (a b : List ℕ) → is_eq (slice_cmp nat_cmp a b) ≡ true → a ≡ b
 same_text a b h = exact_bytes a b (equal (slice_cmp nat_cmp a b) h)
 
-exact_key : (a b : LinkKey) → same_key a b ≡ true → a ≡ b
+pub exact_key : (a b : LinkKey) → same_key a b ≡ true → a ≡ b
 exact_key a b h =
     let texts = both_equal (slice_cmp nat_cmp a.name b.name) (ordering_then (slice_cmp nat_cmp a.container b.container) (ordering_then (slice_cmp nat_cmp a.user b.user) (nat_cmp (rank a.role) (rank b.role)))) h in
     let containers = both_equal (slice_cmp nat_cmp a.container b.container) (ordering_then (slice_cmp nat_cmp a.user b.user) (nat_cmp (rank a.role) (rank b.role))) texts.1 in
@@ -116,28 +116,28 @@ over_if : (q : Bool) (v : Option Link) → Behaves q v (if q then None else v)
 over_if true v = record { change = λ l. l; same = same_link; is = refl }
 over_if false v = unchanged v
 
-our_flow : (f : Flow) (l : Link) → SameLink l (after_our_flow f l)
+pub our_flow : (f : Flow) (l : Link) → SameLink l (after_our_flow f l)
 our_flow f l = record { number = refl; key = refl; durable = refl; way = by l.happened }
   where
     by : (h : Happened) → is_sending (flowed_from f h) ≡ is_sending h
     by (sends list) = refl
     by (receives list) = refl
 
-our_transfer : (x : Transfer) (l : Link) → SameLink l (after_our_transfer x l)
+pub our_transfer : (x : Transfer) (l : Link) → SameLink l (after_our_transfer x l)
 our_transfer x l = record { number = refl; key = refl; durable = refl; way = by l.happened }
   where
     by : (h : Happened) → is_sending (started l.going_on h) ≡ is_sending h
     by (sends list) = refl
     by (receives list) = refl
 
-their_flow : (f : Flow) (l : Link) → SameLink l (after_their_flow f l)
+pub their_flow : (f : Flow) (l : Link) → SameLink l (after_their_flow f l)
 their_flow f l = record { number = refl; key = refl; durable = refl; way = by l.happened }
   where
     by : (h : Happened) → is_sending (flowed_to f h) ≡ is_sending h
     by (sends list) = refl
     by (receives list) = refl
 
-their_transfer : (x : Transfer) (payload : List ℕ) (l : Link) → SameLink l (after_their_transfer x payload l)
+pub their_transfer : (x : Transfer) (payload : List ℕ) (l : Link) → SameLink l (after_their_transfer x payload l)
 their_transfer x payload l = record { number = refl; key = refl; durable = refl; way = by l.happened }
   where
     by : (h : Happened) → is_sending (came_to x payload h) ≡ is_sending h

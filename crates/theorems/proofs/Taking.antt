@@ -187,7 +187,7 @@ taken_at t u c own ours a x at wants is = by (holder u (key_at u c (answer_to a 
 
 -- an event's
 
-consumer_held : (v : Trace) (o : Option Attachment) (x : Attachment) → if_consumer v o ≡ Some x → o ≡ Some x
+pub consumer_held : (v : Trace) (o : Option Attachment) (x : Attachment) → if_consumer v o ≡ Some x → o ≡ Some x
 consumer_held v None x is = absurd (none_not_some is)
 consumer_held v (Some y) x is = by (is_consumer (link_of v y)) is
   where

@@ -9,6 +9,8 @@ use Rattle.amqp_model.specs.declared.item.Item.TheVariants as item
 use Rattle.router_trace.specs.declared.binding.Binding.{Binding}
 use Rattle.router_trace.specs.declared.binding.DeliveryName.{DeliveryName}
 use Rattle.router_trace.specs.Trace.{Trace, Did, Out, Took, Bound, Booked, Began, IsOneRun}
+use Rattle.router_trace.specs.Links.{Link, link}
+use Rattle.router_trace.specs.Following.{is_sending}
 use Rattle.router_trace.specs.Deliveries.{Delivery, bindings, counters, joins_standing, number_named, delivery, sending, carried, tag_in, tag_of, tagged, is_number}
 use Rattle.theorems.specs.Each.{EachOut, EachBound}
 
@@ -39,8 +41,8 @@ abbrev pub BeginsOrGoesOn : Option ℕ → Trace → ℕ → ℕ → ℕ → Del
 BeginsOrGoesOn None t c own n d x = IsFirst t d x
 BeginsOrGoesOn (Some id) t c own n d x = IsLater t c own n x
 
--- A transfer of the router carries the message of a delivery, on the link that it was bound to: the next bytes of it, and all remaining bytes
--- if no more are to come. A delivery that has an id has begun.
+-- A transfer of the router carries the message of a delivery, on the link that it was bound to, which is attached, and on which the router sends: the next bytes
+-- of it, and all remaining bytes if no more are to come. A delivery that has an id has begun.
 pub record CarriesMessage (t : Trace) (c own : ℕ) (x : Transfer) (payload : List ℕ) : Type 0 where
   pub number : ℕ
   pub of : Delivery
@@ -49,6 +51,10 @@ pub record CarriesMessage (t : Trace) (c own : ℕ) (x : Transfer) (payload : Li
   pub on_connection : of.link.conn.0 ≡ c
   pub on_session : of.link.channel ≡ own
   pub on_handle : of.link.handle ≡ x.handle
+  pub attached : Link
+  pub on_link : link t c own x.handle ≡ Some attached
+  pub its_number : attached.number ≡ of.link.number
+  pub sends : is_sending attached.happened ≡ true
   pub bytes : payload ≡ take (length payload) (drop of.sent of.payload)
   pub last : x.more ≡ false → payload ≡ drop of.sent of.payload
   pub whole_frames : x.aborted ≡ false

@@ -2,4 +2,7 @@
 pub use Rattle.theorems.specs.Keeping.{IsKeptFirst}
 pub use Rattle.theorems.specs.Admitted.{RowIsAdmitted, EachRowIsBoundOnce, EachNewRowIsBound}
 pub use Rattle.theorems.specs.Kept.{OutcomeIsKept, EachOutcomeIsKept, EachRowIsDecidedOnce, RowsAreDecidedOnce}
+pub use Rattle.theorems.specs.OwnRow.{TellsItsOwnRow}
 pub use Rattle.theorems.specs.Accepting.{RowsAreAcceptedByConsumers, AcceptedIsTrue}
+pub use Rattle.theorems.specs.Mapped.{MapIsOfBook, MapIsTrue}
+pub use Rattle.theorems.specs.OwnConsumer.{GoesToOwnConsumer, NumbersAreGivenOnce}

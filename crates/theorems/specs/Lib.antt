@@ -16,7 +16,10 @@ pub mod Came
 pub mod Decided
 pub mod Told
 pub mod Kept
+pub mod OwnRow
 pub mod Accepting
+pub mod Mapped
+pub mod OwnConsumer
 pub mod Keeping
 pub mod Admitted
 pub mod Order

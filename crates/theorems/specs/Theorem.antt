@@ -10,7 +10,7 @@ use Rattle.router_core.specs.declared.router.Core.{Core}
 use Rattle.theorems.specs.Alike.{AnsweredAlone, SameWheneverTaken, SameHoweverCut}
 use Rattle.theorems.specs.Always.{Always, AlwaysFrom, AlwaysInTurn, AlwaysOnSound, InOneRun, InScripts, OnSound}
 use Rattle.theorems.specs.Credit.{WithinCredit}
-use Rattle.theorems.specs.Durable.{IsKeptFirst, RowIsAdmitted, EachRowIsBoundOnce, EachNewRowIsBound, OutcomeIsKept, EachOutcomeIsKept, EachRowIsDecidedOnce, RowsAreDecidedOnce, RowsAreAcceptedByConsumers, AcceptedIsTrue}
+use Rattle.theorems.specs.Durable.{IsKeptFirst, RowIsAdmitted, EachRowIsBoundOnce, EachNewRowIsBound, OutcomeIsKept, EachOutcomeIsKept, EachRowIsDecidedOnce, RowsAreDecidedOnce, RowsAreAcceptedByConsumers, AcceptedIsTrue, MapIsOfBook, MapIsTrue, GoesToOwnConsumer, NumbersAreGivenOnce, TellsItsOwnRow}
 use Rattle.theorems.specs.Each.{EachOut, EachBound}
 use Rattle.theorems.specs.Lives.{InLives, InSmallLives}
 use Rattle.theorems.specs.Locked.{Kind, UnderTheLock, UnderTheLockIfSmall}
@@ -20,11 +20,12 @@ use Rattle.theorems.specs.Stops.{Stopping, AnyMomentLeavesAPrefix, TheEndLeavesA
 use Rattle.theorems.specs.Windows.{WindowKept}
 
 -- The headline. Stopped before, within or after any call of its files, the journal reopens to the book of a prefix of the
--- events handled that holds every event answered; and over every list of runs each row is decided at most once, a producer
--- is told accepted only after its consumer accepted, and no link starts a delivery beyond its granted credit.
+-- events handled that holds every event answered; and over every list of runs each row is decided at most once, and goes to
+-- its own consumer alone, a producer is told accepted only after its consumer accepted, and no link starts a delivery
+-- beyond its granted credit.
 abbrev pub TheHeadline : {T : Type 0} → Stopping T → Core T → List Event → Core T → Driven → Type 0
 TheHeadline d old es new x =
-    AStopLeavesAPrefix d old es new x × InLives RowsAreDecidedOnce × AcceptedIsToldTruly × InLives WithinCredit
+    AStopLeavesAPrefix d old es new x × InLives RowsAreDecidedOnce × RowsStayWithConsumers × AcceptedIsToldTruly × InLives WithinCredit
 
 -- Stopped at any moment, the journal opens to the book after some first events, or after the next one too; at the end, if
 -- no fault was answered, to the book after all of them, and if one was, to a book that holds all of which an item was
@@ -64,15 +65,23 @@ OutcomesAreAsGiven = OutcomesAreGiven × OutcomesAreOfConsumers
 abbrev pub OutcomesAreToldOnce : Type 0
 OutcomesAreToldOnce = ToldAtMostOnce × ToldAnew × Always (EachOut TellsAsGiven)
 
--- The outcome of a delivery with a row is in the journal's book before it is told, and no row is decided twice.
+-- The outcome of a delivery with a row is in the journal's book before it is told, to the row's own producer, and no row
+-- is decided twice.
 abbrev pub DurableOutcomesAreKeptFirst : Type 0
 DurableOutcomesAreKeptFirst =
     AlwaysInTurn (OnSound EachOutcomeIsKept) × AlwaysFrom (OnSound EachRowIsDecidedOnce)
-    × InSmallLives (EachOut OutcomeIsKept) × InLives RowsAreDecidedOnce
+    × InSmallLives (EachOut OutcomeIsKept) × InLives RowsAreDecidedOnce × InSmallLives (EachOut TellsItsOwnRow)
 
--- What the book has as accepted its consumer accepted, in this run or an earlier one; no producer is told accepted before.
+-- What the book has as accepted its consumer accepted, in this run or an earlier one; no producer is told accepted
+-- before, by a disposition or by the map of an attach, which has what the book has.
 abbrev pub AcceptedIsToldTruly : Type 0
-AcceptedIsToldTruly = InLives RowsAreAcceptedByConsumers × InSmallLives (EachOut AcceptedIsTrue)
+AcceptedIsToldTruly =
+    InLives RowsAreAcceptedByConsumers × InSmallLives (EachOut AcceptedIsTrue) × AlwaysOnSound (EachOut MapIsOfBook) × InLives (EachOut MapIsTrue)
+
+-- What is sent of a row goes to the link of the consumer for which it was admitted, in this run or an earlier one; it
+-- was admitted once, and so its consumer's terminus was made once.
+abbrev pub RowsStayWithConsumers : Type 0
+RowsStayWithConsumers = InLives (EachOut GoesToOwnConsumer) × InLives NumbersAreGivenOnce
 
 -- Under the lock, whatever threads do and whatever runs were before: within credit, outcomes kept first, decided once.
 abbrev pub TheLockKeepsThem : {T : Type 0} → Kind T → Type 0

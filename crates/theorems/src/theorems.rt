@@ -9,7 +9,7 @@ ghost use Rattle.theorems.specs.Theorem.{TheHeadline, AStopLeavesAPrefix, ARoute
 ghost use Rattle.theorems.specs.Theorem.{NoDeliveryStartsBeyondCredit};
 ghost use Rattle.theorems.specs.Theorem.{ADeliveryHasOneConsumer, FramesCarryWhatWasBound, MessagesAreBoundOnce};
 ghost use Rattle.theorems.specs.Theorem.{OutcomesAreAsGiven, OutcomesAreToldOnce, DurableOutcomesAreKeptFirst};
-ghost use Rattle.theorems.specs.Theorem.{AcceptedIsToldTruly, TheLockKeepsThem};
+ghost use Rattle.theorems.specs.Theorem.{AcceptedIsToldTruly, RowsStayWithConsumers, TheLockKeepsThem};
 ghost use Rattle.theorems.specs.Theorem.{DurableLinksAreKeptFirst, DurableMessagesAreKeptFirst};
 ghost use Rattle.theorems.specs.Theorem.{ConnectionsKeepOrder, WindowsAreKept};
 ghost use Rattle.theorems.specs.Theorem.{ScriptsKeepOrder, ScriptsKeepWindowsAndCredit};
@@ -120,16 +120,28 @@ pub fn outcomes_are_told_once()
 /// (its numbers rise, no limit is passed, and the termini that rows keep stand): where a producer is told the outcome
 /// of a delivery with a row, the book has that row, decided, with that outcome. `Core::handle` has the book on the
 /// disk before it puts anything out, so no crash loses an outcome that was told. Each row is decided at most once,
-/// whatever happens (AMQP 1.0 part 2, section 2.6.12, and part 3, section 3.4). Lists of events have such traces.
+/// whatever happens. Over every list of runs the row that is told is the producer's own: it came on the terminus of the
+/// producer's link, with the tag of the delivery that the producer is told of (AMQP 1.0 part 2, section 2.6.12, and part
+/// 3, section 3.4). Lists of events have such traces.
 pub fn durable_outcomes_are_kept_first()
     ensures { DurableOutcomesAreKeptFirst }
 {}
 
 /// Over every list of runs, each ended by a stop anywhere: a row of the book that is decided as accepted was accepted by its consumer, with a
 /// disposition, or with the map of the attach by which its link came back; and a producer is told accepted, of a delivery with a row, only after
-/// that. It may have been in an earlier run, whose end was lost to all but the book (AMQP 1.0 part 2, sections 2.6.12 and 2.6.13).
+/// that, by a disposition, or by the map of the router's attach when its own link comes back. Each entry of that map is of a row that the book has
+/// from the link's terminus, unforgotten, with the row's tag and outcome (where the router was opened on a sound book, or after other runs). It
+/// may have been in an earlier run, whose end was lost to all but the book (AMQP 1.0 part 2, sections 2.6.12, 2.6.13 and 2.7.3).
 pub fn accepted_is_told_truly()
     ensures { AcceptedIsToldTruly }
+{}
+
+/// Over every list of runs, each ended by a stop anywhere: each transfer for a delivery with a row goes to the link of the row's own consumer. The
+/// row was admitted, in this run or an earlier one, for a terminus that was made, and the link is durable and has that terminus' key; or for
+/// none, in this run, and the link is the one to which its message was bound then. In all runs together at most one row is admitted under a number,
+/// and at most one terminus made under one, so that a row has one consumer (AMQP 1.0 part 2, section 2.6.12, and part 3, sections 3.5.3 to 3.5.5).
+pub fn rows_stay_with_consumers()
+    ensures { RowsStayWithConsumers }
 {}
 
 /// A router under the lock, whatever its threads do, has a history since its very opening, which is a trace: on no link does it

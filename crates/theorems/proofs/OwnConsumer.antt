@@ -1,0 +1,355 @@
+-- Over every list of runs, what is sent of a row goes to the link of its own consumer.
+use Rattle.std.proofs.Common.{◌≡◌, ◌∙◌, sym, ap, refl, subst, ◌⊎◌, inl, inr, ℕ, ◌≤◌, Bool, true, false, List, [], ◌∷◌, ◌++◌, append-nil}
+use Rattle.std.specs.Prelude.{◌==◌, Option, Some, None, is_some, option_map, if◌then◌else◌}
+use Rattle.std.proofs.lemmas.Bool.{eqb-true}
+use Rattle.amqp_model.specs.declared.perf.Perf.{Perf}
+use Rattle.amqp_model.specs.declared.perf.Perf.TheVariants as perf
+use Rattle.amqp_model.specs.declared.perf.Transfer.{Transfer}
+use Rattle.amqp_model.specs.declared.item.Item.{Item}
+use Rattle.amqp_model.specs.declared.item.Item.TheVariants as item
+use Rattle.book_model.specs.declared.act.Act.TheVariants.{Make, Admit}
+use Rattle.book_model.specs.declared.act.Admission.{Admission}
+use Rattle.book_model.specs.declared.row.Row.{Row as ARow}
+use Rattle.book_model.specs.declared.row.RowNumber.{RowNumber}
+use Rattle.book_model.specs.declared.terminus.LinkKey.{LinkKey}
+use Rattle.book_model.specs.declared.terminus.LinkRole.{LinkRole}
+use Rattle.book_model.specs.declared.terminus.LinkRole.TheVariants.{Producer, Consumer}
+use Rattle.book_model.specs.declared.terminus.Terminus.{Terminus}
+use Rattle.book_model.specs.declared.terminus.TerminusNumber.{TerminusNumber}
+use Rattle.book_model.specs.Book.{BookView, is_for_by, same_key, same_role, terminus_of}
+use Rattle.router_trace.specs.declared.binding.Binding.{Binding}
+use Rattle.router_trace.specs.declared.binding.BindingKind.{BindingKind}
+use Rattle.router_trace.specs.declared.binding.BindingKind.TheVariants as kind
+use Rattle.router_trace.specs.declared.binding.DeliveryName.TheVariants.{Row}
+use Rattle.router_trace.specs.declared.binding.Origin.{Origin}
+use Rattle.router_trace.specs.declared.handle.Attachment.{Attachment}
+use Rattle.router_trace.specs.Deliveries.{is_message, name_of}
+use Rattle.router_trace.specs.Following.{is_sending, link_of}
+use Rattle.router_trace.specs.Links.{Link, attachments, durable_key, holder, last_of_key, link}
+use Rattle.router_trace.specs.Trace.{Trace, Did, Out, Took, Bound, Booked, Began, IsOneRun}
+use Rattle.state_messages.specs.Messages.{lasts}
+use Rattle.router_reply.specs.Acts.{before_acts, book_found, book_in}
+use Rattle.router_reply.specs.Admitting.{terminus_for}
+use Rattle.theorems.specs.Admitted.{IsAdmitted, IsAdmittedIf, IsAdmittedUnder, RowIsAdmitted}
+use Rattle.theorems.specs.Came.{Handled, just_handled, last_found, BindsAs, BindsByKind, BindsMessage, JoinsRow, TakesUp}
+use Rattle.theorems.specs.Carried.{CarriesMessage}
+use Rattle.theorems.specs.Each.{EachBound, EachOut}
+use Rattle.theorems.specs.Lives.{InLives}
+use Rattle.theorems.specs.OneConsumer.{IsOfMessage}
+use Rattle.theorems.specs.OwnConsumer.{WasDone, IsOfTerminus, WasBoundTo, IsConsumer, IsOwnConsumer, perf_goes_to_own, GoesToOwnConsumer}
+use Rattle.theorems.proofs.Among.{Stands, stands_after}
+use Rattle.theorems.proofs.Attaching.{held_is}
+use Rattle.theorems.proofs.Bindings.{of_messages, each_bound}
+use Rattle.theorems.proofs.Brings.{BindsRight}
+use Rattle.theorems.proofs.Consuming.{consumer_sends}
+use Rattle.theorems.proofs.LinkNumbers.{key_of_last, link_before, link_low, role_going, role_is}
+use Rattle.theorems.proofs.Lives.{lives_rows, lives_sound, lives_brings}
+use Rattle.theorems.proofs.Origins.{Continues, IsPart, Origins, WasAdmitted, done_now, lives_continue, origins, part_continues, part_itself, part_more, part_of, part_on, was_done}
+use Rattle.theorems.proofs.Rowing.{taken_sends}
+use Rattle.theorems.proofs.Settling.{found_key}
+use Rattle.theorems.proofs.Standing.{SameLink, Sends}
+use Rattle.theorems.proofs.Taking.{consumer_held}
+use Rattle.theorems.proofs.Tests.{some_same, none_not_some}
+
+clash : true ≡ false → ⊥
+clash e = cc
+
+-- The traces that an event found are parts of the one after it.
+
+just_part : (u : Trace) (h : Handled) → just_handled u ≡ Some h → IsPart h.found u
+just_part [] h just = absurd (none_not_some just)
+just_part (Did s ∷ t) h just = subst (λ (k : Handled). IsPart k.found (Did s ∷ t)) (some_same just) (part_more (Did s) t t (part_itself t))
+just_part (Out c i ∷ t) h just = part_more (Out c i) h.found t (just_part t h just)
+just_part (Took c n ∷ t) h just = absurd (none_not_some just)
+just_part (Bound b ∷ t) h just = absurd (none_not_some just)
+just_part (Booked acts full ∷ t) h just = absurd (none_not_some just)
+just_part (Began g ∷ t) h just = absurd (none_not_some just)
+
+last_part : (u : Trace) → IsPart (last_found u) u
+last_part [] = part_itself []
+last_part (Did s ∷ t) = part_more (Did s) t t (part_itself t)
+last_part (Out c i ∷ t) = part_more (Out c i) (last_found t) t (last_part t)
+last_part (Took c n ∷ t) = part_more (Took c n) (last_found t) t (last_part t)
+last_part (Bound b ∷ t) = part_more (Bound b) (last_found t) t (last_part t)
+last_part (Booked acts full ∷ t) = part_more (Booked acts full) (last_found t) t (last_part t)
+last_part (Began g ∷ t) = record { later = Began g ∷ t; is = sym (append-nil (Began g ∷ t)) }
+
+acts_part : (u : Trace) → IsPart (before_acts u) u
+acts_part [] = part_itself []
+acts_part (Did s ∷ t) = part_itself (Did s ∷ t)
+acts_part (Out c i ∷ t) = part_itself (Out c i ∷ t)
+acts_part (Took c n ∷ t) = part_itself (Took c n ∷ t)
+acts_part (Bound b ∷ t) = part_itself (Bound b ∷ t)
+acts_part (Booked acts full ∷ t) = part_more (Booked acts full) t t (part_itself t)
+acts_part (Began g ∷ t) = part_itself (Began g ∷ t)
+
+-- A terminus that is found by its key was made with that key.
+
+terminus_stands : (key : LinkKey) (ts : List Terminus) (x : Terminus) → terminus_of key ts ≡ Some x → Stands Terminus x ts
+terminus_stands key [] x is = absurd (none_not_some is)
+terminus_stands key (t ∷ ts) x is = by (same_key t.key key) is (λ rest. inr (terminus_stands key ts x rest))
+  where
+    by : (q : Bool) → (if q then Some t else terminus_of key ts) ≡ Some x → (terminus_of key ts ≡ Some x → Stands Terminus x (t ∷ ts)) → Stands Terminus x (t ∷ ts)
+    by true is rest = inl (some_same is)
+    by false is rest = rest is
+
+-- the terminus that a key names in the book before, where it is one for a row
+record Named (v : Trace) (key : Option LinkKey) (n : TerminusNumber) : Type 0 where
+  terminus : Terminus
+  number : terminus.number ≡ n
+  was_made : WasDone v (Make terminus)
+  keyed : key ≡ Some terminus.key
+
+abbrev number_in : Option Terminus → Option TerminusNumber
+number_in o = option_map (λ x. x.number) o
+
+named : (v : Trace) (key : Option LinkKey) (n : TerminusNumber) → Origins v → terminus_for (book_in v) key ≡ Some n → Named v key n
+named v None n all is = absurd (none_not_some is)
+named v (Some key) n all is = by (terminus_of key (book_in v).termini) refl is
+  where
+    by : (o : Option Terminus) → terminus_of key (book_in v).termini ≡ o → terminus_for (book_in v) (Some key) ≡ Some n → Named v (Some key) n
+    by None there is = absurd (none_not_some (sym (ap number_in there) ∙ is))
+    by (Some x) there is = record {
+      terminus = x;
+      number = some_same (sym (ap number_in there) ∙ is);
+      was_made = all.termini x (terminus_stands key (book_in v).termini x there);
+      keyed = ap (λ (k : LinkKey). Some k) (sym (found_key key (book_in v).termini x there));
+    }
+
+-- The link on which a delivery goes is the one to which it was bound.
+
+named_row : (row : Option RowNumber) (k : ℕ) (r : RowNumber) → name_of row k ≡ Row r → row ≡ Some r
+named_row None k r is = absurd cc
+named_row (Some q) k r is = cc
+
+same_durable : (l m : Link) → SameLink l m → durable_key (Some m) ≡ durable_key (Some l)
+same_durable l m same = λ j. if same.durable j then Some (same.key j) else None
+
+module _ (t : Trace) (c own : ℕ) (x : Transfer) (payload : List ℕ) (carries : CarriesMessage t c own x payload) (message : IsOfMessage t carries.number carries.of) where
+  abbrev goes_to : Attachment
+  goes_to = message.binding.consumer
+
+  it_stands : link (message.later ++ Bound message.binding ∷ message.before) goes_to.conn.0 goes_to.channel goes_to.handle ≡ Some carries.attached
+  it_stands =
+      subst (λ (u : Trace). link u goes_to.conn.0 goes_to.channel goes_to.handle ≡ Some carries.attached) message.trace
+      (subst (λ (a : Attachment). link t a.conn.0 a.channel a.handle ≡ Some carries.attached) message.is.consumer
+      (ap (λ (k : ℕ). link t k carries.of.link.channel carries.of.link.handle) carries.on_connection
+      ∙ ap (λ (k : ℕ). link t c k carries.of.link.handle) carries.on_session
+      ∙ ap (link t c own) carries.on_handle
+      ∙ carries.on_link))
+
+  -- a link that was there when it was bound, with its number
+  still : (l : Link) → link message.before goes_to.conn.0 goes_to.channel goes_to.handle ≡ Some l → l.number ≡ goes_to.number → SameLink l carries.attached
+  still l there number =
+      let high : carries.attached.number ≡ l.number = carries.its_number ∙ ap (λ (a : Attachment). a.number) message.is.consumer ∙ sym number in
+      let low : carries.attached.number ≤ attachments message.before =
+      subst (λ (n : ℕ). n ≤ attachments message.before) (sym high) (link_low message.before goes_to.conn.0 goes_to.channel goes_to.handle l there) in
+      let was = link_before message.later (Bound message.binding ∷ message.before) goes_to.conn.0 goes_to.channel goes_to.handle carries.attached message.one_run it_stands low in
+      subst (λ (m : Link). SameLink m carries.attached) (some_same (sym was.there ∙ there)) was.same
+
+  part : IsPart message.before t
+  part =
+      part_on message.before (Bound message.binding ∷ message.before) t (part_more (Bound message.binding) message.before message.before (part_itself message.before))
+      (record { later = message.later; is = message.trace })
+
+  -- of a message
+  of_message : Continues t → (r : RowNumber) → is_message message.binding.kind ≡ true → IsAdmitted message.before message.binding r → Sends message.before goes_to
+      → IsOwnConsumer t r carries.of.link carries.attached
+  of_message all r fresh adm sends = record {
+    admission = adm.admission;
+    its_row = adm.number;
+    was_admitted =
+        was_done adm.came.handled.found t (Admit adm.admission) (part_on adm.came.handled.found message.before t (just_part message.before adm.came.handled adm.came.just) part)
+        (subst (λ (v : Trace). WasDone v (Admit adm.admission)) (sym adm.acts) (done_now adm.before (Admit adm.admission ∷ []) adm.full (Admit adm.admission) (inl refl)));
+    consumer = by adm.admission.consumer refl;
+  }
+    where
+      before_part : IsPart adm.before t
+      before_part =
+          part_on adm.before message.before t
+          (part_on adm.before adm.came.handled.found message.before
+          (subst (λ (v : Trace). IsPart adm.before v) (sym adm.acts) (part_more (Booked (Admit adm.admission ∷ []) adm.full) adm.before adm.before (part_itself adm.before)))
+          (just_part message.before adm.came.handled adm.came.just))
+          part
+
+      by : (o : Option TerminusNumber) → adm.admission.consumer ≡ o → IsConsumer o t r adm.admission carries.of.link carries.attached
+      by None none = record {
+        later = message.later;
+        binding = message.binding;
+        before = message.before;
+        trace = message.trace;
+        one_run = message.one_run;
+        message = fresh;
+        admitted = adm;
+        its_admission = refl;
+        consumer = sym message.is.consumer;
+      }
+      by (Some n) some =
+          let made = named adm.before (durable_key (link_of message.before goes_to)) n (origins adm.before (part_continues adm.before t before_part all)) (sym adm.consumer ∙ some) in
+          record {
+            terminus = made.terminus;
+            its_number = made.number;
+            was_made = was_done adm.before t (Make made.terminus) before_part made.was_made;
+            its_key = same_durable sends.at carries.attached (still sends.at sends.there sends.number) ∙ ap durable_key (sym sends.there) ∙ made.keyed;
+          }
+
+  -- of a row that was taken up
+  for_terminus : (n : ℕ) (o : Option TerminusNumber) → is_for_by n o ≡ true → (k : TerminusNumber) × (o ≡ Some k) × (k.0 ≡ n)
+  for_terminus n None is = absurd (clash (sym is))
+  for_terminus n (Some k) is = (k, refl, eqb-true k.0 n is)
+
+  same_number : (j k : TerminusNumber) → j.0 ≡ k.0 → j ≡ k
+  same_number j k e = let number : ℕ → TerminusNumber = λ n. record { 0 = n } in ap number e
+
+  is_durable_now : (l : Link) (k : LinkKey) → l.key ≡ k → is_some (durable_key (Some l)) ≡ true → durable_key (Some l) ≡ Some k
+  is_durable_now l k keyed some = by l.durable some
+    where
+      by : (q : Bool) → is_some (if q then Some l.key else None) ≡ true → (if q then Some l.key else None) ≡ Some k
+      by true some = ap (λ (j : LinkKey). Some j) keyed
+      by false some = absurd (clash (sym some))
+
+  of_taken : Continues t → (r : RowNumber) → (takes : TakesUp message.before message.binding) → takes.row.number ≡ r → lasts message.before goes_to ≡ true
+      → IsOwnConsumer t r carries.of.link carries.attached
+  of_taken all r takes number lasting = record {
+    admission = was.admission;
+    its_row = was.number ∙ number;
+    was_admitted = was_done v t (Admit was.admission) v_part was.done;
+    consumer =
+        subst (λ (o : Option TerminusNumber). IsConsumer o t r was.admission carries.of.link carries.attached) (sym (was.consumer ∙ waits.1))
+        (record {
+          terminus = takes.terminus;
+          its_number = same_number takes.terminus.number waits.0 (sym waits.2);
+          was_made = was_done v t (Make takes.terminus) v_part (known.termini takes.terminus (terminus_stands takes.key (book_in v).termini takes.terminus takes.of_key));
+          its_key =
+              same_durable sends.at carries.attached (still sends.at sends.there sends.number)
+              ∙ is_durable_now sends.at takes.key keyed (ap (λ (o : Option Link). is_some (durable_key o)) (sym sends.there) ∙ lasting)
+              ∙ ap (λ (k : LinkKey). Some k) (sym (found_key takes.key (book_in v).termini takes.terminus takes.of_key));
+        });
+  }
+    where
+      v : Trace
+      v = before_acts (last_found message.before)
+
+      v_part : IsPart v t
+      v_part = part_on v message.before t (part_on v (last_found message.before) message.before (acts_part (last_found message.before)) (last_part message.before)) part
+
+      known : Origins v
+      known = origins v (part_continues v t v_part all)
+
+      stands : Stands ARow takes.row (book_in v).rows
+      stands = subst (λ (rows : List ARow). Stands ARow takes.row rows) (sym takes.kept) (stands_after ARow takes.row takes.earlier takes.later)
+
+      was : WasAdmitted (WasDone v) takes.row
+      was = known.rows takes.row stands
+
+      waits : (k : TerminusNumber) × (takes.row.consumer ≡ Some k) × (k.0 ≡ takes.terminus.number.0)
+      waits = for_terminus takes.terminus.number.0 takes.row.consumer takes.waits
+
+      sends : Sends message.before goes_to
+      sends = taken_sends message.before takes.key goes_to takes.attached
+
+      keyed : sends.at.key ≡ takes.key
+      keyed =
+          key_of_last message.before takes.key goes_to sends.at
+          (held_is message.before (last_of_key message.before takes.key) goes_to (consumer_held message.before (holder message.before takes.key) goes_to takes.attached)).0
+          sends.there sends.number
+
+  -- nothing is sent of one that a delivery joined
+  role_is_one : (a : LinkRole) → same_role a Producer ≡ true → a ≡ Producer
+  role_is_one Producer is = refl
+  role_is_one Consumer is = absurd (clash (sym is))
+
+  two_roles : Consumer ≡ Producer → ⊥
+  two_roles e = cc
+
+  key_is : (l : Link) (k : LinkKey) → durable_key (Some l) ≡ Some k → l.key ≡ k
+  key_is l k is = by l.durable is
+    where
+      by : (q : Bool) → (if q then Some l.key else None) ≡ Some k → l.key ≡ k
+      by true is = some_same is
+      by false is = absurd (none_not_some is)
+
+  of_joined : (p : Origin) (joins : JoinsRow message.before message.binding p) → same_role joins.terminus.key.role Producer ≡ true → ⊥
+  of_joined p joins role =
+      let place : goes_to ≡ p.link = ap (λ (b : Binding). b.consumer) joins.joins in
+      let there : link message.before goes_to.conn.0 goes_to.channel goes_to.handle ≡ Some joins.producer =
+      ap (λ (a : Attachment). link message.before a.conn.0 a.channel a.handle) (place ∙ joins.from.0) ∙ joins.attached in
+      let number : joins.producer.number ≡ goes_to.number = ap (λ (a : Attachment). a.number) (sym (place ∙ joins.from.0)) in
+      let same : SameLink joins.producer carries.attached = still joins.producer there number in
+      let key : joins.producer.key ≡ joins.terminus.key =
+      key_is joins.producer joins.key joins.durable ∙ sym (found_key joins.key (book_in message.before).termini joins.terminus joins.of_key) in
+      two_roles (ap role_going (sym carries.sends ∙ same.way)
+      ∙ sym (role_is message.before goes_to.conn.0 goes_to.channel goes_to.handle joins.producer there)
+      ∙ ap (λ (k : LinkKey). k.role) key
+      ∙ role_is_one joins.terminus.key.role role)
+
+-- The law.
+
+pub record BindingFacts (t : Trace) : Type 0 where
+  pub continues : Continues t
+  pub binds : EachBound BindsByKind t
+  pub admitted : EachBound RowIsAdmitted t
+  pub right : EachBound BindsRight t
+
+goes_to_own : (t : Trace) (c own : ℕ) (x : Transfer) (payload : List ℕ) → BindingFacts t → (carries : CarriesMessage t c own x payload) → (r : RowNumber) → carries.of.name ≡ Row r
+    → IsOwnConsumer t r carries.of.link carries.attached
+goes_to_own t c own x payload all carries r name = by message.binding.kind refl
+  where
+    message : IsOfMessage t carries.number carries.of
+    message = of_messages t carries.number carries.of carries.there
+
+    row : message.binding.row ≡ Some r
+    row = named_row message.binding.row _ r (sym message.name ∙ name)
+
+    binds : BindsByKind message.before message.binding
+    binds = each_bound BindsByKind message.later message.before message.binding (subst (λ (u : Trace). EachBound BindsByKind u) message.trace all.binds)
+
+    admitted : RowIsAdmitted message.before message.binding
+    admitted = each_bound RowIsAdmitted message.later message.before message.binding (subst (λ (u : Trace). EachBound RowIsAdmitted u) message.trace all.admitted)
+
+    right : BindsRight message.before message.binding
+    right = each_bound BindsRight message.later message.before message.binding (subst (λ (u : Trace). EachBound BindsRight u) message.trace all.right)
+
+    taken : (takes : TakesUp message.before message.binding) → IsOwnConsumer t r carries.of.link carries.attached
+    taken takes = of_taken t c own x payload carries message all.continues r takes (some_same (sym takes.number ∙ row)) (right.durable takes)
+
+    fresh : (binds : BindsMessage message.before message.binding) → is_message message.binding.kind ≡ true → IsOwnConsumer t r carries.of.link carries.attached
+    fresh binds is =
+        of_message t c own x payload carries message all.continues r is
+        (subst (λ (o : Option RowNumber). IsAdmittedUnder message.before message.binding o) row
+        (subst (λ (q : Bool). IsAdmittedIf q message.before message.binding) is admitted))
+        (consumer_sends message.before binds.producer message.binding.consumer binds.chosen)
+
+    by : (k : BindingKind) → message.binding.kind ≡ k → IsOwnConsumer t r carries.of.link carries.attached
+    by (kind.Message origin) is = fresh (subst (λ (k : BindingKind). BindsAs k message.before message.binding) is binds) (ap is_message is)
+    by (kind.TakenUp brought) is = taken (subst (λ (k : BindingKind). BindsAs k message.before message.binding) is binds)
+    by (kind.Joined p to) is =
+        let joins : JoinsRow message.before message.binding p = subst (λ (k : BindingKind). BindsAs k message.before message.binding) is binds in
+        absurd (of_joined t c own x payload carries message p joins (right.producer p joins))
+
+item_goes_to_own : (t : Trace) (c : ℕ) (i : Item) → BindingFacts t → GoesToOwnConsumer t c i
+item_goes_to_own t c (item.Frame sasl own body payload) all = by body
+  where
+    by : (body : Perf) → perf_goes_to_own body t c own payload
+    by (perf.Transfer x) = goes_to_own t c own x payload all
+    by _ = tt
+item_goes_to_own t c _ all = tt
+
+each_goes : (t : Trace) → BindingFacts t → EachOut GoesToOwnConsumer t
+each_goes [] all = tt
+each_goes (Did s ∷ t) all = each_goes t (record { continues = all.continues; binds = all.binds; admitted = all.admitted; right = all.right })
+each_goes (Out c i ∷ t) all =
+    let before : BindingFacts t = record { continues = all.continues; binds = all.binds; admitted = all.admitted; right = all.right } in
+    (item_goes_to_own t c i before, each_goes t before)
+each_goes (Took c n ∷ t) all = each_goes t (record { continues = all.continues; binds = all.binds; admitted = all.admitted; right = all.right })
+each_goes (Bound b ∷ t) all = each_goes t (record { continues = all.continues; binds = all.binds.1; admitted = all.admitted.1; right = all.right.1 })
+each_goes (Booked acts full ∷ t) all = each_goes t (record { continues = all.continues; binds = all.binds; admitted = all.admitted; right = all.right })
+each_goes (Began g ∷ t) all = each_goes t (record { continues = all.continues.1; binds = all.binds; admitted = all.admitted; right = all.right })
+
+pub lives_go_to_own : InLives (EachOut GoesToOwnConsumer)
+lives_go_to_own = λ id lives u all. each_goes u (record {
+  continues = lives_continue id lives u all;
+  binds = (lives_sound id lives u all).binds;
+  admitted = (lives_rows id lives u all).admitted;
+  right = (lives_brings id lives u all).right;
+})
