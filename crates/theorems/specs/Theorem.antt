@@ -1,5 +1,6 @@
 -- The theorem: what the router promises, whatever peers send, and whenever it is stopped. Each law is one line; the
--- function of its name in src/theorems.rt proves it. A trace is what happened since the opening (docs/trace.md).
+-- function of its name in src/theorems.rt proves it. The last one, the headline, puts the most important ones together.
+-- A trace is what happened since the opening (docs/trace.md).
 -- `Always`: in every trace of the router, and over every list of runs; `InOneRun`: in one. `Each`: over the trace so far.
 use Rattle.std.specs.Prelude.{ℕ, List}
 use Rattle.disk_core.specs.Twin.{Contents}
@@ -18,14 +19,6 @@ use Rattle.theorems.specs.Messages.{BindsByKind, BringsItsOutcome, EachDeliveryC
 use Rattle.theorems.specs.Order.{KeepsOrder, BeginsWithHeaders}
 use Rattle.theorems.specs.Stops.{Stopping, AnyMomentLeavesAPrefix, TheEndLeavesAll, AFaultLeavesAllAnswered, EndsALife, EndsALifeAnswered, GoesOnFrom}
 use Rattle.theorems.specs.Windows.{WindowKept}
-
--- The headline. Stopped before, within or after any call of its files, the journal reopens to the book of a prefix of the
--- events handled that holds every event answered; and over every list of runs each row is decided at most once, and goes to
--- its own consumer alone, a producer is told accepted only after its consumer accepted, and no link starts a delivery
--- beyond its granted credit.
-abbrev pub TheHeadline : {T : Type 0} → Stopping T → Core T → List Event → Core T → Driven → Type 0
-TheHeadline d old es new x =
-    AStopLeavesAPrefix d old es new x × InLives RowsAreDecidedOnce × RowsStayWithConsumers × AcceptedIsToldTruly × InLives WithinCredit
 
 -- Stopped at any moment, the journal opens to the book after some first events, or after the next one too; at the end, if
 -- no fault was answered, to the book after all of them, and if one was, to a book that holds all of which an item was
@@ -124,3 +117,11 @@ ConnectionsAreAnsweredAlone = AnsweredAlone
 -- How the bytes of connections are cut into pieces makes no difference as long as no outbox is full.
 abbrev pub PiecesMakeNoDifference : Type 0
 PiecesMakeNoDifference = SameHoweverCut
+
+-- The headline. Stopped before, within or after any call of its files, the journal reopens to the book of a prefix of the
+-- events handled that holds every event answered; and over every list of runs each row is decided at most once, and goes to
+-- its own consumer alone, a producer is told accepted only after its consumer accepted, and no link starts a delivery
+-- beyond its granted credit.
+abbrev pub TheHeadline : {T : Type 0} → Stopping T → Core T → List Event → Core T → Driven → Type 0
+TheHeadline d old es new x =
+    AStopLeavesAPrefix d old es new x × InLives RowsAreDecidedOnce × RowsStayWithConsumers × AcceptedIsToldTruly × InLives WithinCredit
