@@ -1,5 +1,5 @@
 -- What a crash leaves while a list of events is run.
-use Rattle.std.specs.Prelude.{◌≡◌, ◌⊎◌, ℕ, false, List, [], ◌∷◌, ◌++◌, length}
+use Rattle.std.specs.Prelude.{◌≡◌, ◌≢◌, ◌⊎◌, ℕ, false, if◌then◌else◌, List, [], ◌∷◌, ◌++◌, length}
 use Rattle.disk_core.specs.Twin.{Contents}
 use Rattle.book_model.specs.Book.{BookView}
 use Rattle.journal_store.specs.Store.{OpensTo}
@@ -33,8 +33,18 @@ pub record IsLeftBy (id : List ℕ) (t : Trace) (es : List Event) (b : BookView)
 abbrev pub LeftBy : List ℕ → Trace → List Event → Contents → Type 0
 LeftBy id t es contents = (b : BookView) × OpensTo contents b × IsLeftBy id t es b
 
--- two files open to the book after as many first events, or to that book after the acts of the event that comes next, if it is in turn
-pub record IsLeftAfter (id : List ℕ) (t : Trace) (es : List Event) (handled : ℕ) (contents : Contents) : Type 0 where
+-- the book behind an event: as it was before, if the event is declined; and behind the first of these events, if there is one
+abbrev pub book_behind : Trace → Event → BookView
+book_behind t e = if declines t e then book_in t else book_after_event t e
+
+abbrev pub book_behind_next : Trace → List Event → BookView
+book_behind_next t [] = book_in t
+book_behind_next t (e ∷ es) = book_behind t e
+
+-- Of these events as many first ones were handled, then one met a fault, and xs are all items that were taken. Two files open to the book after
+-- those that were handled, or to that book after the acts of the one that met the fault, if it is in turn; and to the book behind that one, if an
+-- item was taken after it. So they open to a book that holds everything that was answered.
+pub record IsLeftAfter (id : List ℕ) (t : Trace) (es : List Event) (handled : ℕ) (xs : List Sent) (contents : Contents) : Type 0 where
   pub first : List Event
   pub rest : List Event
   pub events : es ≡ first ++ rest
@@ -42,6 +52,9 @@ pub record IsLeftAfter (id : List ℕ) (t : Trace) (es : List Event) (handled : 
   pub taken : List Sent
   pub mid : Trace
   pub run : Run id 0 t first taken mid
+  pub last : List Sent
+  pub items : xs ≡ taken ++ last
   pub book : BookView
   pub is : IsBookAt mid rest book
+  pub answered : last ≢ [] → book ≡ book_behind_next mid rest
   pub opens : OpensTo contents book

@@ -4,9 +4,9 @@ ghost use Rattle.router_trace.specs.Trace.{Entry};
 ghost use Rattle.router_trace.specs.Connection.{conn as known, is_ready};
 ghost use Rattle.disk_core.specs.Disk.{LeavesOnly};
 ghost use Rattle.disk_core.specs.Twin.{Contents};
-ghost use Rattle.journal_store.specs.Store.{Stands, twin_of};
-ghost use Rattle.router_core.specs.Handling.{Fits, id_of, is_failed, store_of};
-ghost use Rattle.router_core.specs.Leaving.{BeforeOrInTurn, IsLeftAfter, LeftBy};
+ghost use Rattle.journal_store.specs.Store.{OpensTo, Stands, twin_of};
+ghost use Rattle.router_core.specs.Handling.{Fits, id_of, is_failed, store_of, kept_book};
+ghost use Rattle.router_core.specs.Leaving.{BeforeOrInTurn, IsLeftAfter, LeftBy, book_behind};
 ghost use Rattle.router_core.specs.Runs.{Emptied, Steps, Run, MayStep, InTurn, Broken, Stopped, Waits, as_sent, sent};
 ghost use Rattle.core_machine.specs.Moves.{Taking, taking, items_of, took_one};
 ghost use Rattle.router_core.specs.declared.driving.Sent.{Sent as ASent};
@@ -130,6 +130,9 @@ fn step<T: Twin>(
     ensures stands { OnOk result (Stands T.seen T.may_leave (store_of core.old) → Stands T.seen T.may_leave (store_of core.new)) }
     ensures any_moment { (t : List Entry) → Fits core.old t → Stands T.seen T.may_leave (store_of core.old)
         → LeavesOnly T.moment T.left_since (twin_of (store_of core.old)) (twin_of (store_of core.new)) (BeforeOrInTurn t event) }
+    // With a fault, if an item was taken, the book behind the event is left at the end.
+    ensures answered { OnErr result (taken.new.items ≢ taken.old.items → (t : List Entry) → Fits core.old t → Stands T.seen T.may_leave (store_of core.old)
+        → (contents : Contents) → T.may_leave (twin_of (store_of core.new)) contents → OpensTo contents (book_behind t event)) }
 {
     hear(core, event)?;
     empty(core, place, taken)
@@ -140,6 +143,7 @@ fn hear<T: Twin>(core: &mut Core<T>, event: Event) -> Result<(), CoreFault>
     ensures fits { OnOk result ((t : List Entry) → Fits core.old t → (u : List Entry) × MayStep (id_of core.old) t event u × Fits core.new u) }
     ensures works { OnOk result (is_failed core.new ≡ true → is_failed core.old ≡ true) }
     ensures named { id_of core.new ≡ id_of core.old }
+    ensures book { OnOk result ((t : List Entry) → Fits core.old t → kept_book core.new ≡ book_behind t event) }
 
     // When a fault occurs.
     ensures known { IfErr result (λ f. f ≢ CoreFault.NoConnection) }
@@ -188,9 +192,10 @@ pub fn drive<T: Twin>(alloc: Global, core: &mut Core<T>, events: Vec<Event>) -> 
     // event that comes next. Without a fault it leaves, at the end, the book after all of them.
     ensures any_moment { (t : List Entry) → Fits core.old t → Stands T.seen T.may_leave (store_of core.old)
         → LeavesOnly T.moment T.left_since (twin_of (store_of core.old)) (twin_of (store_of core.new)) (LeftBy (id_of core.old) t events.items) }
-    // With a fault it leaves, at the end, the book after those that were handled, or that book after the acts of the next one.
+    // With a fault it leaves, at the end, the book after those that were handled, or that book after the acts of the next one: of the two the one
+    // that holds everything of which an item was taken.
     ensures left { IfSome result.fault (λ f. (t : List Entry) → Fits core.old t → Stands T.seen T.may_leave (store_of core.old)
-        → (contents : Contents) → T.may_leave (twin_of (store_of core.new)) contents → IsLeftAfter (id_of core.old) t events.items result.handled contents) }
+        → (contents : Contents) → T.may_leave (twin_of (store_of core.new)) contents → IsLeftAfter (id_of core.old) t events.items result.handled result.taken.items contents) }
     ensures stands { result.fault ≡ None → Stands T.seen T.may_leave (store_of core.old) → Stands T.seen T.may_leave (store_of core.new) }
 {
     let mut taken = Vec::new(alloc);

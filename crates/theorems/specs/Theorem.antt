@@ -1,5 +1,6 @@
 -- The theorem: what the router promises, whatever peers send, and whenever it is stopped. Each law is one line; the
--- function of its name in src/theorems.rt proves it. A trace is what happened since the opening (docs/trace.md).
+-- function of its name in src/theorems.rt proves it. The last one, the headline, puts the most important ones together.
+-- A trace is what happened since the opening (docs/trace.md).
 -- `Always`: in every trace of the router, and over every list of runs; `InOneRun`: in one. `Each`: over the trace so far.
 use Rattle.std.specs.Prelude.{ℕ, List}
 use Rattle.disk_core.specs.Twin.{Contents}
@@ -16,13 +17,16 @@ use Rattle.theorems.specs.Lives.{InLives, InSmallLives}
 use Rattle.theorems.specs.Locked.{Kind, UnderTheLock, UnderTheLockIfSmall}
 use Rattle.theorems.specs.Messages.{BindsByKind, BringsItsOutcome, EachDeliveryCame, StaysWithConsumer, NeverComesBack, OfMessages, CarriesWhatWasBound, FramesJoin, OutcomesAreGiven, OutcomesAreOfConsumers, ToldAtMostOnce, ToldAnew, TellsAsGiven}
 use Rattle.theorems.specs.Order.{KeepsOrder, BeginsWithHeaders}
-use Rattle.theorems.specs.Stops.{Stopping, AnyMomentLeavesAPrefix, TheEndLeavesAll, EndsALife, GoesOnFrom}
+use Rattle.theorems.specs.Stops.{Stopping, AnyMomentLeavesAPrefix, TheEndLeavesAll, AFaultLeavesAllAnswered, EndsALife, EndsALifeAnswered, GoesOnFrom}
 use Rattle.theorems.specs.Windows.{WindowKept}
 
--- Stopped at any moment, the journal opens to the book after some first events, or after the next one too; at the
--- end, if no fault was answered, to the book after all of them. It is the book of the runs before, and of this one.
+-- Stopped at any moment, the journal opens to the book after some first events, or after the next one too; at the end, if
+-- no fault was answered, to the book after all of them, and if one was, to a book that holds all of which an item was
+-- taken. It is the book of the runs before, and of this one.
 abbrev pub AStopLeavesAPrefix : {T : Type 0} → Stopping T → Core T → List Event → Core T → Driven → Type 0
-AStopLeavesAPrefix d old es new x = AnyMomentLeavesAPrefix d old es new × TheEndLeavesAll d old es new x × EndsALife d old es new
+AStopLeavesAPrefix d old es new x =
+    AnyMomentLeavesAPrefix d old es new × TheEndLeavesAll d old es new x × AFaultLeavesAllAnswered d old es new x
+    × EndsALife d old es new × EndsALifeAnswered d old es new x
 
 -- A router that is opened on what a stop left goes on from the runs of whose book that is.
 abbrev pub ARouterGoesOn : {T : Type 0} → Stopping T → List ℕ → Beginning → Contents → Core T → Type 0
@@ -113,3 +117,11 @@ ConnectionsAreAnsweredAlone = AnsweredAlone
 -- How the bytes of connections are cut into pieces makes no difference as long as no outbox is full.
 abbrev pub PiecesMakeNoDifference : Type 0
 PiecesMakeNoDifference = SameHoweverCut
+
+-- The headline. Stopped before, within or after any call of its files, the journal reopens to the book of a prefix of the
+-- events handled that holds every event answered; and over every list of runs each row is decided at most once, and goes to
+-- its own consumer alone, a producer is told accepted only after its consumer accepted, and no link starts a delivery
+-- beyond its granted credit.
+abbrev pub TheHeadline : {T : Type 0} → Stopping T → Core T → List Event → Core T → Driven → Type 0
+TheHeadline d old es new x =
+    AStopLeavesAPrefix d old es new x × InLives RowsAreDecidedOnce × RowsStayWithConsumers × AcceptedIsToldTruly × InLives WithinCredit

@@ -1,11 +1,11 @@
 //! The laws of the router, in terms of the protocol: `specs/Theorem.antt` states each in one line. The functions do
-//! nothing: their contracts are the laws. Only `a_stop_leaves_a_prefix` and `a_router_goes_on`, which speak of files,
-//! make a call: `drive`, and `Core::open`, of which they are laws.
+//! nothing: their contracts are the laws. Only `the_headline`, `a_stop_leaves_a_prefix` and `a_router_goes_on`, which speak
+//! of files, make a call: `drive`, and `Core::open`, of which they are laws.
 ghost use Rattle.theorems.specs.Stops.{stopping};
 ghost use Rattle.theorems.specs.Locked.{kind};
 ghost use Rattle.std.specs.Prelude.{IfOk};
 ghost use Rattle.router_core.specs.Machine.{opening_of};
-ghost use Rattle.theorems.specs.Theorem.{AStopLeavesAPrefix, ARouterGoesOn};
+ghost use Rattle.theorems.specs.Theorem.{TheHeadline, AStopLeavesAPrefix, ARouterGoesOn};
 ghost use Rattle.theorems.specs.Theorem.{NoDeliveryStartsBeyondCredit};
 ghost use Rattle.theorems.specs.Theorem.{ADeliveryHasOneConsumer, FramesCarryWhatWasBound, MessagesAreBoundOnce};
 ghost use Rattle.theorems.specs.Theorem.{OutcomesAreAsGiven, OutcomesAreToldOnce, DurableOutcomesAreKeptFirst};
@@ -21,10 +21,22 @@ use router_trace::Event;
 use std::alloc::Global;
 use twin_journal::OpenFault;
 
+/// Handles events as `drive` does. Stopped before, within or after any call of its two files, the journal reopens to the
+/// book of a prefix of the events handled that holds every event answered; and over every list of events, disconnections,
+/// stops and resumptions each durable delivery is decided at most once, its sender is told accepted only after its
+/// consumer accepted, and no link starts a delivery beyond its granted credit. What a stop leaves is the book of such a
+/// list of runs, and a router that is opened on it goes on from them (`a_router_goes_on`).
+pub fn the_headline<T: Twin>(alloc: Global, core: &mut Core<T>, events: Vec<Event>) -> Driven
+    ensures { TheHeadline (stopping T.seen T.may_leave T.moment T.left_since) core.old events.items core.new result }
+{
+    a_stop_leaves_a_prefix(alloc, core, events)
+}
+
 /// Handles events as `drive` does. Stopped at any moment, before, within or after any call of its two files, whatever the
 /// call answers, the journal opens to the book of durable links and messages after some first events, or to that
 /// book after the acts of the event that comes next. If no fault is answered it opens, at the end, to the book after
-/// all of them, and the journal stands for the next call.
+/// all of them, and the journal stands for the next call. If one is, it opens to the book after those that were handled,
+/// or after the one that met the fault too; and surely to the latter if an item was taken after that one.
 pub fn a_stop_leaves_a_prefix<T: Twin>(
     alloc: Global,
     core: &mut Core<T>,

@@ -4,7 +4,7 @@ use Rattle.router_trace.specs.declared.event.Event.{Event}
 use Rattle.router_core.specs.Handling.{id_of}
 use Rattle.router_core.specs.Runs.{Broken}
 use Rattle.router_core.proofs.RunLemmas.{all_run, past_more}
-use Rattle.router_core.proofs.Remains.{first_moment, next_moment, left_after}
+use Rattle.router_core.proofs.Remains.{first_moment, next_moment, left_after, some_items}
 use Rattle.router_core.proofs.driving.drive.Goals as goal
 
 pub returns-clause-ran : goal.returns-clause-ran
@@ -77,9 +77,11 @@ returns-in-Err-clause-any_moment g c = λ t f s.
     (c.step.ensures.any_moment w.1 w.5 (c.loop-event.invariant.stands s))
 
 pub returns-in-Err-clause-left : goal.returns-in-Err-clause-left
-returns-in-Err-clause-left g c = λ t f s.
+returns-in-Err-clause-left g c = λ t f s contents left.
     let w = c.loop-event.invariant.past t f in
+    let more = c.in-Err.ensures.broken w.1 w.5 in
     left_after g.T.Twin.seen g.T.Twin.may_leave g.T.Twin.moment g.T.Twin.left_since g.met.T.Twin.counts_now _ _ (id_of c.args.core.now) t c.args.events.items w.0
-    c.loop-event.taken.items w.1 c.in-Some.event (into_iter_items c.next.new.self) c.loop-event.handled
-    (w.2 ∙ ap (λ (fs : List Event). w.0 ++ fs) c.in-Some.ensures.steps.0) w.3 w.4
-    (c.step.ensures.any_moment w.1 w.5 (c.loop-event.invariant.stands s))
+    c.loop-event.taken.items w.1 c.in-Some.event (into_iter_items c.next.new.self) c.loop-event.handled c.step.new.taken.items more.0
+    (w.2 ∙ ap (λ (fs : List Event). w.0 ++ fs) c.in-Some.ensures.steps.0) w.3 w.4 more.2
+    (c.step.ensures.any_moment w.1 w.5 (c.loop-event.invariant.stands s)) contents left
+    (λ some. c.in-Err.ensures.answered (some_items c.loop-event.taken.items c.step.new.taken.items more.0 more.2 some) w.1 w.5 (c.loop-event.invariant.stands s) contents left)

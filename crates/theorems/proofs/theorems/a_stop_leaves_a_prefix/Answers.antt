@@ -1,5 +1,5 @@
 use Rattle.disk_core.specs.DiskLaws.{widened}
-use Rattle.theorems.proofs.Stops.{opens_to_book, ends_life}
+use Rattle.theorems.proofs.Stops.{opens_to_book, ends_life, end_answered}
 use Rattle.theorems.proofs.theorems.a_stop_leaves_a_prefix.Goals as goal
 
 pub returns : goal.returns
@@ -12,6 +12,14 @@ returns g c = (
         in let stands = c.drive.ensures.stands none s
         in (w.0, w.1, opens_to_book g.T.Twin.seen g.T.Twin.may_leave c.drive.new.core w.0 w.2 stands),
   ),
+  c.drive.ensures.left,
   λ life lives t way f s.
       widened g.T.Twin.moment g.T.Twin.left_since _ _ _ _ (c.drive.ensures.any_moment t f s) (ends_life _ life lives t c.args.events.items way),
+  λ life lives t way f s contents left.
+      end_answered _ life lives t c.args.events.items c.drive.result _ way contents
+      (λ none.
+      let w = c.drive.ensures.ran none t f
+      in let stands = c.drive.ensures.stands none s
+      in (w.0, w.1, opens_to_book g.T.Twin.seen g.T.Twin.may_leave c.drive.new.core w.0 w.2 stands contents left))
+      (λ after. after t f s contents left) c.drive.ensures.left,
 )
