@@ -42,11 +42,11 @@ behind_shorter bytes size h long = let eight = extent_at_least bytes size h in g
 pub front_read : (bytes text after payload : List ℕ) (size at : ℕ) (x y : Item) → extent bytes ≡ Whole size → size ≤ length bytes
     → text ≡ take size bytes → after ≡ drop size bytes → item_of text ≡ Ok (loaded x (drop at text))
     → payload ≡ take (length text - at) (drop at text) → y ≡ loaded x payload → front bytes ≡ found y after
-front_read bytes text after payload size at x y h long front_is behind_is is copied loads =
+front_read bytes text after payload size at x y h long front_is after_turn_is is copied loads =
     let all : take (length text - at) (drop at text) ≡ drop at text = grind (arith, common_steps) in
     let same : y ≡ loaded x (drop at text) = rw (loads, copied, all) refl in
     let read : item_of (take size bytes) ≡ Ok y = rw (← front_is, same) is in
-    rw behind_is (front_item bytes size y h long read)
+    rw after_turn_is (front_item bytes size y h long read)
 
 -- what was found stays found
 of_item_found : (after behind : List ℕ) (read : Result Item FrameFault) (x : Item) (rest : List ℕ) → of_item after read ≡ found x rest → of_item (after ++ behind) read ≡ found x (rest ++ behind)

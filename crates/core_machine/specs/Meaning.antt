@@ -1,5 +1,6 @@
 -- What is known of a router, whatever it is made of: in terms of a trace, and of the book that its journal keeps.
-use Rattle.std.specs.Prelude.{◌≡◌, ◌⊎◌, ℕ, Bool, List, Option, Some, None}
+use Rattle.std.specs.Prelude.{◌≡◌, ◌⊎◌, ◌+◌, ℕ, Bool, List, Option, Some, None}
+use Rattle.book_model.specs.declared.act.Act.{Act}
 use Rattle.book_model.specs.Book.{BookView}
 use Rattle.router_trace.specs.declared.event.Event.{Event}
 use Rattle.router_trace.specs.Trace.{Trace, Step}
@@ -8,6 +9,12 @@ use Rattle.state_connections.specs.declared.row.Taken.{Taken}
 use Rattle.core_machine.specs.declared.answers.Batch.{Batch}
 use Rattle.core_machine.specs.declared.counts.Counts.{Counts}
 pub use Rattle.state_collections.specs.Among.{IsLeast}
+
+-- What a journal keeps: its book, the number of its last batch, and the acts of that; none where a checkpoint has them, or no batch was written.
+pub record Kept : Type 0 where
+  pub book : BookView
+  pub batches : ℕ
+  pub last : List Act
 
 pub record Meaning (M : Type 0) : Type 1 where
   -- its tables and its book are those of a trace
@@ -29,8 +36,12 @@ pub record Meaning (M : Type 0) : Type 1 where
   pub keeps : M → BookView → Type 0
   -- whatever a crash leaves now opens to a book with this property
   pub leaves : M → (BookView → Type 0) → Type 0
+  -- whatever a crash leaves now keeps something with this property
+  pub leaves_journal : M → (Kept → Type 0) → Type 0
   -- the trace after an event, by the router's container-id: its acts, the event, and the items that it puts out
   pub next : List ℕ → Trace → Step → Trace
+  -- what an event that comes next does to the book
+  pub acts : Trace → Event → List Act
   -- whether an event that comes next finds the journal full: it would have acts that cost more than the room
   pub finds_full : Trace → Event → Bool
   -- the book that a trace leaves
@@ -41,6 +52,10 @@ pub record Meaning (M : Type 0) : Type 1 where
 -- the book that a trace leaves, or that book after the acts of the event that comes next
 abbrev pub BookAt : {M : Type 0} → Meaning M → Trace → Event → BookView → Type 0
 BookAt m t e b = (b ≡ m.book t) ⊎ (b ≡ m.next_book t e)
+
+-- that book after so many batches; or the next book after one batch more, which is of the event's acts
+abbrev pub KeptAt : {M : Type 0} → Meaning M → ℕ → Trace → Event → Kept → Type 0
+KeptAt m n t e k = ((k.book ≡ m.book t) × (k.batches ≡ n)) ⊎ ((k.book ≡ m.next_book t e) × (k.batches ≡ n + 1) × (k.last ≡ m.acts t e))
 
 -- what is taken of a known connection, and a batch of it: at most this many first items of its outbox
 abbrev pub IsTakenOf : Option Connection → ℕ → Taken → Type 0

@@ -1,16 +1,12 @@
 -- What a router does, one move after another: it handles an event, or items are taken from an outbox.
-use Rattle.std.specs.Prelude.{◌≡◌, ℕ, false, List, [], ◌∷◌, take, length, Option, Some, None}
+use Rattle.std.specs.Prelude.{◌≡◌, ℕ, false, List, [], ◌∷◌, take, length, Some}
 use Rattle.amqp_model.specs.declared.item.Item.{Item}
 use Rattle.router_trace.specs.declared.event.ConnectionId.{ConnectionId}
 use Rattle.router_trace.specs.Trace.{Trace, Took, Step}
-use Rattle.router_trace.specs.Connection.{Connection, conn, is_ready}
+use Rattle.router_trace.specs.Connection.{conn, is_ready}
 use Rattle.state_collections.specs.Among.{IsLeast}
+pub use Rattle.state_connections.specs.Waiting.{waiting_of}
 use Rattle.core_machine.specs.Turns.{declines}
-
--- the items waiting in an outbox
-abbrev pub waiting_of : Option Connection → List Item
-waiting_of None = []
-waiting_of (Some v) = v.waiting
 
 -- a take of at most `most` items from a connection's outbox
 pub record Taking : Type 0 where

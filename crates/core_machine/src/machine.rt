@@ -1,16 +1,18 @@
 //! What a router does, whatever it is made of.
-ghost use Rattle.std.specs.Prelude.{◌≡◌, ◌⊎◌, ◌+◌, ◌<◌, ◌≤◌, ◌∷◌, ◌&&◌, ◌||◌, not, nat_lt, length, true, false, Err, None, option_map, is_some, OnOk, OnErr, IfOk, IfErr, IsErrOf};
+ghost use Rattle.std.specs.Prelude.{◌≡◌, ◌⊎◌, ◌+◌, ◌<◌, ◌≤◌, ◌∷◌, ◌&&◌, ◌||◌, not, nat_lt, [], length, slice_get, true, false, Err, None, option_copied, option_map, is_some, OnOk, OnErr, IfOk, IfErr, IfSome, IfNone, IsErrOf};
 ghost use Rattle.book_model.specs.Book.{BookView};
 ghost use Rattle.router_trace.specs.Trace.{Trace, Took, step_of};
 ghost use Rattle.router_trace.specs.Connection.{conn as known, is_ready, is_live};
 ghost use Rattle.core_machine.specs.Counting.{with_event, with_batch};
-ghost use Rattle.core_machine.specs.Meaning.{Meaning, BookAt, IsBatchOf, IsTakenOf, IsLeast};
+ghost use Rattle.core_machine.specs.Meaning.{Meaning, BookAt, KeptAt, IsBatchOf, IsTakenOf, IsLeast};
+ghost use Rattle.core_machine.specs.Moves.{waiting_of};
 ghost use Rattle.core_machine.specs.Turns.{declines, is_started};
 ghost use Rattle.core_machine.specs.declared.fault.CoreFault.TheVariants.{Disk as DiskFailed, Memory, Failed, NoConnection};
 
 use crate::answers::{Batch, Done};
 use crate::counts::Counts;
 use crate::fault::CoreFault;
+use amqp_model::Item;
 use router_trace::{ConnectionId, Event};
 use state_connections::Taken;
 
@@ -41,6 +43,13 @@ pub trait Machine: Drop {
             → meaning.keeps self.new (meaning.book (meaning.next (meaning.id self.old) t (step_of event)))) }
         ensures leaves { (t : Trace) → meaning.fits self.old t → meaning.keeps self.old (meaning.book t)
             → meaning.leaves self.new (BookAt meaning t event) }
+
+        // Its batch has the event's acts; where there are none, nothing is written. Whatever is answered, a crash leaves the journal before the event, or that
+        // journal with this batch more.
+        ensures written { IfOk result (λ done. (t : Trace) → meaning.fits self.old t → IfSome done.journal (λ batch. batch.1.items ≡ meaning.acts t event)) }
+        ensures silent { IfOk result (λ done. (t : Trace) → meaning.fits self.old t → IfNone done.journal (meaning.acts t event ≡ [])) }
+        ensures journal { (t : Trace) → meaning.fits self.old t → meaning.keeps self.old (meaning.book t)
+            → meaning.leaves_journal self.new (KeptAt meaning (meaning.batches self.old) t event) }
 
         // Whether the event found the journal full.
         ensures full { IfOk result (λ done. (t : Trace) → meaning.fits self.old t → done.full ≡ meaning.finds_full t event) }
@@ -108,6 +117,14 @@ pub trait Machine: Drop {
     /// The lowest ready connection above another.
     fn ready_after(&self, conn: ConnectionId) -> Option<ConnectionId>
         ensures { (t : Trace) → meaning.fits self.now t → IsLeast (λ c. nat_lt conn.0 c && is_ready (known t c)) (option_map (λ c. c.0) result) };
+
+    /// How many items wait in a connection's outbox.
+    fn waits(&self, conn: ConnectionId) -> usize
+        ensures { (t : Trace) → meaning.fits self.now t → result ≡ length (waiting_of (known t conn.0)) };
+
+    /// The item at this place of a connection's outbox, counted from 0 at the front.
+    fn waiting(&self, conn: ConnectionId, place: usize) -> Option<&Item>
+        ensures { (t : Trace) → meaning.fits self.now t → option_copied result ≡ slice_get (waiting_of (known t conn.0)) place };
 
     /// How many events it handled with `Ok`, by kind, and how many batches `take` returned.
     fn counts(&self) -> Counts

@@ -6,4 +6,6 @@ pub mod Keeping
 mod Feeding
 pub mod Scenes
 mod Handing
+mod Walking
+mod Recording
 pub mod Telling

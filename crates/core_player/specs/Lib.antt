@@ -4,3 +4,5 @@ pub mod Playing
 pub mod Asking
 pub mod Printing
 pub mod Telling
+pub mod Entries
+pub mod Recording

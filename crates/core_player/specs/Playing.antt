@@ -16,10 +16,9 @@ use Rattle.route_table.specs.Settings.{Settings}
 use Rattle.router_trace.specs.Configuration.{beginning}
 use Rattle.router_trace.specs.Trace.{Beginning, Trace}
 use Rattle.core_machine.specs.Turns.{is_started}
-use Rattle.core_machine.specs.History.{HasHistory}
 use Rattle.core_machine.specs.Meaning.{Meaning}
-use Rattle.core_machine.specs.Opened.{IsOpened}
 use Rattle.core_player.specs.Script.{Scene, Next, refused, say, hand, with_socket, stream_of, Reads}
+use Rattle.core_player.specs.Recording.{Recorded}
 use Rattle.core_player.specs.Telling.{TellsOf}
 
 -- what counts of a connection's socket: its door, and the bytes that wait for the rest of an item, until its stream ended. What a
@@ -62,21 +61,17 @@ pub record Begun {M : Type 0} (m : Meaning M) (p : Player M) (config : Settings)
   pub sockets : (c : ℕ) → get nat_cmp p.sockets c ≡ None
   pub lines : p.lines.items ≡ []
 
--- A router was this one before. Since it was opened it has a history: events that it handled, and takes; and its journal stands by them.
-pub record Lived {M : Type 0} (m : Meaning M) (first now : M) : Type 0 where
-  pub named : m.id now ≡ m.id first
-  pub history : (g : Beginning) → IsOpened m g first → HasHistory m g now
-
--- a player that knows with which fault its router failed, if it did, and whose lines tell of it; and the router's history
+-- a player that knows with which fault its router failed, if it did, and whose lines tell of it; and that recorded what the router did
 pub record Tells {M : Type 0} (m : Meaning M) (first : M) (p : Player M) : Type 0 where
   pub known : p.fault ≡ None → m.is_failed p.core ≡ false
   pub told : TellsOf p.fault p.lines.items
-  pub lived : Lived m first p.core
+  pub recorded : Recorded m first p.core p.recorder
 
 -- more lines, and nothing else that a scene shows
 pub record Said {M : Type 0} (old new : Player M) (ls : List Line) : Type 0 where
   pub lines : new.lines.items ≡ old.lines.items ++ ls
   pub core : new.core ≡ old.core
+  pub recorder : new.recorder ≡ old.recorder
   pub config : new.config ≡ old.config
   pub sockets : new.sockets ≡ old.sockets
   pub last : new.newest ≡ old.newest

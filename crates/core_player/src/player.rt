@@ -9,13 +9,17 @@ ghost use Rattle.core_machine.specs.Opened.{IsOpened};
 ghost use Rattle.core_machine.specs.Turns.{is_start};
 ghost use Rattle.core_player.specs.Script.{Scene, opening, refused, out_line, say_all, hand, enter, enter_all, BytesCome, make, lose, Takes, take_one, close_if, Flushes, Plays};
 ghost use Rattle.core_player.specs.Asking.{follow};
-ghost use Rattle.core_player.specs.Playing.{Agrees, Begun, Follows, Lived, Said, Tells, IsRead, Continues, part_by};
+ghost use Rattle.core_player.specs.Playing.{Agrees, Begun, Follows, Said, Tells, IsRead, Continues, part_by};
+ghost use Rattle.core_player.specs.Recording.{Shown};
 ghost use Rattle.core_player.specs.Telling.{TellsOf, fault_after};
+ghost use Rattle.core_player.specs.declared.entry.Entry.{Entry as AnEntry};
 ghost use Rattle.core_player.specs.declared.line.Line.TheVariants as line;
 ghost use Rattle.core_player.specs.declared.line.Line.{Line as ALine};
 
+use crate::entry::{Came, Entry, came_of};
 use crate::line::Line;
 use crate::listening::door_for;
+use crate::recorder::{Cut, Recorder, acts_of};
 use crate::script::Step;
 use crate::socket::{Asked, Socket};
 use crate::sockets::{Parted, add, ask_in, close, part_in, read_in};
@@ -44,6 +48,7 @@ struct Player<'a, M: Machine> {
     lines: Vec<Line>,
     /// The fault with which the router failed.
     fault: Option<CoreFault>,
+    recorder: Recorder,
 }
 
 /// The router after a play.
@@ -53,6 +58,8 @@ pub struct Played<M: Machine> {
     pub core: M,
     /// The fault with which it failed.
     pub fault: Option<CoreFault>,
+    /// The event with which it failed, if it failed with one.
+    pub cut: Option<Cut>,
 }
 
 /// Starts a router that was just opened with this configuration, plays steps against it, and appends their lines: after each step all outboxes are
@@ -63,13 +70,14 @@ pub fn play<M: Fused>(
     core: M,
     steps: &[Step],
     lines: &mut Vec<Line>,
+    entries: &mut Vec<Entry>,
 ) -> Result<Played<M>, AllocError>
     requires works { M.meaning.is_failed core ≡ false }
     ensures plays { IfOk result (λ played. played.fault ≡ None → M.meaning.id core ≡ config.now.router_id → (g : Beginning) → IsOpened M.meaning g core
         → (u : Scene) × Plays M.meaning.next steps.now (opening M.meaning.next config.now g) u × (lines.new.items ≡ lines.old.items ++ u.lines) × Agrees M.meaning played.core u.trace) }
 
-    // Where its journal stands by what it did, also where it failed.
-    ensures lived { IfOk result (λ played. Lived M.meaning core played.core) }
+    // What it did, also where it failed; and where its journal stands by that.
+    ensures shown { IfOk result (λ played. (mine : List AnEntry) × (entries.new.items ≡ entries.old.items ++ mine) × Shown M.meaning core played.core played.cut mine) }
 
     // Where the router failed, a line says so.
     ensures told { IfOk result (λ played. TellsOf played.fault lines.new.items) }
@@ -81,11 +89,13 @@ pub fn play<M: Fused>(
         core,
         lines: told,
         fault,
+        recorder,
         ..
     } = player;
     append(lines, told)?;
     played?;
-    Ok(Played { core, fault })
+    let cut = recorder.give(entries)?;
+    Ok(Played { core, fault, cut })
 }
 
 /// Appends lines.
@@ -116,6 +126,7 @@ impl<'a, M: Fused> Player<'a, M> {
             newest: None,
             lines: Vec::new(alloc),
             fault: None,
+            recorder: Recorder::new(alloc),
         }
     }
 
@@ -123,6 +134,7 @@ impl<'a, M: Fused> Player<'a, M> {
     fn say(&mut self, line: Line) -> Result<(), AllocError>
         ensures said { OnOk result (Said self.old self.new (line ∷ [])) }
         ensures core { self.new.core ≡ self.old.core }
+        ensures recorder { self.new.recorder ≡ self.old.recorder }
         ensures fault { self.new.fault ≡ self.old.fault }
         ensures tells { OnOk result ((first : M) → Tells M.meaning first self.old → Tells M.meaning first self.new) }
     {
@@ -136,6 +148,7 @@ impl<'a, M: Fused> Player<'a, M> {
     fn fail(&mut self, fault: CoreFault) -> Result<(), AllocError>
         ensures said { OnOk result (Said self.old self.new (line.Failed fault ∷ [])) }
         ensures core { self.new.core ≡ self.old.core }
+        ensures recorder { self.new.recorder ≡ self.old.recorder }
         ensures kept { self.new.fault ≡ fault_after self.old.fault fault }
     {
         self.fault = match fault {
@@ -149,6 +162,7 @@ impl<'a, M: Fused> Player<'a, M> {
     fn say_out(&mut self, conn: ConnectionId, item: &Item) -> Result<(), AllocError>
         ensures said { OnOk result (Said self.old self.new (out_line conn item.now ∷ [])) }
         ensures core { self.new.core ≡ self.old.core }
+        ensures recorder { self.new.recorder ≡ self.old.recorder }
         ensures tells { OnOk result ((first : M) → Tells M.meaning first self.old → Tells M.meaning first self.new) }
     {
         let mut bytes = Vec::new(self.alloc);
@@ -163,6 +177,7 @@ impl<'a, M: Fused> Player<'a, M> {
     fn say_all(&mut self, conn: ConnectionId, items: &[Item]) -> Result<(), AllocError>
         ensures said { OnOk result (Said self.old self.new (map (out_line conn) items.now)) }
         ensures core { self.new.core ≡ self.old.core }
+        ensures recorder { self.new.recorder ≡ self.old.recorder }
         ensures tells { OnOk result ((first : M) → Tells M.meaning first self.old → Tells M.meaning first self.new) }
     {
         for item in items {
@@ -176,12 +191,15 @@ impl<'a, M: Fused> Player<'a, M> {
         ensures follows { OnOk result (M.meaning.is_failed self.new.core ≡ false → (config : Settings) (g : Beginning) → Begun M.meaning self.old config g → Follows M.meaning self.new (opening M.meaning.next config g)) }
         ensures tells { OnOk result ((first : M) → Tells M.meaning first self.old → Tells M.meaning first self.new) }
     {
+        let batches = self.core.batch();
         match self.core.handle(Event::Start) {
-            Ok(done) => {
-                drop(done);
-                Ok(())
+            Ok(done) => self
+                .recorder
+                .handled(&self.core, Came::Start, acts_of(self.alloc, done)),
+            Err(fault) => {
+                self.recorder.failed(fault, Came::Start, batches);
+                self.fail(fault)
             }
-            Err(fault) => self.fail(fault),
         }
     }
 
@@ -192,12 +210,19 @@ impl<'a, M: Fused> Player<'a, M> {
         ensures stays { M.meaning.is_failed self.old.core ≡ true → M.meaning.is_failed self.new.core ≡ true }
         ensures tells { OnOk result ((first : M) → Tells M.meaning first self.old → Tells M.meaning first self.new) }
     {
+        let Ok(came) = came_of(self.alloc, &event) else {
+            drop(event);
+            return Err(AllocError);
+        };
+        let batches = self.core.batch();
         match self.core.handle(event) {
-            Ok(done) => {
-                drop(done);
-                Ok(())
+            Ok(done) => self
+                .recorder
+                .handled(&self.core, came, acts_of(self.alloc, done)),
+            Err(fault) => {
+                self.recorder.failed(fault, came, batches);
+                self.fail(fault)
             }
-            Err(fault) => self.fail(fault),
         }
     }
 
@@ -262,6 +287,7 @@ impl<'a, M: Fused> Player<'a, M> {
     fn read(&mut self, conn: ConnectionId, bytes: &[u8]) -> Result<Option<Vec<Item>>, AllocError>
         ensures reads { IfOk result (λ read. (s : Scene) → Follows M.meaning self.old s → IsRead M.meaning conn bytes.now s (s.sockets conn.0) self.new (option_map (λ v. v.items) read)) }
         ensures core { self.new.core ≡ self.old.core }
+        ensures recorder { self.new.recorder ≡ self.old.recorder }
         ensures tells { OnOk result ((first : M) → Tells M.meaning first self.old → Tells M.meaning first self.new) }
     {
         read_in(&mut self.sockets, conn.0, bytes)
@@ -271,6 +297,7 @@ impl<'a, M: Fused> Player<'a, M> {
     fn refuse(&mut self) -> Result<(), AllocError>
         ensures said { OnOk result (Said self.old self.new (refused ∷ [])) }
         ensures core { self.new.core ≡ self.old.core }
+        ensures recorder { self.new.recorder ≡ self.old.recorder }
         ensures tells { OnOk result ((first : M) → Tells M.meaning first self.old → Tells M.meaning first self.new) }
     {
         self.say(Line::Failed(CoreFault::NoConnection))
@@ -280,6 +307,7 @@ impl<'a, M: Fused> Player<'a, M> {
     fn up(&mut self, conn: ConnectionId, role: PeerRole) -> Result<(), AllocError>
         ensures follows { OnOk result ((s : Scene) → Follows M.meaning self.old s → Follows M.meaning self.new (make conn role s)) }
         ensures core { self.new.core ≡ self.old.core }
+        ensures recorder { self.new.recorder ≡ self.old.recorder }
         ensures tells { OnOk result ((first : M) → Tells M.meaning first self.old → Tells M.meaning first self.new) }
     {
         let rises = match self.newest {
@@ -313,6 +341,7 @@ impl<'a, M: Fused> Player<'a, M> {
     fn part(&mut self, conn: ConnectionId) -> Parted
         ensures parted { (s : Scene) → Follows M.meaning self.old s → (after : Scene) × Follows M.meaning self.new after × (part_by M.meaning.next conn result after ≡ lose M.meaning.next conn s) }
         ensures core { self.new.core ≡ self.old.core }
+        ensures recorder { self.new.recorder ≡ self.old.recorder }
         ensures tells { (first : M) → Tells M.meaning first self.old → Tells M.meaning first self.new }
     {
         part_in(&mut self.sockets, conn.0)
@@ -371,7 +400,10 @@ impl<'a, M: Fused> Player<'a, M> {
         ensures tells { OnOk result ((first : M) → Tells M.meaning first self.old → Tells M.meaning first self.new) }
     {
         match take(&mut self.core, conn, MOST) {
-            Ok(batch) => self.send(conn, batch),
+            Ok(batch) => {
+                self.recorder.took(conn, batch.items().len())?;
+                self.send(conn, batch)
+            }
             Err(fault) => self.fail(fault),
         }
     }
@@ -380,6 +412,7 @@ impl<'a, M: Fused> Player<'a, M> {
     fn send(&mut self, conn: ConnectionId, batch: Batch) -> Result<(), AllocError>
         ensures follows { OnOk result ((s : Scene) → Follows M.meaning self.old s → Follows M.meaning self.new (close_if batch.ended conn (say_all (map (out_line conn) batch.items.items) s))) }
         ensures core { self.new.core ≡ self.old.core }
+        ensures recorder { self.new.recorder ≡ self.old.recorder }
         ensures tells { OnOk result ((first : M) → Tells M.meaning first self.old → Tells M.meaning first self.new) }
     {
         self.say_all(conn, batch.items())?;
@@ -391,6 +424,7 @@ impl<'a, M: Fused> Player<'a, M> {
     fn close_if(&mut self, conn: ConnectionId, ended: bool) -> Result<(), AllocError>
         ensures follows { OnOk result ((s : Scene) → Follows M.meaning self.old s → Follows M.meaning self.new (close_if ended conn s)) }
         ensures core { self.new.core ≡ self.old.core }
+        ensures recorder { self.new.recorder ≡ self.old.recorder }
         ensures tells { OnOk result ((first : M) → Tells M.meaning first self.old → Tells M.meaning first self.new) }
     {
         if ended {
@@ -427,6 +461,7 @@ impl<'a, M: Fused> Player<'a, M> {
     fn ask(&mut self, conn: ConnectionId, item: &Item) -> Result<Asked, AllocError>
         ensures asks { IfOk result (λ asked. (s : Scene) → Follows M.meaning self.old s → (after : Scene) × Follows M.meaning self.new after × (follow M.meaning.next conn item.now asked after ≡ enter M.meaning.next conn item.now s)) }
         ensures core { self.new.core ≡ self.old.core }
+        ensures recorder { self.new.recorder ≡ self.old.recorder }
         ensures tells { OnOk result ((first : M) → Tells M.meaning first self.old → Tells M.meaning first self.new) }
     {
         ask_in(&mut self.sockets, self.alloc, conn.0, item)
@@ -470,6 +505,7 @@ impl<'a, M: Fused> Player<'a, M> {
     fn say_end(&mut self, conn: ConnectionId, items: &[Item]) -> Result<(), AllocError>
         ensures said { OnOk result (Said self.old self.new (map (out_line conn) items.now ++ line.End conn ∷ [])) }
         ensures core { self.new.core ≡ self.old.core }
+        ensures recorder { self.new.recorder ≡ self.old.recorder }
         ensures tells { OnOk result ((first : M) → Tells M.meaning first self.old → Tells M.meaning first self.new) }
     {
         self.say_all(conn, items)?;

@@ -5,12 +5,13 @@ ghost use Rattle.book_model.specs.declared.act.Act.{Act as AnAct};
 ghost use Rattle.book_model.specs.Book.{first_fault, effects};
 ghost use Rattle.journal_codec.specs.Batches.{HaveOutcomes};
 ghost use Rattle.journal_codec.specs.Format.{acts_bytes};
+ghost use Rattle.twin_journal.specs.Holding.{BeforeOrBehind};
 ghost use Rattle.twin_journal.specs.Journal.{batch_count, has_failed};
 ghost use Rattle.twin_journal.specs.Judging.{Explains};
 ghost use Rattle.twin_journal.specs.Room.{is_full, room};
 ghost use Rattle.journal_store.specs.Acting.{admission_acts, event_acts};
 ghost use Rattle.journal_store.specs.Lost.{start_acts};
-ghost use Rattle.journal_store.specs.Store.{OpensTo, Stands, Writable, IsSuited, IsAsBefore, IsAhead, journal_of, twin_of, book_of, base_of, batches_after, base_after, exceeds};
+ghost use Rattle.journal_store.specs.Store.{OpensTo, Stands, Writable, IsSuited, IsAsBefore, IsAhead, journal_of, twin_of, book_of, base_of, count_of, batches_after, base_after, exceeds};
 
 use crate::acting::TerminusAct;
 use crate::kept_book::KeptBook;
@@ -73,6 +74,8 @@ impl<T: Twin> Store<T> {
         // Whatever is answered, a crash at any moment of the call leaves the book before these acts or the book after them.
         ensures any_moment { Stands T.seen T.may_leave self.old → LeavesOnly T.moment T.left_since (twin_of self.old) (twin_of self.new)
             (λ c. OpensTo c (book_of self.old) ⊎ OpensTo c (effects (book_of self.old) acts.now)) }
+        ensures journal_moment { Stands T.seen T.may_leave self.old → LeavesOnly T.moment T.left_since (twin_of self.old) (twin_of self.new)
+            (BeforeOrBehind (book_of self.old) (count_of self.old) acts.now) }
 
         // The journal goes on to know what the book needs; and which of its batches are in its checkpoint.
         ensures suits { OnOk result (IsSuited self.old → IsSuited self.new) }
@@ -117,6 +120,8 @@ impl<T: Twin> Store<T> {
         // Whatever is answered, a crash at any moment of the call leaves the book before these acts or the book after them.
         ensures any_moment { Stands T.seen T.may_leave self.old → LeavesOnly T.moment T.left_since (twin_of self.old) (twin_of self.new)
             (λ c. OpensTo c (book_of self.old) ⊎ OpensTo c (effects (book_of self.old) acts.items)) }
+        ensures journal_moment { Stands T.seen T.may_leave self.old → LeavesOnly T.moment T.left_since (twin_of self.old) (twin_of self.new)
+            (BeforeOrBehind (book_of self.old) (count_of self.old) acts.items) }
 
         ensures suits { OnOk result (IsSuited self.old → IsSuited self.new) }
         ensures base { OnOk result (IsSuited self.old → base_of self.new ≡ base_after self.old acts.items) }

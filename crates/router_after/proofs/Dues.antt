@@ -8,49 +8,52 @@ use Rattle.amqp_session.specs.Session.{Session}
 use Rattle.router_trace.specs.declared.frames.LinkState.{LinkState}
 use Rattle.router_trace.specs.declared.handle.Attachment.{Attachment}
 use Rattle.router_trace.specs.Trace.{Trace, Put, goes}
+use Rattle.router_trace.specs.Numbers.{no_rank}
 use Rattle.router_trace.specs.Sessions.{session}
 use Rattle.router_trace.specs.Frames.{told_of}
 use Rattle.router_trace.specs.LinkFrames.{link_flow_item}
 use Rattle.router_trace.specs.Links.{Link, Happened, sends, receives, attachments}
-use Rattle.router_trace.specs.Deliveries.{Delivery, bindings, delivery, next_id}
+use Rattle.router_trace.specs.Deliveries.{Delivery, bindings, delivery, next_id, rank_at}
 use Rattle.router_trace.specs.DeliveryFrames.{first_transfer, later_transfer}
 use Rattle.router_trace.specs.Following.{is_to_be_told, tells, tells_of, tell, sends_due, send_of, send, transfer_of, drains_due, drain_by, drain_on, drain_of, link_of}
-use Rattle.state_deliveries.specs.Finding.{IsFirst}
+use Rattle.state_deliveries.specs.Finding.{IsFirstBy}
 use Rattle.state_messages.specs.Asking.{drained_by, drained_state}
 use Rattle.router_after.specs.declared.candidate.Candidate.{Candidate}
 use Rattle.router_after.specs.Soonest.{IsSoonest}
 use Rattle.router_after.specs.Starting.{places}
 use Rattle.router_after.specs.Draining.{drains_at}
-use Rattle.state_deliveries.proofs.Numbers.{first_delivery_is}
+use Rattle.state_deliveries.proofs.Numbers.{stands_below}
 use Rattle.router_after.proofs.Choosing.{placed, soonest_is}
+use Rattle.router_after.proofs.Ranked.{first_ranked_is}
 use Rattle.router_after.proofs.Going as going
 use Rattle.router_after.proofs.Owing as owing
 
-first_tells : (t : Trace) (r : Option ℕ) → IsFirst (λ n. is_to_be_told t (delivery t n)) r → tells_of t r ≡ tells t
-first_tells t r x = ap (tells_of t) (first_delivery_is t (is_to_be_told t) refl r x)
+first_tells : (t : Trace) (r : Option ℕ) → IsFirstBy (rank_at t) (λ n. is_to_be_told t (delivery t n)) r → tells_of t r ≡ tells t
+first_tells t r x =
+    ap (tells_of t) (first_ranked_is (rank_at t) (bindings t + 1) (λ n. is_to_be_told t (delivery t n)) (stands_below t (is_to_be_told t) refl) r x)
 
-pub tells_none : (t : Trace) (r : Option ℕ) → r ≡ None → IsFirst (λ n. is_to_be_told t (delivery t n)) r → [] ≡ tells t
+pub tells_none : (t : Trace) (r : Option ℕ) → r ≡ None → IsFirstBy (rank_at t) (λ n. is_to_be_told t (delivery t n)) r → [] ≡ tells t
 tells_none t r is x = ap (tells_of t) (sym is) ∙ first_tells t r x
 
-pub tells_one : (t : Trace) (r : Option ℕ) (n : ℕ) → r ≡ Some n → IsFirst (λ n. is_to_be_told t (delivery t n)) r → tell (delivery t n) ≡ tells t
+pub tells_one : (t : Trace) (r : Option ℕ) (n : ℕ) → r ≡ Some n → IsFirstBy (rank_at t) (λ n. is_to_be_told t (delivery t n)) r → tell (delivery t n) ≡ tells t
 tells_one t r n is x = ap (tells_of t) (sym is) ∙ first_tells t r x
 
-soonest_sends : (t : Trace) (r : Option Candidate) → IsSoonest (places t) r → send_of t (option_map placed r) ≡ sends_due t
-soonest_sends t r x = ap (send_of t) (soonest_is (bindings t + 1) (places t) r (going.below t) x)
+soonest_sends : (t : Trace) (r : Option Candidate) → IsSoonest (rank_at t) (places t) r → send_of t (option_map placed r) ≡ sends_due t
+soonest_sends t r x = ap (send_of t) (soonest_is (rank_at t) (bindings t + 1) (places t) r (going.below t) x)
 
-pub sends_none : (t : Trace) (r : Option Candidate) → r ≡ None → IsSoonest (places t) r → [] ≡ sends_due t
+pub sends_none : (t : Trace) (r : Option Candidate) → r ≡ None → IsSoonest (rank_at t) (places t) r → [] ≡ sends_due t
 sends_none t r is x = ap (λ (v : Option Candidate). send_of t (option_map placed v)) (sym is) ∙ soonest_sends t r x
 
-pub sends_one : (t : Trace) (r : Option Candidate) (c : Candidate) → r ≡ Some c → IsSoonest (places t) r → send t (delivery t c.number) ≡ sends_due t
+pub sends_one : (t : Trace) (r : Option Candidate) (c : Candidate) → r ≡ Some c → IsSoonest (rank_at t) (places t) r → send t (delivery t c.number) ≡ sends_due t
 sends_one t r c is x = ap (λ (v : Option Candidate). send_of t (option_map placed v)) (sym is) ∙ soonest_sends t r x
 
-soonest_drains : (t : Trace) (r : Option Candidate) → IsSoonest (drains_at t) r → drain_by t (option_map placed r) ≡ drains_due t
-soonest_drains t r x = ap (drain_by t) (soonest_is (attachments t + 1) (drains_at t) r (owing.below t) x)
+soonest_drains : (t : Trace) (r : Option Candidate) → IsSoonest no_rank (drains_at t) r → drain_by t (option_map placed r) ≡ drains_due t
+soonest_drains t r x = ap (drain_by t) (soonest_is no_rank (attachments t + 1) (drains_at t) r (owing.below t) x)
 
-pub drains_none : (t : Trace) (r : Option Candidate) → r ≡ None → IsSoonest (drains_at t) r → [] ≡ drains_due t
+pub drains_none : (t : Trace) (r : Option Candidate) → r ≡ None → IsSoonest no_rank (drains_at t) r → [] ≡ drains_due t
 drains_none t r is x = ap (λ (v : Option Candidate). drain_by t (option_map placed v)) (sym is) ∙ soonest_drains t r x
 
-pub drains_one : (t : Trace) (r : Option Candidate) (c : Candidate) → r ≡ Some c → IsSoonest (drains_at t) r
+pub drains_one : (t : Trace) (r : Option Candidate) (c : Candidate) → r ≡ Some c → IsSoonest no_rank (drains_at t) r
     → drain_on c.place (session t c.place.conn.0 c.place.channel) (link_of t c.place) ≡ drains_due t
 drains_one t r c is x = ap (λ (v : Option Candidate). drain_by t (option_map placed v)) (sym is) ∙ soonest_drains t r x
 

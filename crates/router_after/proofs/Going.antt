@@ -3,17 +3,18 @@ use Rattle.std.proofs.Common.{◌≡◌, ◌∙◌, ◌<◌, ◌+◌, ℕ, Bool,
 use Rattle.std.specs.Prelude.{not, ◌&&◌, ◌||◌, ◌==◌, if◌then◌else◌, is_none, is_some}
 use Rattle.std.proofs.lemmas.Bool.{and_parts, and_from, eqb-true}
 use Rattle.std.proofs.lemmas.Bool.Decides.{nat_tests}
+use Rattle.router_trace.specs.declared.binding.Rank.{Rank}
 use Rattle.router_trace.specs.declared.handle.Attachment.{Attachment}
 use Rattle.router_trace.specs.Trace.{Trace}
 use Rattle.router_trace.specs.Sessions.{session}
 use Rattle.router_trace.specs.Links.{Link, link, has_number, is_attached, numbered, place_of}
-use Rattle.router_trace.specs.Deliveries.{Delivery, bindings, delivery, sending, is_number}
+use Rattle.router_trace.specs.Deliveries.{Delivery, bindings, delivery, rank_at, sending, is_number}
 use Rattle.router_trace.specs.Following.{link_of, goes_on_at, is_going, takes_more, has_credit, can_start, is_wide, is_there, can_go, place_to_go, is_unsent_on}
-use Rattle.state_deliveries.specs.Finding.{IsFirst}
+use Rattle.state_deliveries.specs.Finding.{IsFirstBy}
 use Rattle.state_deliveries.proofs.Numbers.{stands_below}
 use Rattle.state_deliveries.proofs.Unsent.{some_delivery}
 use Rattle.state_messages.specs.Asking.{has_unsent, goes_on}
-use Rattle.router_after.specs.Soonest.{IsSoonestOn, beats}
+use Rattle.router_after.specs.Soonest.{IsSoonestOn, beats, candidate}
 use Rattle.router_after.specs.Starting.{is_same, goes_on_from, waits_at, starts_from, goes_from, places}
 use Rattle.router_after.proofs.Numbered.{number_is, place_is, stands_there}
 use Rattle.router_after.proofs.Orders.{not_sooner_here}
@@ -191,7 +192,7 @@ can_go_there t n a place wide goes = by_delivery (delivery t n) goes
         (subst (λ (b : Attachment). goes_from t b n (Some d) ≡ true) (sym is) e))
 
 -- The first delivery sent on a link is the one that goes first of all on it.
-pub none_there : (t : Trace) (link : ℕ) → ((n : ℕ) (a : Attachment) → places t n ≡ Some a → a.number ≡ link → true ≡ false) → IsSoonestOn (places t) link None
+pub none_there : (t : Trace) (link : ℕ) → ((n : ℕ) (a : Attachment) → places t n ≡ Some a → a.number ≡ link → true ≡ false) → IsSoonestOn (rank_at t) (places t) link None
 none_there t link none = record { stands = tt; first = none }
 
 unplaced : (t : Trace) (link : ℕ) → place_of t link ≡ None → (n : ℕ) (a : Attachment) → places t n ≡ Some a → a.number ≡ link → true ≡ false
@@ -199,7 +200,7 @@ unplaced t link gone n a e is =
     let wrong : Some a ≡ None = sym (ready t n a e).place ∙ ap (place_of t) is ∙ gone in
     absurd cc
 
-pub nowhere : (t : Trace) (link : ℕ) → place_of t link ≡ None → IsSoonestOn (places t) link None
+pub nowhere : (t : Trace) (link : ℕ) → place_of t link ≡ None → IsSoonestOn (rank_at t) (places t) link None
 nowhere t link gone = none_there t link (unplaced t link gone)
 
 -- all deliveries of a link have its place
@@ -213,37 +214,38 @@ placed_so t link p place n a e is = inside p a (sym place ∙ ap (place_of t) (s
     inside : (p a : Attachment) → Some p ≡ Some a → p ≡ a
     inside p a e = ap (or_p p) e
 
-pub closed : (t : Trace) (link : ℕ) (p : Attachment) → place_of t link ≡ Some p → is_wide (session t p.conn.0 p.channel) ≡ false → IsSoonestOn (places t) link None
+pub closed : (t : Trace) (link : ℕ) (p : Attachment) → place_of t link ≡ Some p → is_wide (session t p.conn.0 p.channel) ≡ false → IsSoonestOn (rank_at t) (places t) link None
 closed t link p place narrow = none_there t link (λ n a e is.
     sym (subst (λ (b : Attachment). is_wide (session t b.conn.0 b.channel) ≡ true) (sym (placed_so t link p place n a e is)) (ready t n a e).wide) ∙ narrow)
 
-pub nobody : (t : Trace) (link : ℕ) (p : Attachment) → place_of t link ≡ Some p → IsFirst (λ n. goes_from t p n (delivery t n)) None → IsSoonestOn (places t) link None
+pub nobody : (t : Trace) (link : ℕ) (p : Attachment) → place_of t link ≡ Some p → IsFirstBy (rank_at t) (λ n. goes_from t p n (delivery t n)) None → IsSoonestOn (rank_at t) (places t) link None
 nobody t link p place none = none_there t link (λ n a e is.
     sym (subst (λ (b : Attachment). goes_from t b n (delivery t n) ≡ true) (sym (placed_so t link p place n a e is)) (ready t n a e).goes) ∙ none n)
 
 pub somebody : (t : Trace) (link : ℕ) (p : Attachment) (k : ℕ) → place_of t link ≡ Some p → is_wide (session t p.conn.0 p.channel) ≡ true
-    → IsFirst (λ n. goes_from t p n (delivery t n)) (Some k) → IsSoonestOn (places t) link (Some (record { number = k; place = p }))
-somebody t link p k place wide first = record {
-  stands = can_go_there t k p (ap (place_of t) (place_is t link p place).1 ∙ place) wide first.0;
+    → IsFirstBy (rank_at t) (λ n. goes_from t p n (delivery t n)) (Some k) → (rank : Rank) → rank ≡ rank_at t k
+    → IsSoonestOn (rank_at t) (places t) link (Some (record { number = k; place = p; rank = rank }))
+somebody t link p k place wide first rank its = subst (λ (r : Rank). IsSoonestOn (rank_at t) (places t) link (Some (record { number = k; place = p; rank = r }))) (sym its) (record {
+  stands = (can_go_there t k p (ap (place_of t) (place_is t link p place).1 ∙ place) wide first.0, refl);
   first = λ n a e is.
       let same = placed_so t link p place n a e is in
-      subst (λ (b : Attachment). beats n b (Some (record { number = k; place = p })) ≡ false) same
-      (not_sooner_here n k p (first.1 n (subst (λ (b : Attachment). goes_from t b n (delivery t n) ≡ true) (sym same) (ready t n a e).goes)));
-}
+      subst (λ (b : Attachment). beats (rank_at t) n b (Some (candidate (rank_at t) k p)) ≡ false) same
+      (not_sooner_here (rank_at t) n k p (first.1 n (subst (λ (b : Attachment). goes_from t b n (delivery t n) ≡ true) (sym same) (ready t n a e).goes)));
+})
 
 -- if none has begun, the first waiting one is sent, if one can start
 and_true : (b : Bool) → (b && true) ≡ b
 and_true true = refl
 and_true false = refl
 
-pub first_to_start : (t : Trace) (p : Attachment) (r : Option ℕ) → IsFirst (λ n. goes_on_from t p n (delivery t n)) None → starts_from t p ≡ true
-    → IsFirst (λ n. waits_at p (delivery t n)) r → IsFirst (λ n. goes_from t p n (delivery t n)) r
+pub first_to_start : (t : Trace) (p : Attachment) (r : Option ℕ) → IsFirstBy (rank_at t) (λ n. goes_on_from t p n (delivery t n)) None → starts_from t p ≡ true
+    → IsFirstBy (rank_at t) (λ n. waits_at p (delivery t n)) r → IsFirstBy (rank_at t) (λ n. goes_from t p n (delivery t n)) r
 first_to_start t p r none can x = by_first r x
   where
     same : (n : ℕ) → goes_from t p n (delivery t n) ≡ waits_at p (delivery t n)
     same n =
         ap (λ b. b || (waits_at p (delivery t n) && starts_from t p)) (none n) ∙ ap (λ b. waits_at p (delivery t n) && b) can ∙ and_true (waits_at p (delivery t n))
 
-    by_first : (r : Option ℕ) → IsFirst (λ n. waits_at p (delivery t n)) r → IsFirst (λ n. goes_from t p n (delivery t n)) r
+    by_first : (r : Option ℕ) → IsFirstBy (rank_at t) (λ n. waits_at p (delivery t n)) r → IsFirstBy (rank_at t) (λ n. goes_from t p n (delivery t n)) r
     by_first None x = λ n. same n ∙ x n
     by_first (Some k) x = (same k ∙ x.0, λ m e. x.1 m (sym (same m) ∙ e))

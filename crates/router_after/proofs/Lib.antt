@@ -2,6 +2,7 @@ pub mod Repeating
 pub mod Scanning
 pub mod Orders
 pub mod Choosing
+pub mod Ranked
 pub mod Numbered
 pub mod Going
 pub mod Owing

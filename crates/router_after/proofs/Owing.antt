@@ -4,13 +4,14 @@ use Rattle.std.specs.Prelude.{◌==◌, if◌then◌else◌, is_none, is_some}
 use Rattle.std.proofs.lemmas.Bool.{and_parts, and_from}
 use Rattle.router_trace.specs.declared.handle.Attachment.{Attachment}
 use Rattle.router_trace.specs.Trace.{Trace}
+use Rattle.router_trace.specs.Numbers.{no_rank}
 use Rattle.router_trace.specs.Links.{Link, has_number, is_attached, numbered, place_of, attachments}
 use Rattle.router_trace.specs.Following.{link_of, is_drained, place_drained, owes_one, first_delivery, is_unsent_on}
 use Rattle.state_messages.specs.Asking.{has_unsent, owes_on, owes_drain}
-use Rattle.router_after.specs.Soonest.{IsSoonestOn, beats}
+use Rattle.router_after.specs.Soonest.{IsSoonestOn, beats, candidate}
 use Rattle.router_after.specs.Draining.{drains_at}
 use Rattle.router_after.proofs.Numbered.{number_is, is_low, place_is, stands_there}
-use Rattle.router_after.proofs.Orders.{not_sooner_here}
+use Rattle.router_after.proofs.Orders.{nor_itself, not_sooner_here}
 
 -- the link with a number whose drain is due is there
 pub there : (t : Trace) (n : ℕ) (a : Attachment) → drains_at t n ≡ Some a → (numbered t n ≡ Some a) × (is_drained t n a ≡ true)
@@ -52,7 +53,7 @@ not_some : (v : Option ℕ) → is_some v ≡ false → is_none v ≡ true
 not_some None e = refl
 not_some (Some k) e = absurd cc
 
-pub waits : (t : Trace) (link : ℕ) → has_unsent t link ≡ true → IsSoonestOn (drains_at t) link None
+pub waits : (t : Trace) (link : ℕ) → has_unsent t link ≡ true → IsSoonestOn no_rank (drains_at t) link None
 waits t link unsent = record {
   stands = tt;
   first = λ n a e is.
@@ -73,7 +74,7 @@ attached_there t n a e =
 placed_there : (t : Trace) (n : ℕ) (a : Attachment) → drains_at t n ≡ Some a → place_of t n ≡ Some a
 placed_there t n a e = stands_there t n a (there t n a e).0 (attached_there t n a e)
 
-pub nowhere : (t : Trace) (link : ℕ) → place_of t link ≡ None → IsSoonestOn (drains_at t) link None
+pub nowhere : (t : Trace) (link : ℕ) → place_of t link ≡ None → IsSoonestOn no_rank (drains_at t) link None
 nowhere t link gone = record {
   stands = tt;
   first = λ n a e is.
@@ -82,18 +83,21 @@ nowhere t link gone = record {
 }
 
 pub due : (t : Trace) (link : ℕ) (p : Attachment) → place_of t link ≡ Some p → has_unsent t link ≡ false → owes_drain t link ≡ true
-    → IsSoonestOn (drains_at t) link (Some (record { number = link; place = p }))
+    → IsSoonestOn no_rank (drains_at t) link (Some (candidate no_rank link p))
 due t link p place gone owed =
     let at = place_is t link p place in
     record {
-      stands = ap (place_drained t link) at.0
-          ∙ ap (λ b. if b then Some p else None)
-          (and_from (owes_one (link_of t p) link) _ (sym (ap (owes_on t link) at.0) ∙ owed) (not_some (first_delivery t (is_unsent_on link)) gone));
+      stands = (
+        ap (place_drained t link) at.0
+            ∙ ap (λ b. if b then Some p else None)
+            (and_from (owes_one (link_of t p) link) _ (sym (ap (owes_on t link) at.0) ∙ owed) (not_some (first_delivery t (is_unsent_on link)) gone)),
+        refl,
+      );
       first = λ n a e is.
           let same = same_number t n link a e is in
           let one = inside p a (sym place ∙ ap (place_of t) (sym same) ∙ placed_there t n a e) in
-          subst (λ (b : Attachment). beats n b (Some (record { number = link; place = p })) ≡ false) one
-          (not_sooner_here n link p (let k : n ≡ link = same in omega (arith, k)));
+          subst (λ (b : Attachment). beats no_rank n b (Some (candidate no_rank link p)) ≡ false) one
+          (not_sooner_here no_rank n link p (nor_itself (no_rank n) n link (let k : n ≡ link = same in omega (arith, k))));
     }
   where
     or_p : Attachment → Option Attachment → Attachment

@@ -1,6 +1,7 @@
 //! Answers to drains.
 ghost use Rattle.std.specs.Prelude.{◌≡◌, true, false, List, [], OnOk, IfOk};
 ghost use Rattle.router_trace.specs.Trace.{Entry, goes};
+ghost use Rattle.router_trace.specs.Numbers.{no_rank};
 ghost use Rattle.router_trace.specs.Sessions.{session};
 ghost use Rattle.router_trace.specs.Following.{link_of, drain_on, drains_due};
 ghost use Rattle.router_state.specs.Tables.{TablesFit};
@@ -10,7 +11,7 @@ ghost use Rattle.router_after.specs.Soonest.{IsSoonest, IsSoonestOn};
 
 use crate::candidate::{Candidate, sooner};
 use router_state::State;
-use router_trace::{Attachment, link_flow_item};
+use router_trace::{Attachment, Rank, link_flow_item};
 use std::alloc::AllocError;
 
 /// Puts the flow that is due first of those that answer a drain, by connection, by the router's channel and by attach: on a link whose peer asks
@@ -27,7 +28,7 @@ pub(crate) fn answer_first(state: &mut State) -> Result<bool, AllocError>
 
 /// The link whose drain is answered next.
 fn soonest(state: &State) -> Result<Option<Candidate>, AllocError>
-    ensures { IfOk result (λ best. (t : List Entry) → TablesFit state.now t → IsSoonest (drains_at t) best) }
+    ensures { IfOk result (λ best. (t : List Entry) → TablesFit state.now t → IsSoonest no_rank (drains_at t) best) }
 {
     let mut last = None;
     let mut best = None;
@@ -43,7 +44,7 @@ fn soonest(state: &State) -> Result<Option<Candidate>, AllocError>
 
 /// The place of a link that owes a drain, once every delivery bound to it was sent.
 fn drained_at(state: &State, link: u64) -> Option<Candidate>
-    ensures { (t : List Entry) → TablesFit state.now t → owes_drain t link ≡ true → IsSoonestOn (drains_at t) link result }
+    ensures { (t : List Entry) → TablesFit state.now t → owes_drain t link ≡ true → IsSoonestOn no_rank (drains_at t) link result }
 {
     if state.has_unsent(link) {
         return None;
@@ -53,6 +54,7 @@ fn drained_at(state: &State, link: u64) -> Option<Candidate>
         Some(place) => Some(Candidate {
             number: link,
             place,
+            rank: Rank { row: 0, counter: 0 },
         }),
     }
 }

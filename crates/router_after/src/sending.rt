@@ -1,7 +1,7 @@
 //! Deliveries to consumers.
 ghost use Rattle.std.specs.Prelude.{◌≡◌, false, List, [], OnOk, IfOk};
 ghost use Rattle.router_trace.specs.Trace.{Entry, goes};
-ghost use Rattle.router_trace.specs.Deliveries.{delivery};
+ghost use Rattle.router_trace.specs.Deliveries.{delivery, rank_at};
 ghost use Rattle.router_trace.specs.Following.{send, sends_due, transfer_of};
 ghost use Rattle.router_state.specs.Tables.{TablesFit};
 ghost use Rattle.router_after.specs.Soonest.{IsSoonest};
@@ -18,7 +18,7 @@ use std::alloc::AllocError;
 /// The longest frame that the router writes, in bytes.
 const MAX_FRAME: u32 = 16_384;
 
-/// Puts the transfer that is due first, by connection, by the router's channel, then in order of binding (AMQP 1.0 part 2, sections
+/// Puts the transfer that is due first, by connection, by the router's channel, then in the order of binding (AMQP 1.0 part 2, sections
 /// 2.5.6, 2.6.7 and 2.6.12). Returns whether there was one.
 pub(crate) fn send_first(state: &mut State) -> Result<bool, AllocError>
     ensures put { OnOk result ((t : List Entry) → TablesFit state.old t → TablesFit state.new (goes (sends_due t) t)) }
@@ -32,7 +32,7 @@ pub(crate) fn send_first(state: &mut State) -> Result<bool, AllocError>
 
 /// The delivery that is sent next.
 fn soonest(state: &State) -> Result<Option<Candidate>, AllocError>
-    ensures { IfOk result (λ best. (t : List Entry) → TablesFit state.now t → IsSoonest (places t) best) }
+    ensures { IfOk result (λ best. (t : List Entry) → TablesFit state.now t → IsSoonest (rank_at t) (places t) best) }
 {
     let mut last = None;
     let mut best = None;

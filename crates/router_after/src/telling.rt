@@ -1,9 +1,9 @@
 //! Outcomes to producers.
 ghost use Rattle.std.specs.Prelude.{◌≡◌, false, List, [], OnOk, IfOk};
 ghost use Rattle.router_trace.specs.Trace.{Entry, goes};
-ghost use Rattle.router_trace.specs.Deliveries.{delivery};
+ghost use Rattle.router_trace.specs.Deliveries.{delivery, rank_at};
 ghost use Rattle.router_trace.specs.Following.{is_to_be_told, tell, tells};
-ghost use Rattle.state_deliveries.specs.Finding.{IsFirst};
+ghost use Rattle.state_deliveries.specs.Finding.{IsFirstBy};
 ghost use Rattle.router_state.specs.Tables.{TablesFit};
 
 use amqp_model::Role;
@@ -23,9 +23,9 @@ pub(crate) fn tell_first(state: &mut State) -> Result<bool, AllocError>
     }
 }
 
-/// The number of the first delivery that is decided and whose outcome is not yet reported to its producer, while that link is attached.
+/// The number of the first delivery, in the order of binding, that is decided and whose outcome is not yet reported to its producer, while that link is attached.
 fn first_to_tell(state: &State) -> Result<Option<u64>, AllocError>
-    ensures { IfOk result (λ first. (t : List Entry) → TablesFit state.now t → IsFirst (λ n. is_to_be_told t (delivery t n)) first) }
+    ensures { IfOk result (λ first. (t : List Entry) → TablesFit state.now t → IsFirstBy (rank_at t) (λ n. is_to_be_told t (delivery t n)) first) }
 {
     let mut last = None;
     for _turn in 0..u64::MAX {

@@ -1,20 +1,20 @@
 //! The delivery of a link that is sent next.
 ghost use Rattle.std.specs.Prelude.{◌≡◌, List, IfOk};
 ghost use Rattle.router_trace.specs.Trace.{Entry};
-ghost use Rattle.router_trace.specs.Deliveries.{delivery};
-ghost use Rattle.state_deliveries.specs.Finding.{IsFirst};
+ghost use Rattle.router_trace.specs.Deliveries.{delivery, rank_at};
+ghost use Rattle.state_deliveries.specs.Finding.{IsFirstBy};
 ghost use Rattle.router_state.specs.Tables.{TablesFit};
 ghost use Rattle.router_after.specs.Soonest.{IsSoonestOn};
 ghost use Rattle.router_after.specs.Starting.{is_same, goes_on_from, waits_at, starts_from, goes_from, places};
 
 use crate::candidate::Candidate;
 use router_state::State;
-use router_trace::Attachment;
+use router_trace::{Attachment, Rank};
 use std::alloc::AllocError;
 
 /// The first delivery of a link that can be sent. If none can, this takes only a look or two at the link.
 pub(crate) fn first_on(state: &State, link: u64) -> Result<Option<Candidate>, AllocError>
-    ensures { IfOk result (λ found. (t : List Entry) → TablesFit state.now t → IsSoonestOn (places t) link found) }
+    ensures { IfOk result (λ found. (t : List Entry) → TablesFit state.now t → IsSoonestOn (rank_at t) (places t) link found) }
 {
     let Some(place) = state.place_of(link) else {
         return Ok(None);
@@ -24,13 +24,27 @@ pub(crate) fn first_on(state: &State, link: u64) -> Result<Option<Candidate>, Al
     }
     match first_at(state, place)? {
         None => Ok(None),
-        Some(number) => Ok(Some(Candidate { number, place })),
+        Some(number) => Ok(Some(Candidate {
+            number,
+            place,
+            rank: rank_of(state, number),
+        })),
+    }
+}
+
+/// The place of a delivery in the order of binding.
+fn rank_of(state: &State, number: u64) -> Rank
+    ensures { (t : List Entry) → TablesFit state.now t → result ≡ rank_at t number }
+{
+    match state.delivery(number) {
+        None => Rank { row: 0, counter: 0 },
+        Some(delivery) => delivery.rank,
     }
 }
 
 /// The first delivery that can be sent on a link whose session's window is open.
 fn first_at(state: &State, place: Attachment) -> Result<Option<u64>, AllocError>
-    ensures { IfOk result (λ first. (t : List Entry) → TablesFit state.now t → IsFirst (λ n. goes_from t place n (delivery t n)) first) }
+    ensures { IfOk result (λ first. (t : List Entry) → TablesFit state.now t → IsFirstBy (rank_at t) (λ n. goes_from t place n (delivery t n)) first) }
 {
     if let Some(number) = begun_at(state, place) {
         return Ok(Some(number));
@@ -43,7 +57,7 @@ fn first_at(state: &State, place: Attachment) -> Result<Option<u64>, AllocError>
 
 /// The delivery that is in progress on a link.
 fn begun_at(state: &State, place: Attachment) -> Option<u64>
-    ensures { (t : List Entry) → TablesFit state.now t → IsFirst (λ n. goes_on_from t place n (delivery t n)) result }
+    ensures { (t : List Entry) → TablesFit state.now t → IsFirstBy (rank_at t) (λ n. goes_on_from t place n (delivery t n)) result }
 {
     if !state.goes_on(place) {
         return None;
@@ -73,7 +87,7 @@ fn can_start(state: &State, place: Attachment) -> Result<bool, AllocError>
 
 /// The first waiting delivery of a link.
 fn first_waiting(state: &State, place: Attachment) -> Result<Option<u64>, AllocError>
-    ensures { IfOk result (λ first. (t : List Entry) → TablesFit state.now t → IsFirst (λ n. waits_at place (delivery t n)) first) }
+    ensures { IfOk result (λ first. (t : List Entry) → TablesFit state.now t → IsFirstBy (rank_at t) (λ n. waits_at place (delivery t n)) first) }
 {
     let mut last = None;
     for _turn in 0..u64::MAX {

@@ -12,6 +12,7 @@ use Rattle.amqp_model.specs.Room.{transfer_frame}
 use Rattle.amqp_session.specs.Session.{Session}
 use Rattle.router_trace.specs.declared.binding.Origin.{Origin}
 use Rattle.router_trace.specs.declared.handle.Asked.{Asked}
+use Rattle.router_trace.specs.declared.binding.Rank.{Rank}
 use Rattle.router_trace.specs.declared.handle.Attachment.{Attachment}
 use Rattle.router_trace.specs.Trace.{Entry, Put, Out}
 use Rattle.router_trace.specs.Frames.{told_of}
@@ -19,9 +20,9 @@ use Rattle.router_trace.specs.LinkFrames.{fits}
 use Rattle.router_trace.specs.Links.{Link, Happened, sends, receives, link, link_in, link_after, key_at, numbered, attachments, asked}
 use Rattle.router_trace.specs.Peers.{largest_frame}
 use Rattle.router_trace.specs.Sessions.{session}
-use Rattle.router_trace.specs.Deliveries.{Delivery, has_row, delivery, bindings, sending, next_id, is_number}
+use Rattle.router_trace.specs.Deliveries.{Delivery, has_row, delivery, bindings, sending, next_id, is_number, is_earlier, rank_at}
 use Rattle.router_trace.specs.DeliveryFrames.{first_transfer, later_transfer, with_more, part_frame, filled, next_frame, largest_out, rest_of}
-use Rattle.router_trace.specs.Numbers.{or_other, if_passes, first_below, Placed, is_before, or_better, first_placed}
+use Rattle.router_trace.specs.Numbers.{Placed, is_ahead, no_rank, or_better, or_earlier, first_placed, first_ranked}
 use Rattle.router_trace.specs.Following.{link_of, is_still_attached, is_to_be_told, outcome_to, tell, tells_of, tells, goes_on_at, is_going, has_credit, takes_more, can_start, is_wide, is_there, can_go, place_to_go, transfer_of, send, send_of, sends_due, drain_of, drain_on, drain_by, place_drained, drains_due}
 use Rattle.state_messages.specs.Messages.{grants_due}
 use Rattle.state_connections.proofs.Lists.{by_test}
@@ -33,25 +34,28 @@ both_true true b h = (refl, h)
 both_true false b h = absurd cc
 
 -- a property of the lowest number that passes, and of the first place: it holds if it holds of none and of each that passes
-pub first_elim : (n : ℕ) (passes : ℕ → Bool) (Q : Option ℕ → Type 0) → Q None → ((k : ℕ) → passes k ≡ true → Q (Some k)) → Q (first_below n passes)
-unfolding first_below
-first_elim zero passes Q none some = none
-first_elim (suc n) passes Q none some =
-    first_elim n passes (λ v. Q (or_other v (if_passes (passes n) n))) (by_test (passes n) (λ e. rw e (some n e)) (λ e. rw e none)) some
-
-pub placed_elim : (n : ℕ) (place : ℕ → Option Attachment) (Q : Option Placed → Type 0) → Q None
-    → ((k : ℕ) (a : Attachment) → place k ≡ Some a → Q (Some (record { number = k; place = a }))) → Q (first_placed n place)
-unfolding first_placed
-placed_elim zero place Q none some = none
-placed_elim (suc n) place Q none some = placed_elim n place (λ v. Q (or_better v n (place n))) (new (place n) refl) (λ k a e. next k a e (place n) refl)
+pub ranked_elim : (rank : ℕ → Rank) (n : ℕ) (passes : ℕ → Bool) (Q : Option ℕ → Type 0) → Q None → ((k : ℕ) → passes k ≡ true → Q (Some k)) → Q (first_ranked rank n passes)
+unfolding first_ranked
+ranked_elim rank zero passes Q none some = none
+ranked_elim rank (suc n) passes Q none some =
+    ranked_elim rank n passes (λ v. Q (if passes n then or_earlier rank v n else v)) (by_test (passes n) (λ e. rw e (some n e)) (λ e. rw e none)) next
   where
-    new : (x : Option Attachment) → place n ≡ x → Q (or_better None n x)
+    next : (k : ℕ) → passes k ≡ true → Q (if passes n then or_earlier rank (Some k) n else Some k)
+    next k e = by_test (passes n) (λ f. rw f (by_test (is_earlier (rank n) (rank k)) (λ h. rw h (some n f)) (λ h. rw h (some k e)))) (λ f. rw f (some k e))
+
+pub placed_elim : (rank : ℕ → Rank) (n : ℕ) (place : ℕ → Option Attachment) (Q : Option Placed → Type 0) → Q None
+    → ((k : ℕ) (a : Attachment) → place k ≡ Some a → Q (Some (record { number = k; place = a }))) → Q (first_placed rank n place)
+unfolding first_placed
+placed_elim rank zero place Q none some = none
+placed_elim rank (suc n) place Q none some = placed_elim rank n place (λ v. Q (or_better rank v n (place n))) (new (place n) refl) (λ k a e. next k a e (place n) refl)
+  where
+    new : (x : Option Attachment) → place n ≡ x → Q (or_better rank None n x)
     new None e = none
     new (Some a) e = some n a e
 
-    next : (k : ℕ) (a : Attachment) → place k ≡ Some a → (x : Option Attachment) → place n ≡ x → Q (or_better (Some (record { number = k; place = a })) n x)
+    next : (k : ℕ) (a : Attachment) → place k ≡ Some a → (x : Option Attachment) → place n ≡ x → Q (or_better rank (Some (record { number = k; place = a })) n x)
     next k a e None f = some k a e
-    next k a e (Some b) f = by_test (is_before b a) (λ h. rw h (some n b f)) (λ h. rw h (some k a e))
+    next k a e (Some b) f = by_test (is_ahead rank n b (record { number = k; place = a })) (λ h. rw h (some n b f)) (λ h. rw h (some k a e))
 
 -- frames on the session of a link
 
@@ -132,7 +136,7 @@ told_on t None h = tt
 told_on t (Some d) h = told_origin t d.origin (not (has_row d.name)) d.outcome (both_true (is_some d.outcome) (is_still_attached t d.origin) h).1
 
 pub tells_on : (t : List Entry) → AllOnLinks t (tells t)
-tells_on t = first_elim (bindings t + 1) (λ n. is_to_be_told t (delivery t n)) (λ x. AllOnLinks t (tells_of t x)) tt (λ n e. told_on t (delivery t n) e)
+tells_on t = ranked_elim (rank_at t) (bindings t + 1) (λ n. is_to_be_told t (delivery t n)) (λ x. AllOnLinks t (tells_of t x)) tt (λ n e. told_on t (delivery t n) e)
 
 -- sends: the session's window is open, and a delivery that starts has credit
 
@@ -229,7 +233,7 @@ sent_all t n (Some d) a e = sent_is t n d (can_go_sent t n d (passed_test (can_g
 
 pub sends_sent : (t : List Entry) → AllSent t (sends_due t)
 sends_sent t =
-    placed_elim (bindings t + 1) (λ n. place_to_go t n (delivery t n)) (λ x. AllSent t (send_of t x)) tt (λ n a e. sent_all t n (delivery t n) a e)
+    placed_elim (rank_at t) (bindings t + 1) (λ n. place_to_go t n (delivery t n)) (λ x. AllSent t (send_of t x)) tt (λ n a e. sent_all t n (delivery t n) a e)
 
 sent_on : (t : List Entry) (ps : List Put) → AllSent t ps → AllOnLinks t ps
 sent_on t [] sent = tt
@@ -274,7 +278,7 @@ drained_on t a (Some s) (Some l) e = by l.happened
 
 pub drains_on : (t : List Entry) → AllOnLinks t (drains_due t)
 drains_on t =
-    placed_elim (attachments t + 1) (λ n. place_drained t n (numbered t n)) (λ x. AllOnLinks t (drain_by t x)) tt
+    placed_elim no_rank (attachments t + 1) (λ n. place_drained t n (numbered t n)) (λ x. AllOnLinks t (drain_by t x)) tt
     (λ n a e. drained_on t a (session t a.conn.0 a.channel) (link_of t a) refl)
 
 -- grants

@@ -4,16 +4,17 @@ use Rattle.disk_core.specs.Disk.{LeavesOnly}
 use Rattle.disk_core.specs.Twin.{Contents}
 use Rattle.book_model.specs.declared.act.Act.{Act}
 use Rattle.book_model.specs.Book.{BookView}
+use Rattle.twin_journal.specs.Holding.{BeforeOrBehind}
 use Rattle.twin_journal.specs.Journal.{batch_count}
-use Rattle.journal_store.specs.Store.{Stands, batches_after, twin_of, journal_of}
+use Rattle.journal_store.specs.Store.{Stands, batches_after, count_of, twin_of, journal_of}
 use Rattle.journal_store.specs.declared.store.Store.{Store}
 use Rattle.router_trace.specs.declared.event.Event.{Event}
 use Rattle.router_trace.specs.Trace.{Entry, step_of}
 use Rattle.router_reply.specs.Acts.{Journaled, acts_of, book_after_event, book_in, booked, journaled}
-use Rattle.core_machine.specs.Meaning.{BookAt}
+use Rattle.core_machine.specs.Meaning.{BookAt, KeptAt}
 use Rattle.router_core.specs.declared.router.Core.{Core}
 use Rattle.router_core.specs.Handling.{BeforeOrAfterEvent, Fits, store_of}
-use Rattle.router_core.specs.Machine.{KeepsBook, LeavesBook, core_meaning}
+use Rattle.router_core.specs.Machine.{KeepsBook, LeavesBook, LeavesKept, core_meaning}
 use Rattle.router_core.specs.Replies.{Replies, handled}
 use Rattle.router_core.proofs.Books.{view_answered}
 
@@ -29,6 +30,10 @@ on_ok_both (Err e) f is also = is
 pub if_ok : {A E : Type 0} (r : Result A E) (Q : A → Type 0) → ((x : A) → Q x) → IfOk r Q
 if_ok (Ok x) Q f = f x
 if_ok (Err e) Q f = tt
+
+pub if_ok_weaker : {A E : Type 0} (r : Result A E) (P Q : A → Type 0) → ((x : A) → P x → Q x) → IfOk r P → IfOk r Q
+if_ok_weaker (Ok x) P Q f is = f x is
+if_ok_weaker (Err e) P Q f is = tt
 
 pub on_err : {A E : Type 0} (r : Result A E) (Q : Type 0) → Q → OnErr r Q
 on_err (Ok x) Q is = tt
@@ -68,4 +73,14 @@ module _ {T : Type 0} (seen : T → Contents) (may_leave : T → Contents → Ty
       → LeavesBook may_leave new (BookAt (core_meaning seen may_leave failures) t e)
   leaves_next moment left_since counts_now failures old new t e run contents left =
       ⊎_elim (λ opens. (book_in t, opens, inl refl)) (λ opens. (book_after_event t e, opens, inr refl))
+      (run.each contents (counts_now (twin_of (store_of new)) (moment (twin_of (store_of old))) contents run.later left))
+
+  -- a crash leaves the journal before the event, or the one with its batch
+  pub journal_next : (moment : T → ℕ) (left_since : T → ℕ → Contents → Type 0) → ((twin : T) (t : ℕ) (c : Contents) → t ≤ moment twin → may_leave twin c → left_since twin t c)
+      → (failures : T → ℕ) (old new : Core T) (t : List Entry) (e : Event)
+      → LeavesOnly moment left_since (twin_of (store_of old)) (twin_of (store_of new)) (BeforeOrBehind (book_in t) (count_of (store_of old)) (acts_of t e))
+      → LeavesKept may_leave new (KeptAt (core_meaning seen may_leave failures) (count_of (store_of old)) t e)
+  journal_next moment left_since counts_now failures old new t e run contents left =
+      ⊎_elim (λ before. (record { book = book_in t; batches = count_of (store_of old); last = before.0 }, before.1, inl (refl, refl)))
+      (λ behind. (record { book = book_after_event t e; batches = count_of (store_of old) + 1; last = acts_of t e }, behind, inr (refl, refl, refl)))
       (run.each contents (counts_now (twin_of (store_of new)) (moment (twin_of (store_of old))) contents run.later left))

@@ -1,15 +1,16 @@
 -- What a crash leaves while the acts of an event are written.
-use Rattle.std.proofs.Common.{◌≡◌, subst, ℕ, List, ◌⊎◌, inl}
+use Rattle.std.proofs.Common.{◌≡◌, refl, sym, subst, ℕ, List, ◌⊎◌, inl}
 use Rattle.disk_core.specs.Disk.{LeavesOnly}
 use Rattle.disk_core.specs.DiskLaws.{widened}
 use Rattle.disk_core.specs.Twin.{Contents}
 use Rattle.book_model.specs.declared.act.Act.{Act}
 use Rattle.book_model.specs.Book.{BookView, effects}
-use Rattle.journal_store.specs.Store.{OpensTo, Stands, twin_of}
-use Rattle.journal_store.proofs.Moments.{unmoved}
+use Rattle.twin_journal.specs.Holding.{BeforeOrBehind}
+use Rattle.journal_store.specs.Store.{OpensTo, Stands, count_of, twin_of}
+use Rattle.journal_store.proofs.Moments.{still_held, unmoved}
 use Rattle.router_trace.specs.declared.event.Event.{Event}
 use Rattle.router_trace.specs.Trace.{Entry}
-use Rattle.router_reply.specs.Acts.{acts_of}
+use Rattle.router_reply.specs.Acts.{acts_of, book_in}
 use Rattle.router_core.specs.declared.router.Core.{Core}
 use Rattle.router_core.specs.Handling.{Fits, BeforeOrAfterEvent, store_of, kept_book}
 use Rattle.router_core.proofs.Books.{before_or_after_event}
@@ -31,3 +32,19 @@ module _ {T : Type 0} (seen : T → Contents) (may_leave : T → Contents → Ty
   still_moment only_now core twin t e f stands same =
       widened moment left_since _ _ _ _ (unmoved seen may_leave moment left_since only_now (store_of core) twin same stands)
       (λ contents opens. inl (subst (λ (b : BookView). OpensTo contents b) f.journal.book opens))
+
+  -- how many batches there are then, and which is the last one
+  pub known_journal : (core : Core T) (twin : T) (t : List Entry) (e : Event) (acts : List Act) → Fits core t → acts ≡ acts_of t e
+      → LeavesOnly moment left_since (twin_of (store_of core)) twin (BeforeOrBehind (kept_book core) (count_of (store_of core)) acts)
+      → LeavesOnly moment left_since (twin_of (store_of core)) twin (BeforeOrBehind (book_in t) (count_of (store_of core)) (acts_of t e))
+  known_journal core twin t e acts f are run =
+      subst (λ (b : BookView). LeavesOnly moment left_since (twin_of (store_of core)) twin (BeforeOrBehind b (count_of (store_of core)) (acts_of t e))) f.journal.book
+      (subst (λ (xs : List Act). LeavesOnly moment left_since (twin_of (store_of core)) twin (BeforeOrBehind (kept_book core) (count_of (store_of core)) xs)) are run)
+
+  pub still_journal : ((twin : T) (c : Contents) → left_since twin (moment twin) c → may_leave twin c) → (core : Core T) (twin : T) (t : List Entry) (e : Event) → Fits core t
+      → Stands seen may_leave (store_of core) → twin ≡ twin_of (store_of core)
+      → LeavesOnly moment left_since (twin_of (store_of core)) twin (BeforeOrBehind (book_in t) (count_of (store_of core)) (acts_of t e))
+  still_journal only_now core twin t e f stands same =
+      known_journal core twin t e (acts_of t e) f refl
+      (subst (λ (d : T). LeavesOnly moment left_since (twin_of (store_of core)) d (BeforeOrBehind (kept_book core) (count_of (store_of core)) (acts_of t e))) (sym same)
+      (still_held seen may_leave moment left_since only_now (store_of core) (acts_of t e) stands))

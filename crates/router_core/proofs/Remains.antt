@@ -18,26 +18,26 @@ use Rattle.core_machine.specs.declared.fault.CoreFault.{CoreFault}
 use Rattle.core_machine.specs.declared.fault.CoreFault.TheVariants.{Failed, NoConnection}
 use Rattle.core_machine.specs.Turns.{declines}
 use Rattle.router_core.specs.Handling.{Fits, BeforeOrAfterEvent, id_of, is_failed, store_of, kept_book}
-use Rattle.router_core.specs.Leaving.{BeforeOrInTurn, IsBookAt, IsLeftAfter, LeftBy, book_behind}
+use Rattle.router_core.specs.Leaving.{BeforeOrInTurn, IsBookAt, IsLeftAfter, LeftBy, book_after_turn}
 use Rattle.router_core.specs.Runs.{Run}
 
 book_at : (t : List Entry) (es : List Event) (b : BookView) → b ≡ book_in t → IsBookAt t es b
 book_at t [] b is = is
 book_at t (e ∷ es) b is = inl is
 
--- the book behind an event is one that it may leave
-behind_is : (t : List Entry) (e : Event) (es : List Event) → IsBookAt t (e ∷ es) (book_behind t e)
-behind_is t e es = by (declines t e) refl
+-- the book after the turn of an event is one that it may leave
+after_turn_is : (t : List Entry) (e : Event) (es : List Event) → IsBookAt t (e ∷ es) (book_after_turn t e)
+after_turn_is t e es = by (declines t e) refl
   where
-    by : (b : Bool) → declines t e ≡ b → IsBookAt t (e ∷ es) (book_behind t e)
+    by : (b : Bool) → declines t e ≡ b → IsBookAt t (e ∷ es) (book_after_turn t e)
     by true out = inl (ap (λ (b : Bool). if b then book_in t else book_after_event t e) out)
     by false turn = inr (turn, ap (λ (b : Bool). if b then book_in t else book_after_event t e) turn)
 
--- the book of a trace behind an event that was declined, or handled
-pub declined_book : (t : List Entry) (e : Event) (b : BookView) → declines t e ≡ true → b ≡ book_in t → b ≡ book_behind t e
+-- the book of a trace after an event that was declined, or handled
+pub declined_book : (t : List Entry) (e : Event) (b : BookView) → declines t e ≡ true → b ≡ book_in t → b ≡ book_after_turn t e
 declined_book t e b out is = is ∙ sym (ap (λ (d : Bool). if d then book_in t else book_after_event t e) out)
 
-pub handled_book : (t : List Entry) (e : Event) (b : BookView) → declines t e ≡ false → b ≡ book_after_event t e → b ≡ book_behind t e
+pub handled_book : (t : List Entry) (e : Event) (b : BookView) → declines t e ≡ false → b ≡ book_after_event t e → b ≡ book_after_turn t e
 handled_book t e b turn is = is ∙ sym (ap (λ (d : Bool). if d then book_in t else book_after_event t e) turn)
 
 -- a list with more behind it is another
@@ -103,10 +103,10 @@ module _ {T : Type 0} (seen : T → Contents) (may_leave : T → Contents → Ty
       (λ opens. (book_in m, opens, record { first = first; rest = e ∷ rest; events = events; taken = taken; mid = m; run = run; book = inl refl }))
       (λ both. (book_after_event m e, both.1, record { first = first; rest = e ∷ rest; events = events; taken = taken; mid = m; run = run; book = inr (both.0, refl) }))))
 
-  -- what is left behind an event, once it was handled or declined
-  pub opens_behind : (heard new : Core T) (t : List Entry) (e : Event) → Stands seen may_leave (store_of heard) → store_of new ≡ store_of heard → kept_book heard ≡ book_behind t e
-      → (contents : Contents) → may_leave (twin_of (store_of new)) contents → OpensTo contents (book_behind t e)
-  opens_behind heard new t e stands same book contents left =
+  -- what is left after an event that was handled or declined
+  pub opens_after_turn : (heard new : Core T) (t : List Entry) (e : Event) → Stands seen may_leave (store_of heard) → store_of new ≡ store_of heard → kept_book heard ≡ book_after_turn t e
+      → (contents : Contents) → may_leave (twin_of (store_of new)) contents → OpensTo contents (book_after_turn t e)
+  opens_after_turn heard new t e stands same book contents left =
       subst (λ (b : BookView). OpensTo contents b) book
       (left_opens seen may_leave (store_of heard) contents stands (subst (λ (s : Store T). may_leave (twin_of s) contents) same left))
 
@@ -115,10 +115,10 @@ module _ {T : Type 0} (seen : T → Contents) (may_leave : T → Contents → Ty
       (taken : List Sent) (m : List Entry) (e : Event) (rest : List Event) (handled : ℕ) (xs last : List Sent)
       → es ≡ first ++ e ∷ rest → handled ≡ length first → Run id 0 t first taken m → xs ≡ taken ++ last
       → LeavesOnly moment left_since mid new (BeforeOrInTurn m e) → (contents : Contents) → may_leave new contents
-      → (last ≢ [] → OpensTo contents (book_behind m e)) → IsLeftAfter id t es handled xs contents
+      → (last ≢ [] → OpensTo contents (book_after_turn m e)) → IsLeftAfter id t es handled xs contents
   left_after counts_now mid new id t es first taken m e rest handled xs last events count run items now contents left behind = by last items behind
     where
-      at : (ys : List Sent) → xs ≡ taken ++ ys → (b : BookView) → IsBookAt m (e ∷ rest) b → (ys ≢ [] → b ≡ book_behind m e) → OpensTo contents b → IsLeftAfter id t es handled xs contents
+      at : (ys : List Sent) → xs ≡ taken ++ ys → (b : BookView) → IsBookAt m (e ∷ rest) b → (ys ≢ [] → b ≡ book_after_turn m e) → OpensTo contents b → IsLeftAfter id t es handled xs contents
       at ys are b is answered opens = record {
         first = first;
         rest = e ∷ rest;
@@ -135,10 +135,10 @@ module _ {T : Type 0} (seen : T → Contents) (may_leave : T → Contents → Ty
         opens = opens;
       }
 
-      by : (ys : List Sent) → xs ≡ taken ++ ys → (ys ≢ [] → OpensTo contents (book_behind m e)) → IsLeftAfter id t es handled xs contents
+      by : (ys : List Sent) → xs ≡ taken ++ ys → (ys ≢ [] → OpensTo contents (book_after_turn m e)) → IsLeftAfter id t es handled xs contents
       by [] are opens =
           ⊎_elim
           (λ before. at [] are (book_in m) (inl refl) (λ some. absurd (some refl)) before)
           (λ both. at [] are (book_after_event m e) (inr (both.0, refl)) (λ some. absurd (some refl)) both.1)
           (now.each contents (counts_now new (moment mid) contents now.later left))
-      by (y ∷ ys) are opens = at (y ∷ ys) are (book_behind m e) (behind_is m e rest) (λ some. refl) (opens (λ none. absurd cc))
+      by (y ∷ ys) are opens = at (y ∷ ys) are (book_after_turn m e) (after_turn_is m e rest) (λ some. refl) (opens (λ none. absurd cc))

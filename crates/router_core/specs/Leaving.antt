@@ -33,16 +33,16 @@ pub record IsLeftBy (id : List ℕ) (t : Trace) (es : List Event) (b : BookView)
 abbrev pub LeftBy : List ℕ → Trace → List Event → Contents → Type 0
 LeftBy id t es contents = (b : BookView) × OpensTo contents b × IsLeftBy id t es b
 
--- the book behind an event: as it was before, if the event is declined; and behind the first of these events, if there is one
-abbrev pub book_behind : Trace → Event → BookView
-book_behind t e = if declines t e then book_in t else book_after_event t e
+-- the book after the turn of an event: as it was before, if the event is declined; and after that of the first of these events, if there is one
+abbrev pub book_after_turn : Trace → Event → BookView
+book_after_turn t e = if declines t e then book_in t else book_after_event t e
 
-abbrev pub book_behind_next : Trace → List Event → BookView
-book_behind_next t [] = book_in t
-book_behind_next t (e ∷ es) = book_behind t e
+abbrev pub book_after_next_turn : Trace → List Event → BookView
+book_after_next_turn t [] = book_in t
+book_after_next_turn t (e ∷ es) = book_after_turn t e
 
 -- Of these events as many first ones were handled, then one met a fault, and xs are all items that were taken. Two files open to the book after
--- those that were handled, or to that book after the acts of the one that met the fault, if it is in turn; and to the book behind that one, if an
+-- those that were handled, or to that book after the acts of the one that met the fault, if it is in turn; and to the book after that one, if an
 -- item was taken after it. So they open to a book that holds everything that was answered.
 pub record IsLeftAfter (id : List ℕ) (t : Trace) (es : List Event) (handled : ℕ) (xs : List Sent) (contents : Contents) : Type 0 where
   pub first : List Event
@@ -56,5 +56,5 @@ pub record IsLeftAfter (id : List ℕ) (t : Trace) (es : List Event) (handled : 
   pub items : xs ≡ taken ++ last
   pub book : BookView
   pub is : IsBookAt mid rest book
-  pub answered : last ≢ [] → book ≡ book_behind_next mid rest
+  pub answered : last ≢ [] → book ≡ book_after_next_turn mid rest
   pub opens : OpensTo contents book

@@ -2,14 +2,15 @@
 use Rattle.std.specs.Prelude.{◌≡◌, ℕ}
 use Rattle.disk_core.specs.Twin.{Contents}
 use Rattle.book_model.specs.Book.{BookView}
+use Rattle.twin_journal.specs.Holding.{HoldsUpTo}
 use Rattle.twin_journal.specs.Journal.{batch_count}
 use Rattle.journal_store.specs.Store.{OpensTo, Stands, count_of, twin_of, journal_of}
 use Rattle.journal_store.specs.declared.store.Store.{Store}
 use Rattle.route_table.specs.Places.{routing_of}
 use Rattle.route_table.specs.Settings.{Settings}
 use Rattle.router_trace.specs.Trace.{Beginning}
-use Rattle.router_reply.specs.Acts.{book_in, book_after_event, finds_full, journaled}
-use Rattle.core_machine.specs.Meaning.{Meaning}
+use Rattle.router_reply.specs.Acts.{acts_of, book_in, book_after_event, finds_full, journaled}
+use Rattle.core_machine.specs.Meaning.{Meaning, Kept}
 use Rattle.router_core.specs.declared.router.Core.{Core}
 use Rattle.router_core.specs.Handling.{Fits, id_of, is_failed, counts_of, store_of, kept_book}
 use Rattle.router_core.specs.Replies.{handled}
@@ -21,6 +22,14 @@ KeepsBook seen may_leave core b = Stands seen may_leave (store_of core) × (kept
 -- whatever a crash leaves of its two files opens to a book with this property
 abbrev pub LeavesBook : {T : Type 0} → (T → Contents → Type 0) → Core T → (BookView → Type 0) → Type 0
 LeavesBook may_leave core P = (contents : Contents) → may_leave (twin_of (store_of core)) contents → (b : BookView) × OpensTo contents b × P b
+
+-- two files are a journal that keeps this
+abbrev pub HoldsKept : Contents → Kept → Type 0
+HoldsKept contents k = HoldsUpTo contents k.book k.batches k.last
+
+-- whatever a crash leaves of its two files keeps something with this property
+abbrev pub LeavesKept : {T : Type 0} → (T → Contents → Type 0) → Core T → (Kept → Type 0) → Type 0
+LeavesKept may_leave core P = (contents : Contents) → may_leave (twin_of (store_of core)) contents → (k : Kept) × HoldsKept contents k × P k
 
 abbrev pub core_meaning : {T : Type 0} → (T → Contents) → (T → Contents → Type 0) → (T → ℕ) → Meaning (Core T)
 core_meaning {T} seen may_leave failures = record {
@@ -34,7 +43,9 @@ core_meaning {T} seen may_leave failures = record {
   failures = λ core. failures (twin_of (store_of core));
   keeps = KeepsBook seen may_leave;
   leaves = LeavesBook may_leave;
+  leaves_journal = LeavesKept may_leave;
   next = handled;
+  acts = acts_of;
   finds_full = λ t e. finds_full (journaled t) t e;
   book = book_in;
   next_book = book_after_event;

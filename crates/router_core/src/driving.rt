@@ -6,7 +6,7 @@ ghost use Rattle.disk_core.specs.Disk.{LeavesOnly};
 ghost use Rattle.disk_core.specs.Twin.{Contents};
 ghost use Rattle.journal_store.specs.Store.{OpensTo, Stands, twin_of};
 ghost use Rattle.router_core.specs.Handling.{Fits, id_of, is_failed, store_of, kept_book};
-ghost use Rattle.router_core.specs.Leaving.{BeforeOrInTurn, IsLeftAfter, LeftBy, book_behind};
+ghost use Rattle.router_core.specs.Leaving.{BeforeOrInTurn, IsLeftAfter, LeftBy, book_after_turn};
 ghost use Rattle.router_core.specs.Runs.{Emptied, Steps, Run, MayStep, InTurn, Broken, Stopped, Waits, as_sent, sent};
 ghost use Rattle.core_machine.specs.Moves.{Taking, taking, items_of, took_one};
 ghost use Rattle.router_core.specs.declared.driving.Sent.{Sent as ASent};
@@ -130,9 +130,9 @@ fn step<T: Twin>(
     ensures stands { OnOk result (Stands T.seen T.may_leave (store_of core.old) → Stands T.seen T.may_leave (store_of core.new)) }
     ensures any_moment { (t : List Entry) → Fits core.old t → Stands T.seen T.may_leave (store_of core.old)
         → LeavesOnly T.moment T.left_since (twin_of (store_of core.old)) (twin_of (store_of core.new)) (BeforeOrInTurn t event) }
-    // With a fault, if an item was taken, the book behind the event is left at the end.
+    // With a fault, if an item was taken, the book after the event is left at the end.
     ensures answered { OnErr result (taken.new.items ≢ taken.old.items → (t : List Entry) → Fits core.old t → Stands T.seen T.may_leave (store_of core.old)
-        → (contents : Contents) → T.may_leave (twin_of (store_of core.new)) contents → OpensTo contents (book_behind t event)) }
+        → (contents : Contents) → T.may_leave (twin_of (store_of core.new)) contents → OpensTo contents (book_after_turn t event)) }
 {
     hear(core, event)?;
     empty(core, place, taken)
@@ -143,7 +143,7 @@ fn hear<T: Twin>(core: &mut Core<T>, event: Event) -> Result<(), CoreFault>
     ensures fits { OnOk result ((t : List Entry) → Fits core.old t → (u : List Entry) × MayStep (id_of core.old) t event u × Fits core.new u) }
     ensures works { OnOk result (is_failed core.new ≡ true → is_failed core.old ≡ true) }
     ensures named { id_of core.new ≡ id_of core.old }
-    ensures book { OnOk result ((t : List Entry) → Fits core.old t → kept_book core.new ≡ book_behind t event) }
+    ensures book { OnOk result ((t : List Entry) → Fits core.old t → kept_book core.new ≡ book_after_turn t event) }
 
     // When a fault occurs.
     ensures known { IfErr result (λ f. f ≢ CoreFault.NoConnection) }

@@ -3,6 +3,7 @@ ghost use Rattle.std.specs.Prelude.{◌≡◌, ◌⊎◌, ◌+◌, ◌<◌, ◌�
 ghost use Rattle.router_core.specs.Machine.{core_meaning};
 
 use crate::router::Core;
+use amqp_model::Item;
 use core_machine::{CoreFault, Counts, Done, Fused, Machine, Taken};
 use disk_core::{CrashTwin, Twin};
 use router_trace::{ConnectionId, Event};
@@ -36,6 +37,14 @@ impl<T: Twin> Machine for Core<T> {
 
     fn ready_after(&self, conn: ConnectionId) -> Option<ConnectionId> {
         Core::ready_after(self, conn)
+    }
+
+    fn waits(&self, conn: ConnectionId) -> usize {
+        Core::waits(self, conn)
+    }
+
+    fn waiting(&self, conn: ConnectionId, place: usize) -> Option<&Item> {
+        Core::waiting(self, conn, place)
     }
 
     fn counts(&self) -> Counts {

@@ -1,6 +1,7 @@
 //! The router: one event or one take at a time.
-ghost use Rattle.std.specs.Prelude.{◌≡◌, ◌≢◌, ◌⊎◌, ◌+◌, ◌<◌, ◌≤◌, ◌∷◌, ◌&&◌, nat_lt, List, [], length, true, false, Ok, Err, None, option_map, is_some, OnOk, OnErr, IfOk, IfErr, IfSome, IfNone, IsErrOf};
+ghost use Rattle.std.specs.Prelude.{◌≡◌, ◌≢◌, ◌⊎◌, ◌+◌, ◌<◌, ◌≤◌, ◌∷◌, ◌&&◌, nat_lt, List, [], length, slice_get, true, false, Ok, Err, None, option_copied, option_map, is_some, OnOk, OnErr, IfOk, IfErr, IfSome, IfNone, IsErrOf};
 ghost use Rattle.disk_core.specs.Disk.{LeavesOnly, NoMore};
+ghost use Rattle.twin_journal.specs.Holding.{BeforeOrBehind};
 ghost use Rattle.twin_journal.specs.Journal.{batch_count};
 ghost use Rattle.twin_journal.specs.Judging.{Explains};
 ghost use Rattle.journal_store.specs.Store.{OpensTo, Stands, Writable, IsSuited, journal_of, twin_of, count_of, base_of, batches_after, exceeds};
@@ -8,6 +9,7 @@ ghost use Rattle.router_trace.specs.Configuration.{opened};
 ghost use Rattle.router_trace.specs.Trace.{Entry, Trace, Took, did, step_of};
 ghost use Rattle.router_trace.specs.Connection.{conn as known, is_ready, is_live, due, phase_before, phase_found};
 ghost use Rattle.state_connections.specs.Fits.{IsLeast};
+ghost use Rattle.state_connections.specs.Waiting.{waiting_of};
 ghost use Rattle.book_model.specs.Book.{effects};
 ghost use Rattle.twin_journal.specs.Room.{room};
 ghost use Rattle.router_reply.specs.Acts.{planned_acts, event_answer, acts_of, book_after_event, book_in, booked, finds_full, journaled};
@@ -27,6 +29,7 @@ ghost use Rattle.router_core.specs.Machine.{core_meaning, opening_of};
 ghost use Rattle.core_machine.specs.declared.fault.CoreFault.TheVariants.{Disk as DiskFailed, Memory, Failed, NoConnection};
 
 use amqp_conn::Conn;
+use amqp_model::Item;
 use book_core::Book;
 use book_model::{Act, RowNumber};
 use core_machine::{Batch, CoreFault, Counts, Done, Taken};
@@ -149,10 +152,11 @@ impl<T: Twin> Core<T> {
             drop(table);
             return Err(OpenFault::Memory);
         };
+        let last_row = store.book().next_row().0.saturating_sub(1);
         Ok(Core {
             alloc,
             id,
-            state: State::new(alloc, table),
+            state: State::new(alloc, table, last_row),
             store,
             counts: Counts::none(),
             started: false,
@@ -248,6 +252,8 @@ impl<T: Twin> Core<T> {
         // a fault of the disk or of memory no item waits in any outbox.
         ensures any_moment { (t : List Entry) → Fits self.old t → Stands T.seen T.may_leave (store_of self.old)
             → LeavesOnly T.moment T.left_since (twin_of (store_of self.old)) (twin_of (store_of self.new)) (BeforeOrAfterEvent t event) }
+        ensures journal_moment { (t : List Entry) → Fits self.old t → Stands T.seen T.may_leave (store_of self.old)
+            → LeavesOnly T.moment T.left_since (twin_of (store_of self.old)) (twin_of (store_of self.new)) (BeforeOrBehind (book_in t) (count_of (store_of self.old)) (acts_of t event)) }
         ensures given_up { OnErr result (is_failed self.old ≡ false → is_failed self.new ≡ true → NothingWaits (state_of self.new)) }
 
         // One more event is counted exactly if the call answers Ok.
@@ -319,6 +325,8 @@ impl<T: Twin> Core<T> {
         ensures full { IfOk result (λ done. (t : List Entry) → Fits self.old t → IsTaken t event phase → done.full ≡ finds_full (journaled t) t event) }
         ensures any_moment { (t : List Entry) → Fits self.old t → IsTaken t event phase → Stands T.seen T.may_leave (store_of self.old)
             → LeavesOnly T.moment T.left_since (twin_of (store_of self.old)) (twin_of (store_of self.new)) (BeforeOrAfterEvent t event) }
+        ensures journal_moment { (t : List Entry) → Fits self.old t → IsTaken t event phase → Stands T.seen T.may_leave (store_of self.old)
+            → LeavesOnly T.moment T.left_since (twin_of (store_of self.old)) (twin_of (store_of self.new)) (BeforeOrBehind (book_in t) (count_of (store_of self.old)) (acts_of t event)) }
         ensures counted { OnOk result (counts_of self.new ≡ with_event event (counts_of self.old)) }
         ensures uncounted { OnErr result (counts_of self.new ≡ counts_of self.old) }
         ensures left { OnErr result ((t : List Entry) → Fits self.old t → IsTaken t event phase → LeftBook t event (kept_book self.new)) }
@@ -535,6 +543,8 @@ impl<T: Twin> Core<T> {
         ensures silent { IfOk result (λ w. IfNone w (acts.items ≡ [])) }
         ensures any_moment { Stands T.seen T.may_leave (store_of self.old) → LeavesOnly T.moment T.left_since (twin_of (store_of self.old)) (twin_of (store_of self.new))
             (λ c. OpensTo c (kept_book self.old) ⊎ OpensTo c (effects (kept_book self.old) acts.items)) }
+        ensures journal_moment { Stands T.seen T.may_leave (store_of self.old) → LeavesOnly T.moment T.left_since (twin_of (store_of self.old)) (twin_of (store_of self.new))
+            (BeforeOrBehind (kept_book self.old) (count_of (store_of self.old)) acts.items) }
         ensures unwritten { OnErr result (kept_book self.new ≡ kept_book self.old) }
         ensures not_refused { IfErr result (λ f. f ≢ NoConnection) }
         ensures not_failed { IfErr result (λ f. f ≢ Failed) }
@@ -671,6 +681,20 @@ impl<T: Twin> Core<T> {
             None => None,
             Some(next) => Some(ConnectionId(next)),
         }
+    }
+
+    /// How many items wait in a connection's outbox.
+    pub fn waits(&self, conn: ConnectionId) -> usize
+        ensures { (t : List Entry) → Fits self.now t → result ≡ length (waiting_of (known t conn.0)) }
+    {
+        self.state.waits(conn.0)
+    }
+
+    /// The item at this place of a connection's outbox, counted from 0 at the front.
+    pub fn waiting(&self, conn: ConnectionId, place: usize) -> Option<&Item>
+        ensures { (t : List Entry) → Fits self.now t → option_copied result ≡ slice_get (waiting_of (known t conn.0)) place }
+    {
+        self.state.waiting(conn.0, place)
     }
 
     /// Whether a connection is known: it is live, or it is over and its outbox isn't empty.

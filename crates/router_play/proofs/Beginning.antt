@@ -9,7 +9,7 @@ use Rattle.router_trace.specs.Configuration.{beginning}
 use Rattle.router_trace.specs.declared.event.Event.TheVariants as event
 use Rattle.router_trace.specs.Trace.{Entry, Put, did, goes, step_of}
 use Rattle.router_trace.specs.Following.{as_long_as_due, tells, sends_due, drains_due}
-use Rattle.router_trace.specs.Numbers.{first_below, first_placed}
+use Rattle.router_trace.specs.Numbers.{first_placed, first_ranked}
 use Rattle.state_messages.specs.Messages.{lent, grants_due, lowest_below}
 use Rattle.state_sessions.specs.Windows.{windows}
 use Rattle.router_after.specs.After.{sent, drained, granted}
@@ -28,7 +28,7 @@ abbrev begins : Beginning → List Entry
 begins g = did event.Start ∷ booked (beginning g) event.Start
 
 no_outcome : (g : Beginning) → tells (begins g) ≡ []
-unfolding first_below
+unfolding first_ranked
 no_outcome g = refl
 
 no_delivery : (g : Beginning) → sends_due (begins g) ≡ []

@@ -1,4 +1,5 @@
 pub mod Scenes
+mod Grouped
 pub mod Stops
 pub mod Beginning
 pub mod PlayMoves

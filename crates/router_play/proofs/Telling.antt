@@ -7,14 +7,13 @@ use Rattle.core_player.specs.declared.line.Line.{Line}
 use Rattle.core_player.specs.declared.line.Line.TheVariants as line
 use Rattle.core_player.specs.Telling.{TellsOf}
 use Rattle.book_model.specs.Book.{BookView}
-use Rattle.journal_store.specs.Store.{count_of}
 use Rattle.router_reply.specs.Acts.{journaled}
 use Rattle.router_trace.specs.Trace.{Trace}
 use Rattle.router_core.specs.declared.router.Core.{Core}
-use Rattle.router_core.specs.Handling.{Fits, store_of, kept_book}
+use Rattle.router_core.specs.Handling.{Fits}
 use Rattle.router_play.specs.declared.finish.Size.{Size}
 use Rattle.router_play.specs.Script.{book_line}
-use Rattle.router_play.specs.Ending.{graver, size_line}
+use Rattle.router_play.specs.Ending.{IsSizeOf, graver, size_line}
 
 -- where two routers failed
 pub graver_none : (one other : Option CoreFault) → graver one other ≡ None → (one ≡ None) × (other ≡ None)
@@ -34,9 +33,8 @@ graver_tells (Some f) (Some Failed) ls told other_told = told
 graver_tells (Some f) (Some NoConnection) ls told other_told = told
 
 -- the size of what a router keeps is that of its trace
-pub size_told : {T : Type 0} (core : Core T) (t : Trace) (size : Size) → size.rows ≡ length (kept_book core).rows → size.termini ≡ length (kept_book core).termini
-    → size.batches ≡ count_of (store_of core) → Fits core t → size_line size ≡ book_line (journaled t)
-size_told core t size rows termini batches fits =
-    ap (λ (n : ℕ). line.Book n size.termini size.batches) (rows ∙ ap (λ (b : BookView). length b.rows) fits.journal.book)
-    ∙ ap (λ (n : ℕ). line.Book (length (journaled t).book.rows) n size.batches) (termini ∙ ap (λ (b : BookView). length b.termini) fits.journal.book)
-    ∙ ap (λ (n : ℕ). line.Book (length (journaled t).book.rows) (length (journaled t).book.termini) n) (batches ∙ fits.journal.batches)
+pub size_told : {T : Type 0} (core : Core T) (t : Trace) (size : Size) → IsSizeOf core size → Fits core t → size_line size ≡ book_line (journaled t)
+size_told core t size is fits =
+    ap (λ (n : ℕ). line.Book n size.termini size.batches) (is.rows ∙ ap (λ (b : BookView). length b.rows) fits.journal.book)
+    ∙ ap (λ (n : ℕ). line.Book (length (journaled t).book.rows) n size.batches) (is.termini ∙ ap (λ (b : BookView). length b.termini) fits.journal.book)
+    ∙ ap (λ (n : ℕ). line.Book (length (journaled t).book.rows) (length (journaled t).book.termini) n) (is.batches ∙ fits.journal.batches)

@@ -3,6 +3,8 @@ pub mod Carrying
 pub mod Lives
 pub mod Stopping
 pub mod Ending
+pub mod Entries
+pub mod Grouping
 pub use Rattle.router_trace.specs.Trace
 pub use Rattle.router_trace.specs.Connection
 pub use Rattle.router_trace.specs.Refusing

@@ -1,5 +1,5 @@
 -- What a stop leaves of a run, and what the next run is opened on.
-use Rattle.std.specs.Prelude.{◌≡◌, ◌+◌, ℕ, List, ◌++◌, length, Option, Some, None}
+use Rattle.std.specs.Prelude.{◌≡◌, ◌+◌, ℕ, List, ◌++◌, length}
 use Rattle.book_model.specs.declared.act.Act.{Act}
 use Rattle.book_model.specs.Book.{BookView}
 use Rattle.disk_core.specs.Twin.{Contents}
@@ -7,6 +7,8 @@ use Rattle.journal_codec.specs.Batches.{book_after}
 use Rattle.twin_journal.specs.Holding.{TwinHolds, OpensTo}
 use Rattle.router_reply.specs.Acts.{Journaled, book_in}
 use Rattle.router_trace.specs.Trace.{Trace}
+use Rattle.core_player.specs.declared.entry.Entry.{Entry}
+use Rattle.router_play.specs.Entries.{ShowsLives}
 use Rattle.router_play.specs.Lives.{Life, Lives}
 use Rattle.router_play.specs.declared.script.Stop.{Stop}
 use Rattle.router_play.specs.declared.script.Stop.TheVariants as stop
@@ -25,11 +27,7 @@ abbrev pub how_of : Stop → ℕ
 how_of stop.Old = 0
 how_of stop.New = 1
 
--- what two files hold as they stand, or what a stop may leave of them
-abbrev pub IsLeft : {T : Type 0} → (T → Contents) → (T → Contents → Type 0) → Option Stop → T → Contents → Type 0
-IsLeft seen may_leave None twin contents = contents ≡ seen twin
-IsLeft seen may_leave (Some how) twin contents = may_leave twin contents
-
--- so many runs, on top of these, to whose book two files open
-abbrev pub EndsLives : List ℕ → List Life → ℕ → Contents → Type 0
-EndsLives id past n contents = (lives : List Life) × (u : Trace) × (length lives ≡ n) × Lives id (lives ++ past) u × OpensTo contents (book_in u)
+-- so many runs, on top of these, to whose book two files open, and which show these entries
+abbrev pub EndsLives : List ℕ → List Life → ℕ → Contents → List Entry → Type 0
+EndsLives id past n contents entries = (lives : List Life) × (u : Trace)
+    × (length lives ≡ n) × Lives id (lives ++ past) u × OpensTo contents (book_in u) × ShowsLives id past lives entries

@@ -22,7 +22,7 @@ pub struct Ended<C: Drop> {
     pub failed: Option<CoreFault>,
     /// What its router keeps.
     pub size: Size,
-    /// Its two files, which aren't stopped yet.
+    /// Its two files, as its stop left them.
     pub twin: C,
 }
 

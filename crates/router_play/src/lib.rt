@@ -4,8 +4,9 @@
 mod finish;
 mod runs;
 mod script;
+mod surviving;
 
-pub use core_player::{Line, Step};
+pub use core_player::{Acts, Came, Entry, Line, Step};
 pub use router_core::{Config, ConnectionId, CoreFault, PeerRole};
 pub use runs::play_runs;
 pub use script::{Report, Run, Stop};

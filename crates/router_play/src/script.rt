@@ -3,7 +3,7 @@ ghost use Rattle.std.specs.Prelude.{◌≡◌};
 ghost use Rattle.router_play.specs.Stopping.{how_of};
 
 use core_machine::CoreFault;
-use core_player::{Line, Step};
+use core_player::{Entry, Line, Step};
 use twin_journal::OpenFault;
 
 /// How a run ends: by a stop of the router, of which its two files keep what was synced, and some of what was not.
@@ -41,6 +41,10 @@ pub struct Run {
 pub struct Report<C: Drop> {
     /// The lines, in order.
     pub lines: Vec<Line>,
+    /// What happened in the runs and outlived their stops: each run's part, and behind each one its stop. A part begins with the event that starts
+    /// the router, and has each event that was handled, with its acts; the items that it put into outboxes, by connection, the lowest first; and
+    /// the takes. The event with which a router failed is in it if its acts are in the journal that the stop left.
+    pub entries: Vec<Entry>,
     /// What ended the play before its end: `Memory` where memory was refused to the play itself, to a stop or to an opening, or another
     /// fault with which a journal couldn't be opened.
     pub halted: Option<OpenFault>,

@@ -1,17 +1,15 @@
 -- The rows that a producer settles: by a resumed delivery that comes whole and settled, and by a disposition (AMQP 1.0 part 2, sections 2.6.12, 2.6.13
 -- and 2.7.5).
-use Rattle.std.specs.Prelude.{ℕ, ◌^◌, ◌-◌, Bool, ◌&&◌, ◌||◌, if◌then◌else◌, List, [], ◌∷◌, filter_map, Option, Some, None, option_map}
+use Rattle.std.specs.Prelude.{ℕ, ◌&&◌, ◌||◌, if◌then◌else◌, List, [], ◌∷◌, filter_map, Option, Some, None, option_map}
 use Rattle.amqp_link.specs.declared.part.Delivery.{Delivery as Told}
 use Rattle.amqp_model.specs.declared.perf.Transfer.{Transfer as ATransfer}
 use Rattle.book_model.specs.declared.row.Row.{Row}
 use Rattle.book_model.specs.declared.row.RowNumber.{RowNumber}
 use Rattle.book_model.specs.Book.{BookView}
-use Rattle.journal_store.specs.Acting.{is_among}
 use Rattle.router_trace.specs.Trace.{Trace}
 use Rattle.router_trace.specs.Deliveries.{tag_in}
 use Rattle.router_trace.specs.Links.{link, link_place, durable_key}
 use Rattle.router_trace.specs.Settling.{middle_on, ids_claimed}
-use Rattle.state_deliveries.specs.Deciding.{rows_from}
 use Rattle.reply_rows.specs.declared.answer.Answer.{Answer}
 use Rattle.reply_rows.specs.declared.answer.Answer.TheVariants.{Taken}
 use Rattle.reply_transfers.specs.Joining.{row_joined, row_under}
@@ -26,19 +24,14 @@ settled_again x (Some d) = if d.resume && (x.settled || d.settled) then option_m
 abbrev pub settled_whole : ATransfer → Option Told → Option (List ℕ)
 settled_whole x earlier = if x.more || x.aborted then None else settled_again x earlier
 
--- A row is joined by one delivery: by none, if it is that of an unsettled delivery on the session. (Such a delivery has the row's tag, so a link's
--- transfers can't begin with it.)
-abbrev pub is_held_on : Trace → ℕ → ℕ → ℕ → Bool
-is_held_on t c own n = is_among n (rows_from t c own 0 (2 ^ 31 - 1)) || is_among n (rows_from t c own (2 ^ 31) (2 ^ 32 - 1))
+-- What a transfer that is taken settles: the row that its delivery joins, alone, if it makes a settled one whole.
+abbrev pub row_alone : Option Row → List RowNumber
+row_alone None = []
+row_alone (Some r) = r.number ∷ []
 
-abbrev pub unless_held : Trace → ℕ → ℕ → Option Row → List RowNumber
-unless_held t c own None = []
-unless_held t c own (Some r) = if is_held_on t c own r.number.0 then [] else r.number ∷ []
-
--- What a transfer that is taken settles: the row that its delivery joins, if it makes a settled one whole.
 abbrev pub settled_on_link : BookView → Trace → ℕ → ℕ → ℕ → ATransfer → List RowNumber
 settled_on_link b t c own handle x =
-    unless_held t c own (row_joined b (durable_key (link t c own handle)) (settled_whole x (middle_on (link_place t c own x.handle))))
+    row_alone (row_joined b (durable_key (link t c own handle)) (settled_whole x (middle_on (link_place t c own x.handle))))
 
 abbrev pub settled_by_transfer : BookView → Trace → ℕ → ATransfer → Answer → List RowNumber
 settled_by_transfer b t c x (Taken own handle) = settled_on_link b t c own handle x

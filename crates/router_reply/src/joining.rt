@@ -1,10 +1,9 @@
 //! The rows that a producer settles: by a resumed delivery that comes whole and settled, and by a disposition.
-ghost use Rattle.std.specs.Prelude.{◌≡◌, ◌^◌, ◌-◌, List, filter_map, option_map, IfOk};
+ghost use Rattle.std.specs.Prelude.{◌≡◌, List, filter_map, option_map, IfOk};
 ghost use Rattle.std.specs.Option.{option_copied};
-ghost use Rattle.journal_store.specs.Acting.{is_among};
 ghost use Rattle.router_trace.specs.Trace.{Entry};
 ghost use Rattle.router_state.specs.Tables.{TablesFind};
-ghost use Rattle.router_reply.specs.Joining.{settled_again, settled_whole, is_held_on, unless_held, settled_on_link, settled_by_transfer, rows_claimed};
+ghost use Rattle.router_reply.specs.Joining.{settled_again, settled_whole, row_alone, settled_on_link, settled_by_transfer, rows_claimed};
 
 use crate::deciding::add;
 use amqp_link::Delivery;
@@ -15,9 +14,6 @@ use reply_rows::Answer;
 use reply_transfers::{row_joined, row_under};
 use router_state::State;
 use std::alloc::{AllocError, Global};
-
-/// The first delivery-id of the upper half.
-const HALF: u32 = 2_147_483_648;
 
 /// The tag of the delivery to which a transfer belongs, if that is resumed and settled; `earlier` is what its earlier frames
 /// say, if there are some.
@@ -56,43 +52,15 @@ fn settled_whole<'a>(
     settled_again(transfer, earlier)
 }
 
-/// Whether a row is among these.
-fn is_among(row: RowNumber, rows: &[RowNumber]) -> bool
-    ensures { result ≡ is_among row.0 rows.now }
-{
-    for one in rows {
-        if *one == row {
-            return true;
-        }
-    }
-    false
-}
-
-/// Whether a row is that of an unsettled delivery on a session.
-fn is_held_on(state: &State, conn: u64, own: u16, row: RowNumber) -> Result<bool, AllocError>
-    ensures { IfOk result (λ held. (t : List Entry) → TablesFind state.now t → held ≡ is_held_on t conn own row.0) }
-{
-    let low = state.rows_from(conn, own, 0, HALF - 1)?;
-    let high = state.rows_from(conn, own, HALF, u32::MAX)?;
-    Ok(is_among(row, &low) || is_among(row, &high))
-}
-
-/// A row alone, if there is one that no unsettled delivery on the session has.
-fn unless_held(
-    state: &State,
-    conn: u64,
-    own: u16,
-    row: Option<&Row>,
-) -> Result<Vec<RowNumber>, AllocError>
-    ensures { IfOk result (λ rows. (t : List Entry) → TablesFind state.now t → rows.items ≡ unless_held t conn own (option_copied row.entry)) }
+/// A row alone, if there is one.
+fn row_alone(state: &State, row: Option<&Row>) -> Result<Vec<RowNumber>, AllocError>
+    ensures { IfOk result (λ rows. rows.items ≡ row_alone (option_copied row.entry)) }
 {
     let mut rows = Vec::new(state.alloc());
     match row {
         None => Ok(rows),
         Some(row) => {
-            if !is_held_on(state, conn, own, row.number)? {
-                add(&mut rows, row.number)?;
-            }
+            add(&mut rows, row.number)?;
             Ok(rows)
         }
     }
@@ -112,7 +80,7 @@ fn settled_on_link(
 {
     let tag = settled_whole(transfer, state.middle(conn, own, transfer.handle));
     let row = row_joined(book, state.durable_key(conn, own, handle), tag);
-    unless_held(state, conn, own, row)
+    row_alone(state, row)
 }
 
 /// The same of a transfer with this answer: one that isn't taken settles none.

@@ -1,5 +1,5 @@
 //! All tables, changed together.
-ghost use Rattle.std.specs.Prelude.{◌≡◌, ◌==◌, ◌≤◌, ◌&&◌, nat_lt, if◌then◌else◌, ◌∷◌, ◌++◌, ℕ, List, [], true, false, Option, option_copied, option_map, OnOk, OnErr, IfOk};
+ghost use Rattle.std.specs.Prelude.{◌≡◌, ◌==◌, ◌-◌, ◌≤◌, ◌&&◌, nat_lt, if◌then◌else◌, ◌∷◌, ◌++◌, ℕ, List, [], true, false, length, slice_get, Option, option_copied, option_map, OnOk, OnErr, IfOk};
 ghost use Rattle.std.specs.Prelude.{is_some};
 ghost use Rattle.route_table.specs.Places.{FindsAs};
 ghost use Rattle.router_trace.specs.Trace.{Beginning, Trace};
@@ -9,10 +9,10 @@ ghost use Rattle.router_trace.specs.Frames.{told_of};
 ghost use Rattle.router_trace.specs.Links.{link, place_of, is_attached, durable_key, holds_durable};
 ghost use Rattle.router_trace.specs.Claims.{claims};
 ghost use Rattle.router_trace.specs.Settling.{part_of, middle_on, is_claimed, is_claimed_on, ids_claimed, open_ids, unbound};
-ghost use Rattle.router_trace.specs.Deliveries.{joined_by, acts_found, delivery, ended_first, giving, is_to_tell, sending, named, next_id};
+ghost use Rattle.router_trace.specs.Deliveries.{joined_by, acts_found, delivery, rank_at, ended_first, giving, is_to_tell, sending, named, next_id};
 ghost use Rattle.router_trace.specs.Following.{link_of, first_delivery, is_unsent_on, is_wide, is_busy, is_used, takes_more};
 ghost use Rattle.state_deliveries.specs.Calling.{Knows};
-ghost use Rattle.state_deliveries.specs.Finding.{IsFirst, is_above};
+ghost use Rattle.state_deliveries.specs.Finding.{IsFirst, IsFirstBy, is_above, is_beyond};
 ghost use Rattle.state_messages.specs.Messages.{attachment_at, consumer_of, binding_for, taken_up_by, with_bound, grants_due, grant_flow};
 ghost use Rattle.state_messages.specs.Asking.{consumer_with, has_unsent, goes_on, owes_drain, drained_state};
 ghost use Rattle.router_trace.specs.Trace.{Bound as BoundTo, Entry, Out, Took, did, newest, goes, puts_of};
@@ -29,6 +29,7 @@ ghost use Rattle.state_sessions.specs.Windows.{windows};
 ghost use Rattle.router_trace.specs.Connection.{conn as known, standing, phase_before, is_ready, has};
 ghost use Rattle.state_connections.specs.Fits.{at_number, IsLeast, IsBatch, count};
 ghost use Rattle.state_connections.specs.Noting.{is_noted};
+ghost use Rattle.state_connections.specs.Waiting.{waiting_of};
 ghost use Rattle.router_trace.specs.Refusing.{rises, refuses};
 ghost use Rattle.router_state.specs.Tables.{TablesFit, TablesAt, TablesFind, beat_if, beats_over, beats};
 ghost use Rattle.router_trace.specs.declared.event.Event.{Event as E};
@@ -66,9 +67,9 @@ pub struct State {
 }
 
 impl State {
-    /// The tables of a new router; addresses are shared as this table says.
-    pub fn new(alloc: Global, table: Table) -> State
-        ensures { (g : Beginning) (below : Trace) → FindsAs table g.routing → TablesFit result (opened g below) }
+    /// The tables of a new router; addresses are shared as this table says, and `last_row` is the last row that was admitted before.
+    pub fn new(alloc: Global, table: Table, last_row: u64) -> State
+        ensures { (g : Beginning) (below : Trace) → FindsAs table g.routing → last_row ≡ g.book.next_row - 1 → TablesFit result (opened g below) }
     {
         State {
             alloc,
@@ -77,7 +78,7 @@ impl State {
             clocks: Clocks::new(alloc),
             peers: Peers::new(alloc),
             sessions: Sessions::new(alloc),
-            messages: Messages::new(alloc, table),
+            messages: Messages::new(alloc, table, last_row),
         }
     }
 
@@ -344,6 +345,20 @@ impl State {
         self.ready.has(conn)
     }
 
+    /// How many items wait in a connection's outbox.
+    pub fn waits(&self, conn: u64) -> usize
+        ensures { (t : List Entry) → TablesFit self.now t → result ≡ length (waiting_of (known t conn)) }
+    {
+        self.connections.waits(conn)
+    }
+
+    /// The item at this place of a connection's outbox, counted from 0 at the front.
+    pub fn waiting(&self, conn: u64, place: usize) -> Option<&Item>
+        ensures { (t : List Entry) → TablesFit self.now t → option_copied result ≡ slice_get (waiting_of (known t conn)) place }
+    {
+        self.connections.waiting(conn, place)
+    }
+
     /// The lowest ready connection above a number.
     pub fn ready_after(&self, conn: u64) -> Option<u64>
         ensures { (t : List Entry) → TablesFit self.now t → IsLeast (λ c. nat_lt conn c && is_ready (known t c)) result }
@@ -485,9 +500,10 @@ impl State {
         Ok(())
     }
 
-    /// The lowest number, above another, of a delivery that is decided and whose outcome must be reported to its producer.
+    /// The first delivery, in the order of binding, behind that with a number or of all, that is decided and whose outcome must be reported to its
+    /// producer.
     pub fn to_tell_after(&self, number: Option<u64>) -> Option<u64>
-        ensures { (t : List Entry) → TablesFit self.now t → IsFirst (λ n. is_above number n && is_to_tell (delivery t n)) result }
+        ensures { (t : List Entry) → TablesFit self.now t → IsFirstBy (rank_at t) (λ n. is_beyond (rank_at t) number n && is_to_tell (delivery t n)) result }
     {
         self.messages.deliveries().to_tell_after(number)
     }
@@ -513,9 +529,9 @@ impl State {
         self.messages.deliveries().unsent_link_after(link)
     }
 
-    /// The lowest number, above another, of a link's delivery of which frames remain to be sent.
+    /// The first delivery of a link, in the order of binding, behind that with a number or of all, of which frames remain to be sent.
     pub fn unsent_after(&self, link: u64, number: Option<u64>) -> Option<u64>
-        ensures { (t : List Entry) → TablesFit self.now t → IsFirst (λ n. is_above number n && is_unsent_on link (delivery t n)) result }
+        ensures { (t : List Entry) → TablesFit self.now t → IsFirstBy (rank_at t) (λ n. is_beyond (rank_at t) number n && is_unsent_on link (delivery t n)) result }
     {
         self.messages.deliveries().unsent_after(link, number)
     }

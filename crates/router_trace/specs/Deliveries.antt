@@ -1,6 +1,6 @@
 -- The deliveries that the router passes on, in a trace (AMQP 1.0 part 2, sections 2.6.12, 2.6.14, 2.7.5 and 2.7.6). Each is a message
 -- bound to one consumer link. Bindings are numbered from 1 in their order, and a delivery has its binding's number. Its tag is made from its name.
-use Rattle.std.specs.Prelude.{ℕ, ◌+◌, ◌*◌, ◌/◌, ◌%◌, ◌^◌, Bool, true, false, not, ◌&&◌, ◌==◌, if◌then◌else◌, is_none, is_some, List, ◌∷◌, [], length, ◌||◌, Option, Some, None, option_map, option_and_then, unwrap_or}
+use Rattle.std.specs.Prelude.{ℕ, ◌+◌, ◌-◌, ◌*◌, ◌/◌, ◌%◌, ◌^◌, Bool, true, false, not, ◌&&◌, ◌==◌, if◌then◌else◌, is_none, is_some, List, ◌∷◌, [], length, ◌||◌, Option, Some, None, nat_lt, option_map, option_and_then, unwrap_or}
 use Rattle.amqp_model.specs.declared.perf.Disposition.{Disposition}
 use Rattle.amqp_model.specs.declared.perf.Perf.{Perf}
 use Rattle.amqp_model.specs.declared.perf.Perf.TheVariants as perf
@@ -23,6 +23,7 @@ use Rattle.router_trace.specs.declared.binding.DeliveryName.TheVariants.{Row, Co
 use Rattle.router_trace.specs.declared.binding.JoinedTo.{JoinedTo}
 use Rattle.router_trace.specs.declared.binding.JoinedTo.TheVariants.{Standing, New}
 use Rattle.router_trace.specs.declared.binding.Origin.{Origin}
+use Rattle.router_trace.specs.declared.binding.Rank.{Rank}
 use Rattle.router_trace.specs.declared.binding.Resumed.{Resumed}
 use Rattle.router_trace.specs.declared.binding.Resumed.TheVariants.{Settled, Anew, Kept}
 use Rattle.router_trace.specs.declared.binding.TakenUp.{TakenUp}
@@ -84,6 +85,35 @@ same_name (Row q) (Row r) = q.0 == r.0
 same_name (Counter j) (Counter k) = j == k
 same_name _ _ = false
 
+-- The last row that was admitted: with a message that came, or before the router was opened.
+abbrev pub row_or : Option RowNumber → ℕ → ℕ
+row_or None last = last
+row_or (Some r) last = r.0
+
+abbrev pub last_with : Binding → ℕ → ℕ
+last_with b last = if is_message b.kind then row_or b.row last else last
+
+abbrev pub last_row : Trace → ℕ
+last_row [] = 0
+last_row (Did s ∷ t) = last_row t
+last_row (Out d i ∷ t) = last_row t
+last_row (Took d n ∷ t) = last_row t
+last_row (Bound b ∷ t) = last_with b (last_row t)
+last_row (Booked acts full ∷ t) = last_row t
+last_row (Began g ∷ t) = g.book.next_row - 1
+
+-- A delivery's place in the order of binding. A row is bound first when it is admitted, and keeps that place when it is bound again: so rows stand by
+-- their numbers. A message without a row stands behind the last row that was admitted before it, by its counter.
+abbrev pub rank_of : DeliveryName → ℕ → Rank
+rank_of (Row r) last = record { row = r.0; counter = 0 }
+rank_of (Counter k) last = record { row = last; counter = k }
+
+abbrev pub rank_in : Trace → Binding → Rank
+rank_in t b = rank_of (name_in t b) (last_row t)
+
+abbrev pub is_earlier : Rank → Rank → Bool
+is_earlier a b = nat_lt a.row b.row || ((a.row == b.row) && nat_lt a.counter b.counter)
+
 -- the number of the last binding with a name
 abbrev pub number_named : Trace → DeliveryName → Option ℕ
 number_named [] name = None
@@ -94,9 +124,10 @@ number_named (Bound b ∷ t) name = if is_none (joins_standing b.kind) && same_n
 number_named (Booked acts full ∷ t) name = number_named t name
 number_named (Began g ∷ t) name = None
 
--- A delivery: its name, its consumer's link, the producer's delivery to which its outcome is reported, and its progress.
+-- A delivery: its name, its place in the order of binding, its consumer's link, the producer's delivery to which its outcome is reported, and its progress.
 pub record Delivery : Type 0 where
   pub name : DeliveryName
+  pub rank : Rank
   pub link : Attachment
   pub origin : Option Origin
   -- its producer had settled it before it was bound
@@ -190,9 +221,10 @@ abbrev pub presettles : BindingKind → Bool
 presettles (kind.Message origin) = is_none origin
 presettles _ = false
 
-abbrev pub bound : DeliveryName → Binding → Delivery
-bound name b = record {
+abbrev pub bound : DeliveryName → Rank → Binding → Delivery
+bound name rank b = record {
   name = name;
+  rank = rank;
   link = b.consumer;
   origin = origin_of b.kind;
   presettled = presettles b.kind;
@@ -506,16 +538,16 @@ abbrev pub unless_called : DeliveryName → Option Delivery → Option Delivery
 unless_called name None = None
 unless_called name (Some d) = if same_name d.name name then None else Some d
 
-abbrev pub with_binding : Option Origin → DeliveryName → Binding → Bool → Option Delivery → Option Delivery
-with_binding None name b new v = if new then Some (bound name b) else unless_called name v
-with_binding (Some p) name b new v = option_map (joined name p) v
+abbrev pub with_binding : Option Origin → DeliveryName → Rank → Binding → Bool → Option Delivery → Option Delivery
+with_binding None name rank b new v = if new then Some (bound name rank b) else unless_called name v
+with_binding (Some p) name rank b new v = option_map (joined name p) v
 
 abbrev pub delivery : Trace → ℕ → Option Delivery
 delivery [] n = None
 delivery (Did s ∷ t) n = option_and_then (λ d. unless_over (after_event s.event (channels_found t) (named t) (acts_found t) n d)) (delivery t n)
 delivery (Out c i ∷ t) n = option_and_then (λ d. unless_over (after_put (number_named t) i c n (sending t c) d)) (delivery t n)
 delivery (Took c k ∷ t) n = delivery t n
-delivery (Bound b ∷ t) n = with_binding (joins_standing b.kind) (name_in t b) b (bindings t + 1 == n) (delivery t n)
+delivery (Bound b ∷ t) n = with_binding (joins_standing b.kind) (name_in t b) (rank_in t b) b (bindings t + 1 == n) (delivery t n)
 delivery (Booked acts full ∷ t) n = delivery t n
 delivery (Began g ∷ t) n = None
 
@@ -546,6 +578,14 @@ joining p row to = record { consumer = p.link; row = Some row; lasting = true; f
 
 abbrev pub joined_by : Trace → Origin → RowNumber → Option DeliveryState → Binding
 joined_by t p row outcome = joining p row (joined_to (called t (Row row)) outcome)
+
+-- the place in the order of binding of the delivery with a number
+abbrev pub ranked : Option Delivery → Rank
+ranked None = record { row = 0; counter = 0 }
+ranked (Some d) = d.rank
+
+abbrev pub rank_at : Trace → ℕ → Rank
+rank_at t n = ranked (delivery t n)
 
 -- Tests of a delivery: it waits to start on a link, it is undecided there, its outcome must be reported to its producer.
 abbrev pub waits_on : ℕ → Option Delivery → Bool

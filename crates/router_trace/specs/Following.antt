@@ -15,9 +15,9 @@ use Rattle.router_trace.specs.LinkFrames.{link_flow_item}
 use Rattle.router_trace.specs.Links.{Link, Happened, sends, receives, link, numbered, attachments, is_attached}
 use Rattle.router_trace.specs.Peers.{largest_frame}
 use Rattle.router_trace.specs.Sessions.{session}
-use Rattle.router_trace.specs.Deliveries.{Delivery, has_row, bindings, delivery, sending, named, next_id, stands_on, is_number, is_undecided}
+use Rattle.router_trace.specs.Deliveries.{Delivery, has_row, bindings, delivery, rank_at, sending, named, next_id, stands_on, is_number, is_undecided}
 use Rattle.router_trace.specs.DeliveryFrames.{outcome_item, first_transfer, later_transfer, next_frame, largest_out, rest_of}
-use Rattle.router_trace.specs.Numbers.{first_below, first_placed, Placed}
+use Rattle.router_trace.specs.Numbers.{first_below, first_placed, first_ranked, no_rank, Placed}
 
 -- What is due goes out this many times. Once nothing is due, nothing changes.
 unfoldable pub repeated : (Trace → List Put) → ℕ → Trace → Trace
@@ -39,7 +39,8 @@ first_delivery t passes = first_below (bindings t + 1) (λ n. passes (delivery t
 abbrev pub link_of : Trace → Attachment → Option Link
 link_of t a = link t a.conn.0 a.channel a.handle
 
--- Outcomes for producers: the first bound of the deliveries that are decided and whose producer, still attached, has not been sent the outcome.
+-- Outcomes for producers: the first, in the order of binding, of the deliveries that are decided and whose producer, still attached, has not been sent
+-- the outcome.
 abbrev pub is_still_attached : Trace → Option Origin → Bool
 is_still_attached t None = false
 is_still_attached t (Some p) = is_attached t p.link
@@ -62,7 +63,7 @@ tells_of t None = []
 tells_of t (Some n) = tell (delivery t n)
 
 abbrev pub tells : Trace → List Put
-tells t = tells_of t (first_delivery t (is_to_be_told t))
+tells t = tells_of t (first_ranked (rank_at t) (bindings t + 1) (λ n. is_to_be_told t (delivery t n)))
 
 -- Sends (2.5.6, 2.6.7 and 2.6.12). A delivery that has begun goes on: the router's handle says that more of it is to come.
 abbrev pub goes_on_at : Option Link → ℕ → Option ℕ → ℕ → Bool
@@ -135,9 +136,9 @@ abbrev pub send_of : Trace → Option Placed → List Put
 send_of t None = []
 send_of t (Some p) = send t (delivery t p.number)
 
--- ordered by connection, by the router's channel, then by binding
+-- ordered by connection, by the router's channel, then in the order of binding
 abbrev pub sends_due : Trace → List Put
-sends_due t = send_of t (first_placed (bindings t + 1) (λ n. place_to_go t n (delivery t n)))
+sends_due t = send_of t (first_placed (rank_at t) (bindings t + 1) (λ n. place_to_go t n (delivery t n)))
 
 -- Answers to drains (2.6.7): on a link on which the router sends, if the peer's last flow asks for a drain that is not yet answered and every
 -- delivery bound to the link was sent. The delivery-count advances by the credit left.
@@ -175,4 +176,4 @@ drain_by t (Some p) = drain_on p.place (session t p.place.conn.0 p.place.channel
 
 -- ordered by connection, by the router's channel, then by attach
 abbrev pub drains_due : Trace → List Put
-drains_due t = drain_by t (first_placed (attachments t + 1) (λ n. place_drained t n (numbered t n)))
+drains_due t = drain_by t (first_placed no_rank (attachments t + 1) (λ n. place_drained t n (numbered t n)))

@@ -1,6 +1,8 @@
 -- Numbers that pass a test.
-use Rattle.std.specs.Prelude.{ℕ, zero, suc, ◌+◌, Bool, nat_lt, ◌==◌, ◌&&◌, ◌||◌, if◌then◌else◌, Option, Some, None}
+use Rattle.std.specs.Prelude.{ℕ, zero, suc, ◌+◌, Bool, not, nat_lt, ◌==◌, ◌&&◌, ◌||◌, if◌then◌else◌, Option, Some, None}
+use Rattle.router_trace.specs.declared.binding.Rank.{Rank}
 use Rattle.router_trace.specs.declared.handle.Attachment.{Attachment}
+use Rattle.router_trace.specs.Deliveries.{is_earlier}
 
 -- the first number if there is one, else the second
 abbrev pub or_other : Option ℕ → Option ℕ → Option ℕ
@@ -30,19 +32,35 @@ abbrev pub is_before : Attachment → Attachment → Bool
 is_before a b = nat_lt a.conn.0 b.conn.0 || ((a.conn.0 == b.conn.0) && nat_lt a.channel b.channel)
 
 -- Of the numbers below this one that have a place, the one with the first place, by connection and by the router's channel; among equal places
--- the lowest.
+-- the one with the first rank, and among equal ranks the lowest.
 pub record Placed : Type 0 where
   pub number : ℕ
   pub place : Attachment
 
-abbrev pub better : Option Placed → ℕ → Attachment → Option Placed
-better None n a = Some (record { number = n; place = a })
-better (Some b) n a = if is_before a b.place then Some (record { number = n; place = a }) else Some b
+abbrev pub is_ahead : (ℕ → Rank) → ℕ → Attachment → Placed → Bool
+is_ahead rank n a b = is_before a b.place || (not (is_before b.place a) && is_earlier (rank n) (rank b.number))
 
-abbrev pub or_better : Option Placed → ℕ → Option Attachment → Option Placed
-or_better best n None = best
-or_better best n (Some a) = better best n a
+abbrev pub better : (ℕ → Rank) → Option Placed → ℕ → Attachment → Option Placed
+better rank None n a = Some (record { number = n; place = a })
+better rank (Some b) n a = if is_ahead rank n a b then Some (record { number = n; place = a }) else Some b
 
-unfoldable pub first_placed : ℕ → (ℕ → Option Attachment) → Option Placed
-first_placed zero place = None
-first_placed (suc n) place = or_better (first_placed n place) n (place n)
+abbrev pub or_better : (ℕ → Rank) → Option Placed → ℕ → Option Attachment → Option Placed
+or_better rank best n None = best
+or_better rank best n (Some a) = better rank best n a
+
+unfoldable pub first_placed : (ℕ → Rank) → ℕ → (ℕ → Option Attachment) → Option Placed
+first_placed rank zero place = None
+first_placed rank (suc n) place = or_better rank (first_placed rank n place) n (place n)
+
+-- Of the numbers below this one that pass, the one with the first rank, and among equal ranks the lowest.
+abbrev pub or_earlier : (ℕ → Rank) → Option ℕ → ℕ → Option ℕ
+or_earlier rank None n = Some n
+or_earlier rank (Some m) n = if is_earlier (rank n) (rank m) then Some n else Some m
+
+unfoldable pub first_ranked : (ℕ → Rank) → ℕ → (ℕ → Bool) → Option ℕ
+first_ranked rank zero passes = None
+first_ranked rank (suc n) passes = if passes n then or_earlier rank (first_ranked rank n passes) n else first_ranked rank n passes
+
+-- all have one rank
+abbrev pub no_rank : ℕ → Rank
+no_rank n = record { row = 0; counter = 0 }

@@ -1,6 +1,6 @@
 //! Messages bound to consumer links.
 ghost use Rattle.std.specs.Prelude.{◌≡◌};
-ghost use Rattle.router_trace.specs.Deliveries.{has_row};
+ghost use Rattle.router_trace.specs.Deliveries.{has_row, rank_of, is_earlier};
 
 use crate::handle::Attachment;
 use amqp_model::DeliveryState;
@@ -34,6 +34,40 @@ impl DeliveryName {
             DeliveryName::Row(_) => true,
             DeliveryName::Counter(_) => false,
         }
+    }
+}
+
+/// A delivery's place in the order of binding. A row stands by its number, as often as it is bound; a message without a row stands behind the
+/// last row that was admitted before it, by its counter.
+#[derive(Clone, Copy, Debug, PartialEq, Eq)]
+pub struct Rank {
+    /// The number of its row, or of the last row that was admitted before it.
+    pub row: u64,
+    /// Its counter; 0 of a row.
+    pub counter: u64,
+}
+
+impl DeliveryName {
+    /// The place in the order of binding of a delivery with this name; `last` is the last row that was admitted before it.
+    pub fn rank(self, last: u64) -> Rank
+        ensures { result ≡ rank_of self last }
+    {
+        match self {
+            DeliveryName::Row(row) => Rank {
+                row: row.0,
+                counter: 0,
+            },
+            DeliveryName::Counter(counter) => Rank { row: last, counter },
+        }
+    }
+}
+
+impl Rank {
+    /// Whether it is before another.
+    pub fn is_earlier(self, other: Rank) -> bool
+        ensures { result ≡ is_earlier self other }
+    {
+        self.row < other.row || (self.row == other.row && self.counter < other.counter)
     }
 }
 

@@ -2,6 +2,7 @@ pub mod Fits
 pub mod Emptied
 pub mod Peering
 pub mod Timing
+pub mod Waiting
 pub use Rattle.router_trace.specs.Trace
 pub use Rattle.router_trace.specs.Connection
 pub use Rattle.router_trace.specs.Refusing

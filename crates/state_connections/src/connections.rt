@@ -1,5 +1,6 @@
 //! The table of connections, with their outboxes.
-ghost use Rattle.std.specs.Prelude.{◌≡◌, ◌==◌, ◌≤◌, ◌∷◌, ◌++◌, ℕ, List, [], Some, None, length, nat_eq, nat_lt, true, false, not, filter, option_map, option_and_then, OnOk, OnErr, IfOk, if◌then◌else◌};
+ghost use Rattle.std.specs.Prelude.{◌≡◌, ◌==◌, ◌≤◌, ◌∷◌, ◌++◌, ℕ, List, [], Some, None, length, nat_eq, nat_lt, true, false, not, filter, slice_get, option_map, option_and_then, OnOk, OnErr, IfOk, if◌then◌else◌};
+ghost use Rattle.std.specs.Option.{option_copied};
 ghost use Rattle.state_collections.specs.NumberMap.{at_number};
 ghost use Rattle.router_trace.specs.Trace.{Beginning, Trace};
 ghost use Rattle.router_trace.specs.Configuration.{opened};
@@ -7,6 +8,7 @@ ghost use Rattle.router_trace.specs.Trace.{Entry, Out, Took, did, newest};
 ghost use Rattle.router_trace.specs.Connection.{conn as known, took, standing, is_live, is_full, is_ready, with_item, is_due, has, ended, unless_due, due, phase_before, phase_found};
 ghost use Rattle.state_connections.specs.Emptied.{emptied, NoneWaits};
 ghost use Rattle.state_connections.specs.Fits.{IsBatch, count, ConnectionsFit, ConnectionsAt};
+ghost use Rattle.state_connections.specs.Waiting.{waiting_of};
 ghost use Rattle.router_trace.specs.Refusing.{refuses, rises, is_loss};
 ghost use Rattle.router_trace.specs.declared.event.Event.TheVariants as event;
 
@@ -106,6 +108,26 @@ impl Connections {
         match self.rows.get(conn) {
             None => false,
             Some(row) => row.is_ready(),
+        }
+    }
+
+    /// How many items wait in a connection's outbox.
+    pub fn waits(&self, conn: u64) -> usize
+        ensures { result ≡ length (waiting_of (at_number self.now.rows conn)) }
+    {
+        match self.rows.get(conn) {
+            None => 0,
+            Some(row) => row.waits(),
+        }
+    }
+
+    /// The item at this place of a connection's outbox, counted from 0 at the front.
+    pub fn waiting(&self, conn: u64, place: usize) -> Option<&Item>
+        ensures { option_copied result ≡ slice_get (waiting_of (at_number self.now.rows conn)) place }
+    {
+        match self.rows.get(conn) {
+            None => None,
+            Some(row) => row.waiting(place),
         }
     }
 

@@ -1,5 +1,6 @@
 //! One connection: its phase and its outbox.
-ghost use Rattle.std.specs.Prelude.{◌≡◌, ◌≤◌, is_none, length, take, drop, OnOk, IfOk, None, Some, if◌then◌else◌};
+ghost use Rattle.std.specs.Prelude.{◌≡◌, ◌≤◌, is_none, length, take, drop, slice_get, OnOk, IfOk, None, Some, if◌then◌else◌};
+ghost use Rattle.std.specs.Option.{option_copied};
 ghost use Rattle.router_trace.specs.Connection.{phase_after, after_perf, with_item, ended, fresh, standing, is_full, is_ready, unless_gone, took, Batched};
 ghost use Rattle.std.specs.VecDeque.{deque_len};
 ghost use Rattle.state_connections.specs.Emptied.{emptied};
@@ -108,6 +109,20 @@ impl Row {
         } else {
             !self.waiting.is_empty()
         }
+    }
+
+    /// How many items wait in its outbox.
+    pub fn waits(&self) -> usize
+        ensures { result ≡ length self.now.waiting }
+    {
+        self.waiting.len()
+    }
+
+    /// The item at this place of its outbox, counted from 0 at the front.
+    pub fn waiting(&self, place: usize) -> Option<&Item>
+        ensures { option_copied result ≡ slice_get self.now.waiting place }
+    {
+        self.waiting.get(place)
     }
 
     /// Ends the connection; the items in its outbox stay.

@@ -12,8 +12,9 @@ use Rattle.router_trace.specs.declared.binding.DeliveryName.TheVariants.{Row}
 use Rattle.router_trace.specs.declared.binding.JoinedTo.{JoinedTo}
 use Rattle.router_trace.specs.declared.binding.JoinedTo.TheVariants.{New}
 use Rattle.router_trace.specs.declared.binding.Origin.{Origin}
+use Rattle.router_trace.specs.declared.binding.Rank.{Rank}
 use Rattle.router_trace.specs.Trace.{Trace, Bound}
-use Rattle.router_trace.specs.Deliveries.{Delivery, bindings, bound, called, joined, joined_by, joined_to, joining, joins_standing, name_in, unless_called, with_binding, delivery, sending, named}
+use Rattle.router_trace.specs.Deliveries.{Delivery, bindings, bound, called, joined, joined_by, joined_to, joining, joins_standing, name_in, unless_called, with_binding, delivery, sending, named, rank_in}
 use Rattle.state_deliveries.specs.declared.deliveries.Deliveries.{Deliveries}
 use Rattle.state_deliveries.specs.declared.names.Names.{Names}
 use Rattle.state_deliveries.specs.declared.sending.Sending.{Sending}
@@ -35,17 +36,19 @@ pub joins_none : (j : Option Origin) → is_none j ≡ true → j ≡ None
 joins_none None e = refl
 joins_none (Some p) e = absurd cc
 
-pub store_bound : (s u : Store) (b : Binding) (t : Trace) (number : ℕ) (name : DeliveryName) → is_none (joins_standing b.kind) ≡ true → number ≡ bindings t + 1 → name ≡ name_in t b
+pub store_bound : (s u : Store) (b : Binding) (t : Trace) (number : ℕ) (name : DeliveryName) (rank : Rank) → is_none (joins_standing b.kind) ≡ true → number ≡ bindings t + 1 → name ≡ name_in t b
+    → rank ≡ rank_in t b
     → StoreFit s t
-    → (Indexed s → (n : ℕ) → at_number u.deliveries n ≡ (if number == n then Some (bound name b) else unless_called name (at_number s.deliveries n)))
+    → (Indexed s → (n : ℕ) → at_number u.deliveries n ≡ (if number == n then Some (bound name rank b) else unless_called name (at_number s.deliveries n)))
     → (at_number s.deliveries number ≡ None → Indexed s → Indexed u) → StoreFit u (Bound b ∷ t)
-store_bound s u b t number name new is_number is_name fit deliveries indexed = record {
+store_bound s u b t number name rank new is_number is_name is_rank fit deliveries indexed = record {
   deliveries = λ n.
       deliveries fit.indexed n
-      ∙ ap (λ (v : Option Delivery). if number == n then Some (bound name b) else unless_called name v) (fit.deliveries n)
-      ∙ ap (λ k. if k == n then Some (bound name b) else unless_called name (delivery t n)) is_number
-      ∙ ap (λ x. if bindings t + 1 == n then Some (bound x b) else unless_called x (delivery t n)) is_name
-      ∙ sym (ap (λ (j : Option Origin). with_binding j (name_in t b) b (bindings t + 1 == n) (delivery t n)) (joins_none (joins_standing b.kind) new));
+      ∙ ap (λ (v : Option Delivery). if number == n then Some (bound name rank b) else unless_called name v) (fit.deliveries n)
+      ∙ ap (λ k. if k == n then Some (bound name rank b) else unless_called name (delivery t n)) is_number
+      ∙ ap (λ x. if bindings t + 1 == n then Some (bound x rank b) else unless_called x (delivery t n)) is_name
+      ∙ ap (λ r. if bindings t + 1 == n then Some (bound (name_in t b) r b) else unless_called (name_in t b) (delivery t n)) is_rank
+      ∙ sym (ap (λ (j : Option Origin). with_binding j (name_in t b) (rank_in t b) b (bindings t + 1 == n) (delivery t n)) (joins_none (joins_standing b.kind) new));
   indexed = indexed (fit.deliveries number ∙ none_beyond t number (above (bindings t) number is_number)) fit.indexed;
 }
   where
@@ -60,7 +63,7 @@ store_joined s u b t p name is is_name fit deliveries indexed = record {
       deliveries fit.indexed n
       ∙ ap (option_map (joined name p)) (fit.deliveries n)
       ∙ ap (λ x. option_map (joined x p) (delivery t n)) is_name
-      ∙ sym (ap (λ (j : Option Origin). with_binding j (name_in t b) b (bindings t + 1 == n) (delivery t n)) is);
+      ∙ sym (ap (λ (j : Option Origin). with_binding j (name_in t b) (rank_in t b) b (bindings t + 1 == n) (delivery t n)) is);
   indexed = indexed fit.indexed;
 }
 
@@ -76,14 +79,15 @@ there_is : (s : Store) (t : Trace) (row : RowNumber) (found : Bool) → StoreFit
 there_is s t row found fit is = sym (is ∙ ap (λ (v : Option Delivery). is_some v) (called_fits s.by_name (at_number s.deliveries) t (Row row) fit.deliveries fit.indexed.called))
 
 -- one has it
-pub joined_fits : (s u : Deliveries) (t : Trace) (p : Origin) (row : RowNumber) (outcome : Option DeliveryState) → u.bindings ≡ s.bindings → u.counters ≡ s.counters
+pub joined_fits : (s u : Deliveries) (t : Trace) (p : Origin) (row : RowNumber) (outcome : Option DeliveryState) → u.bindings ≡ s.bindings → u.counters ≡ s.counters → u.last_row ≡ s.last_row
     → u.sending ≡ s.sending → u.names ≡ s.names → u.next_ids ≡ s.next_ids
     → true ≡ is_some (option_and_then (at_number s.store.deliveries) (at_name s.store.by_name (Row row)))
     → (Indexed s.store → (n : ℕ) → at_number u.store.deliveries n ≡ option_map (joined (Row row) p) (at_number s.store.deliveries n))
     → (Indexed s.store → Indexed u.store) → DeliveriesFit s t → DeliveriesFit u (Bound (joined_by t p row outcome) ∷ t)
-joined_fits s u t p row outcome bindings_are counters_are sending_is names_are ids_are found deliveries indexed fit = record {
+joined_fits s u t p row outcome bindings_are counters_are row_is sending_is names_are ids_are found deliveries indexed fit = record {
   bindings = bindings_are ∙ fit.bindings ∙ sym (ap (λ (j : Option Origin). if is_none j then bindings t + 1 else bindings t) is);
   counters = counters_are ∙ fit.counters;
+  last_row = row_is ∙ fit.last_row;
   store = store_joined s.store u.store (joined_by t p row outcome) t p (Row row) is refl fit.store deliveries indexed;
   sending = subst (λ x. SendingFit x (Bound (joined_by t p row outcome) ∷ t)) (sym sending_is) (sending_bound s.sending (joined_by t p row outcome) t fit.sending);
   names = subst (λ x. NamesFit x (Bound (joined_by t p row outcome) ∷ t)) (sym names_are) (names_bound s.names (joined_by t p row outcome) t fit.names);
@@ -94,14 +98,15 @@ joined_fits s u t p row outcome bindings_are counters_are sending_is names_are i
     is = to_standing (called t (Row row)) p outcome (there_is s.store t row true fit.store found)
 
 -- none has it, so nothing has changed yet
-pub unjoined_fits : (s u : Deliveries) (t : Trace) (p : Origin) (row : RowNumber) → u.bindings ≡ s.bindings → u.counters ≡ s.counters
+pub unjoined_fits : (s u : Deliveries) (t : Trace) (p : Origin) (row : RowNumber) → u.bindings ≡ s.bindings → u.counters ≡ s.counters → u.last_row ≡ s.last_row
     → u.sending ≡ s.sending → u.names ≡ s.names → u.next_ids ≡ s.next_ids
     → false ≡ is_some (option_and_then (at_number s.store.deliveries) (at_name s.store.by_name (Row row)))
     → (Indexed s.store → (n : ℕ) → at_number u.store.deliveries n ≡ option_map (joined (Row row) p) (at_number s.store.deliveries n))
     → (Indexed s.store → Indexed u.store) → DeliveriesFit s t → DeliveriesFit u t
-unjoined_fits s u t p row bindings_are counters_are sending_is names_are ids_are found deliveries indexed fit = record {
+unjoined_fits s u t p row bindings_are counters_are row_is sending_is names_are ids_are found deliveries indexed fit = record {
   bindings = bindings_are ∙ fit.bindings;
   counters = counters_are ∙ fit.counters;
+  last_row = row_is ∙ fit.last_row;
   store = record {
     deliveries = λ n. deliveries fit.store.indexed n
         ∙ unjoined (Row row) p (at_number s.store.deliveries n)

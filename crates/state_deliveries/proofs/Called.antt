@@ -16,12 +16,13 @@ use Rattle.router_trace.specs.declared.binding.Binding.{Binding}
 use Rattle.router_trace.specs.declared.binding.DeliveryName.{DeliveryName}
 use Rattle.router_trace.specs.declared.binding.DeliveryName.TheVariants.{Row, Counter}
 use Rattle.router_trace.specs.declared.binding.Origin.{Origin}
+use Rattle.router_trace.specs.declared.binding.Rank.{Rank}
 use Rattle.router_trace.specs.declared.event.Event.{Event}
 use Rattle.router_trace.specs.declared.event.Event.TheVariants as event
 use Rattle.router_trace.specs.declared.channel.PeerChannel.{PeerChannel}
 use Rattle.router_trace.specs.declared.handle.Attachment.{Attachment}
 use Rattle.router_trace.specs.Trace.{Trace, Did, Out, Took, Bound, Booked, Began}
-use Rattle.router_trace.specs.Deliveries.{Delivery, called, source, delivery, bindings, bound, joins_standing, with_binding, same_name, name_in, number_named, unless_over, unless_called, is_over, untold, unsettled, ended, decided_at_end, suspended_at_end, closes, after_ends, is_gone_with, after_frame, put_in, after_put, told, decided, is_undecided, is_meant, is_named, is_number, carried, tag_in, disposed, is_on, is_settled_at, heard_in, heard, after_event, ended_by, lost_with, origin_id, sending, named, decision, terminal, sender, forsaken, channels_found, acts_found}
+use Rattle.router_trace.specs.Deliveries.{Delivery, called, source, delivery, bindings, bound, joins_standing, with_binding, same_name, name_in, number_named, unless_over, unless_called, is_over, untold, unsettled, ended, decided_at_end, suspended_at_end, closes, after_ends, is_gone_with, after_frame, put_in, after_put, told, decided, is_undecided, is_meant, is_named, is_number, carried, tag_in, disposed, is_on, is_settled_at, heard_in, heard, after_event, ended_by, lost_with, origin_id, sending, named, decision, terminal, sender, forsaken, channels_found, acts_found, rank_in}
 use Rattle.state_deliveries.specs.declared.by_name.ByName.{ByName}
 use Rattle.state_deliveries.specs.declared.change.Change.{Change}
 use Rattle.state_deliveries.specs.declared.change.Change.TheVariants as change
@@ -167,19 +168,19 @@ there_named (Bound b ∷ t) n d e = by_kind (joins_standing b.kind) e (there_nam
     of None = newest
     of (Some x) = x.name
 
-    by_test : (q : Bool) → (bindings t + 1 == n) ≡ q → (if bindings t + 1 == n then Some (bound newest b) else unless_called newest (delivery t n)) ≡ Some d
+    by_test : (q : Bool) → (bindings t + 1 == n) ≡ q → (if bindings t + 1 == n then Some (bound newest (rank_in t b) b) else unless_called newest (delivery t n)) ≡ Some d
         → (delivery t n ≡ Some d → number_named t d.name ≡ Some n) → (if same_name newest d.name then Some (bindings t + 1) else number_named t d.name) ≡ Some n
     by_test true q f rest =
-        let there : Some (bound newest b) ≡ Some d = sym (ap (λ (x : Bool). if x then Some (bound newest b) else unless_called newest (delivery t n)) q) ∙ f in
+        let there : Some (bound newest (rank_in t b) b) ≡ Some d = sym (ap (λ (x : Bool). if x then Some (bound newest (rank_in t b) b) else unless_called newest (delivery t n)) q) ∙ f in
         let name : newest ≡ d.name = ap of there in
         ap (λ x. if same_name newest x then Some (bindings t + 1) else number_named t x) (sym name)
         ∙ ap (λ x. if x then Some (bindings t + 1) else number_named t newest) (same_itself newest)
         ∙ ap Some (eqb-true (bindings t + 1) n q)
     by_test false q f rest =
-        let old = uncalled newest (delivery t n) d (sym (ap (λ (x : Bool). if x then Some (bound newest b) else unless_called newest (delivery t n)) q) ∙ f) in
+        let old = uncalled newest (delivery t n) d (sym (ap (λ (x : Bool). if x then Some (bound newest (rank_in t b) b) else unless_called newest (delivery t n)) q) ∙ f) in
         ap (λ x. if x then Some (bindings t + 1) else number_named t d.name) (same_back newest d.name ∙ old.1) ∙ rest old.0
 
-    by_kind : (j : Option Origin) → with_binding j newest b (bindings t + 1 == n) (delivery t n) ≡ Some d
+    by_kind : (j : Option Origin) → with_binding j newest (rank_in t b) b (bindings t + 1 == n) (delivery t n) ≡ Some d
         → ((x : Delivery) → delivery t n ≡ Some x → number_named t x.name ≡ Some n)
         → (if is_none j && same_name newest d.name then Some (bindings t + 1) else number_named t d.name) ≡ Some n
     by_kind None f rest = by_test (bindings t + 1 == n) refl f (rest d)
@@ -338,21 +339,21 @@ none_called name (Some d) = by_test (same_name d.name name) refl
     by_test false e = e
 
 -- a delivery was added, under a name that no other has
-pub called_more : (s next : ByName) (m : ℕ) (newest : DeliveryName) (b : Binding) (old new : ℕ → Option Delivery) → old m ≡ None → ((n : ℕ) → is_called newest (old n) ≡ false)
-    → ((n : ℕ) → new n ≡ (if m == n then Some (bound newest b) else old n))
+pub called_more : (s next : ByName) (m : ℕ) (newest : DeliveryName) (rank : Rank) (b : Binding) (old new : ℕ → Option Delivery) → old m ≡ None → ((n : ℕ) → is_called newest (old n) ≡ false)
+    → ((n : ℕ) → new n ≡ (if m == n then Some (bound newest rank b) else old n))
     → ((name : DeliveryName) → at_name next name ≡ (if same_name newest name then Some m else at_name s name))
     → AreCalled s old → AreCalled next new
-called_more s next m newest b old new none alone back is called = λ name n.
+called_more s next m newest rank b old new none alone back is called = λ name n.
     ap (λ v. is_number v n) (is name) ∙ by_tests name n (m == n) (same_name newest name) refl refl ∙ ap (is_called name) (sym (back n))
   where
     cases : (name : DeliveryName) (n : ℕ) (here q : Bool) → (m == n) ≡ here → same_name newest name ≡ q
-        → is_number (if q then Some m else at_name s name) n ≡ is_called name (if here then Some (bound newest b) else old n)
+        → is_number (if q then Some m else at_name s name) n ≡ is_called name (if here then Some (bound newest rank b) else old n)
     cases name n true true g f = g ∙ sym f
     cases name n true false g f = called name n ∙ ap (λ k. is_called name (old k)) (sym (eqb-true m n g)) ∙ ap (is_called name) none ∙ sym f
     cases name n false true g f = g ∙ sym (alone n) ∙ ap (λ x. is_called x (old n)) (same_is newest name f)
     cases name n false false g f = called name n
 
     by_tests : (name : DeliveryName) (n : ℕ) (here q : Bool) → (m == n) ≡ here → same_name newest name ≡ q
-        → is_number (if same_name newest name then Some m else at_name s name) n ≡ is_called name (if m == n then Some (bound newest b) else old n)
+        → is_number (if same_name newest name then Some m else at_name s name) n ≡ is_called name (if m == n then Some (bound newest rank b) else old n)
     by_tests name n here q g f =
-        ap (λ x. is_number (if x then Some m else at_name s name) n) f ∙ cases name n here q g f ∙ sym (ap (λ x. is_called name (if x then Some (bound newest b) else old n)) g)
+        ap (λ x. is_number (if x then Some m else at_name s name) n) f ∙ cases name n here q g f ∙ sym (ap (λ x. is_called name (if x then Some (bound newest rank b) else old n)) g)

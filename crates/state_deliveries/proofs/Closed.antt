@@ -20,7 +20,7 @@ use Rattle.router_trace.specs.declared.event.Event.TheVariants as event
 use Rattle.router_trace.specs.declared.channel.PeerChannel.{PeerChannel}
 use Rattle.router_trace.specs.declared.handle.Attachment.{Attachment}
 use Rattle.router_trace.specs.Trace.{Entry, Trace, Did, Out, Took, Booked, Bound, Began}
-use Rattle.router_trace.specs.Deliveries.{Delivery, source, delivery, bindings, bound, joined, joins_standing, with_binding, with_origin, name_in, same_name, number_named, unless_called, unless_over, is_over, is_undecided, after_ends, is_gone_with, ended, decided_at_end, suspended_at_end, untold, unsettled, failed, closes, after_put, after_frame, after_event, put_in, is_number, carried, tag_in, told, is_meant, origin_id, heard, heard_in, given, outcome_named, outcome_or, disposed, decided, is_settled_at, is_on, ended_by, lost_with, named, sending, sender, forsaken, channels_found, acts_found}
+use Rattle.router_trace.specs.Deliveries.{Delivery, source, delivery, bindings, bound, joined, joins_standing, with_binding, with_origin, name_in, same_name, number_named, unless_called, unless_over, is_over, is_undecided, after_ends, is_gone_with, ended, decided_at_end, suspended_at_end, untold, unsettled, failed, closes, after_put, after_frame, after_event, put_in, is_number, carried, tag_in, told, is_meant, origin_id, heard, heard_in, given, outcome_named, outcome_or, disposed, decided, is_settled_at, is_on, ended_by, lost_with, named, sending, sender, forsaken, channels_found, acts_found, rank_in}
 use Rattle.amqp_model.specs.declared.state.DeliveryState.TheVariants as state
 use Rattle.state_deliveries.specs.Naming.{is_open}
 
@@ -142,7 +142,7 @@ stays_closed (Bound b) t n there closed = by_kind (joins_standing b.kind)
         by_test true = refl
         by_test false = e
 
-    fresh : (new : Bool) → (bindings t + 1 == n) ≡ new → is_open (if new then Some (bound (name_in t b) b) else unless_called (name_in t b) (delivery t n)) ≡ false
+    fresh : (new : Bool) → (bindings t + 1 == n) ≡ new → is_open (if new then Some (bound (name_in t b) (rank_in t b) b) else unless_called (name_in t b) (delivery t n)) ≡ false
     fresh true e = let is : bindings t + 1 ≡ n = eqb-true (bindings t + 1) n e in absurd (omega (arith, is, there))
     fresh false e = uncalled (delivery t n) closed
 
@@ -154,6 +154,6 @@ stays_closed (Bound b) t n there closed = by_kind (joins_standing b.kind)
         by_test true = e
         by_test false = e
 
-    by_kind : (j : Option Origin) → is_open (with_binding j (name_in t b) b (bindings t + 1 == n) (delivery t n)) ≡ false
+    by_kind : (j : Option Origin) → is_open (with_binding j (name_in t b) (rank_in t b) b (bindings t + 1 == n) (delivery t n)) ≡ false
     by_kind None = fresh (bindings t + 1 == n) refl
     by_kind (Some p) = rejoined p (delivery t n) closed

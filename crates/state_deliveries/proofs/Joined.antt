@@ -10,6 +10,7 @@ use Rattle.router_trace.specs.declared.binding.BindingKind.TheVariants as kind
 use Rattle.router_trace.specs.declared.binding.DeliveryName.{DeliveryName}
 use Rattle.router_trace.specs.declared.binding.JoinedTo.TheVariants.{New}
 use Rattle.router_trace.specs.declared.binding.Origin.{Origin}
+use Rattle.router_trace.specs.declared.binding.Rank.{Rank}
 use Rattle.router_trace.specs.declared.binding.Resumed.{Resumed}
 use Rattle.router_trace.specs.declared.binding.Resumed.TheVariants.{Settled, Again, Anew, Kept}
 use Rattle.router_trace.specs.Deliveries.{Delivery, bound, brought, either_origin, goes_out, is_number, is_over, is_put_off, is_sent, joined, joined_to, joins_standing, origin_of, outcome_as, outcome_in, outcome_known, same_name, unless_over, with_origin}
@@ -40,8 +41,8 @@ never_over (kind.Joined p to) = by_outcome (outcome_known to)
     by_outcome None = refl
     by_outcome (Some s) = refl
 
-pub bound_kept : (name : DeliveryName) (b : Binding) → IsKept (Some (bound name b))
-bound_kept name b = ap (λ (x : Bool). if x then None else Some (bound name b)) (never_over b.kind)
+pub bound_kept : (name : DeliveryName) (rank : Rank) (b : Binding) → IsKept (Some (bound name rank b))
+bound_kept name rank b = ap (λ (x : Bool). if x then None else Some (bound name rank b)) (never_over b.kind)
 
 -- nor is what has a producer's delivery
 origin_holds : (p : Origin) (d : Delivery) → is_over (with_origin p d) ≡ false

@@ -15,7 +15,7 @@ use Rattle.amqp_model.specs.declared.item.Item.TheVariants as item
 use Rattle.router_trace.specs.declared.binding.DeliveryName.{DeliveryName}
 use Rattle.router_trace.specs.declared.binding.Origin.{Origin}
 use Rattle.router_trace.specs.Trace.{Entry, Trace, Did, Out, Took, Bound, Booked, Began}
-use Rattle.router_trace.specs.Deliveries.{Delivery, delivery, bindings, bound, joined, joins_standing, with_binding, name_in, number_named, unless_over, unless_called, after_event, after_put, is_number, tagged, number_tagged, carried, tag_in, sending, sending_in, sending_by, named, channels_found, acts_found}
+use Rattle.router_trace.specs.Deliveries.{Delivery, delivery, bindings, bound, joined, joins_standing, with_binding, name_in, number_named, unless_over, unless_called, after_event, after_put, is_number, tagged, number_tagged, carried, tag_in, sending, sending_in, sending_by, named, channels_found, acts_found, rank_in}
 use Rattle.state_deliveries.specs.Calling.{IsGone, Knows}
 use Rattle.state_deliveries.specs.Fits.{carried_in, carried_by}
 use Rattle.state_deliveries.proofs.Low.{IsLow}
@@ -35,9 +35,9 @@ gone_stays (Bound b) t n low gone = by_kind (joins_standing b.kind)
     apart : (k n : ℕ) → n ≤ k → (k + 1 == n) ≡ false
     apart k n low = grind (arith, nat_tests)
 
-    by_kind : (j : Option Origin) → with_binding j (name_in t b) b (bindings t + 1 == n) (delivery t n) ≡ None
+    by_kind : (j : Option Origin) → with_binding j (name_in t b) (rank_in t b) b (bindings t + 1 == n) (delivery t n) ≡ None
     by_kind None =
-        ap (λ x. if x then Some (bound (name_in t b) b) else unless_called (name_in t b) (delivery t n)) (apart (bindings t) n low) ∙ ap (unless_called (name_in t b)) gone
+        ap (λ x. if x then Some (bound (name_in t b) (rank_in t b) b) else unless_called (name_in t b) (delivery t n)) (apart (bindings t) n low) ∙ ap (unless_called (name_in t b)) gone
     by_kind (Some p) = ap (option_map (joined (name_in t b) p)) gone
 
 pub still_known : (e : Entry) (t : Trace) (a b : Option ℕ) → IsLow (bindings t) b → Knows (delivery t) a b → Knows (delivery (e ∷ t)) a b

@@ -20,7 +20,7 @@ pub mod Numbers
 mod Asked
 pub mod Touching
 mod Above
-mod Pairs
+mod Entries
 pub mod Unsent
 mod Opened
 pub mod Listed

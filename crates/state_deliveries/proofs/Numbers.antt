@@ -1,39 +1,15 @@
--- The first of the deliveries that pass a test, and how many there are, among all that were bound.
-use Rattle.std.proofs.Common.{◌≡◌, ◌∙◌, ◌<◌, ◌≤◌, ◌+◌, ℕ, zero, suc, Bool, true, false, refl, sym, ap, arith, [], ◌∷◌, Option, Some, None}
+-- Which numbers deliveries have, and how many of them pass a test.
+use Rattle.std.proofs.Common.{◌≡◌, ◌∙◌, ◌<◌, ◌+◌, ℕ, Bool, true, false, refl, sym, ap, arith, [], ◌∷◌, Option, Some, None}
 use Rattle.std.specs.Prelude.{◌==◌, nat_lt, if◌then◌else◌}
 use Rattle.std.specs.Option.{is_none, option_and_then, option_map}
-use Rattle.std.proofs.lemmas.Bool.{eqb-true, ltb-true}
+use Rattle.std.proofs.lemmas.Bool.{ltb-true}
 use Rattle.std.proofs.lemmas.Bool.Decides.{nat_tests}
 use Rattle.router_trace.specs.Trace.{Trace, Did, Out, Took, Bound, Booked, Began}
 use Rattle.router_trace.specs.declared.binding.Origin.{Origin}
 use Rattle.router_trace.specs.Counting.{IsCount}
-use Rattle.router_trace.specs.Deliveries.{Delivery, delivery, bindings, bound as fresh_delivery, joined, joins_standing, with_binding, name_in, number_named, unless_called, sending, named, unless_over, after_event, after_put, channels_found, acts_found}
-use Rattle.router_trace.specs.Following.{first_delivery}
-use Rattle.router_trace.specs.Numbers.{first_below, or_other, if_passes}
-use Rattle.router_trace.proofs.Numbers.{not_true, none_below, count_is}
-use Rattle.state_deliveries.specs.Finding.{IsFirst, count_deliveries}
-
--- the first below a bound
-one_below : (bound n : ℕ) (passes : ℕ → Bool) → n < bound → passes n ≡ true → ((m : ℕ) → m < n → passes m ≡ false) → first_below bound passes ≡ Some n
-unfolding first_below
-one_below zero n passes l p none = absurd (omega (arith, l))
-one_below (suc b) n passes l p none = by_test (n == b) refl (λ k. one_below b n passes k p none)
-  where
-    by_test : (t : Bool) → (n == b) ≡ t → (n < b → first_below b passes ≡ Some n) → or_other (first_below b passes) (if_passes (passes b) b) ≡ Some n
-    by_test true e below =
-        let is : n ≡ b = eqb-true n b e in
-        ap (λ v. or_other v (if_passes (passes b) b)) (none_below b passes (λ m k. none m (omega (arith, k, is))))
-        ∙ ap (λ t. if_passes t b) (ap passes (sym is) ∙ p) ∙ ap Some (sym is)
-    by_test false e below = ap (λ v. or_other v (if_passes (passes b) b)) (below (less n b l e))
-      where
-        less : (n b : ℕ) → n < suc b → (n == b) ≡ false → n < b
-        less n b l e = grind (arith, nat_tests)
-
--- The first of all numbers that pass is the first below any bound on them.
-pub first_is : (bound : ℕ) (passes : ℕ → Bool) → ((n : ℕ) → passes n ≡ true → n < bound) → (r : Option ℕ) → IsFirst passes r → r ≡ first_below bound passes
-first_is bound passes low None x = sym (none_below bound passes (λ n l. x n))
-first_is bound passes low (Some n) x =
-    sym (one_below bound n passes (low n x.0) x.0 (λ m l. not_true (passes m) (λ e. let le : n ≤ m = x.1 m e in absurd (omega (arith, le, l)))))
+use Rattle.router_trace.specs.Deliveries.{Delivery, delivery, bindings, bound as fresh_delivery, joined, joins_standing, with_binding, name_in, number_named, unless_called, sending, named, unless_over, after_event, after_put, channels_found, acts_found, rank_in}
+use Rattle.router_trace.proofs.Numbers.{count_is}
+use Rattle.state_deliveries.specs.Finding.{count_deliveries}
 
 -- Only binding numbers have deliveries: from 1 to the number of bindings.
 abbrev none_is : (f : Delivery → Option Delivery) (v : Option Delivery) → v ≡ None → option_and_then f v ≡ None
@@ -60,9 +36,9 @@ none_beyond (Bound b ∷ t) n l = by_kind (joins_standing b.kind) l (none_beyond
     below false k n l = l
 
     by_kind : (j : Option Origin) → (if is_none j then bindings t + 1 else bindings t) < n → delivery t n ≡ None
-        → with_binding j (name_in t b) b (bindings t + 1 == n) (delivery t n) ≡ None
+        → with_binding j (name_in t b) (rank_in t b) b (bindings t + 1 == n) (delivery t n) ≡ None
     by_kind None l none =
-        fresh (bindings t + 1 == n) (Some (fresh_delivery (name_in t b) b)) (unless_called (name_in t b) (delivery t n)) (apart (bindings t) n l) (ap (unless_called (name_in t b)) none)
+        fresh (bindings t + 1 == n) (Some (fresh_delivery (name_in t b) (rank_in t b) b)) (unless_called (name_in t b) (delivery t n)) (apart (bindings t) n l) (ap (unless_called (name_in t b)) none)
     by_kind (Some p) l none = ap (option_map (joined (name_in t b) p)) none
 
 pub none_before : (t : Trace) → delivery t 0 ≡ None
@@ -77,9 +53,9 @@ none_before (Bound b ∷ t) = by_kind (joins_standing b.kind) (none_before t)
     apart : (k : ℕ) → (k + 1 == 0) ≡ false
     apart k = grind (arith, nat_tests)
 
-    by_kind : (j : Option Origin) → delivery t 0 ≡ None → with_binding j (name_in t b) b (bindings t + 1 == 0) (delivery t 0) ≡ None
+    by_kind : (j : Option Origin) → delivery t 0 ≡ None → with_binding j (name_in t b) (rank_in t b) b (bindings t + 1 == 0) (delivery t 0) ≡ None
     by_kind None none =
-        fresh (bindings t + 1 == 0) (Some (fresh_delivery (name_in t b) b)) (unless_called (name_in t b) (delivery t 0)) (apart (bindings t)) (ap (unless_called (name_in t b)) none)
+        fresh (bindings t + 1 == 0) (Some (fresh_delivery (name_in t b) (rank_in t b) b)) (unless_called (name_in t b) (delivery t 0)) (apart (bindings t)) (ap (unless_called (name_in t b)) none)
     by_kind (Some p) none = ap (option_map (joined (name_in t b) p)) none
 
 -- so a number that passes is among them
@@ -94,9 +70,6 @@ stands_below t passes none n e = by_test (nat_lt (bindings t) n) refl
         let wrong : true ≡ false = sym e ∙ ap passes (none_beyond t n (ltb-true (bindings t) n f)) ∙ none in
         absurd cc
     by_test false f = not_less (bindings t) n f
-
-pub first_delivery_is : (t : Trace) (passes : Option Delivery → Bool) → passes None ≡ false → (r : Option ℕ) → IsFirst (λ n. passes (delivery t n)) r → r ≡ first_delivery t passes
-first_delivery_is t passes none r x = first_is (bindings t + 1) (λ n. passes (delivery t n)) (stands_below t passes none) r x
 
 pub count_deliveries_is : (t : Trace) (passes : Option Delivery → Bool) → passes None ≡ false → (k : ℕ) → IsCount (λ n. passes (delivery t n)) k → k ≡ count_deliveries t passes
 count_deliveries_is t passes none k x = count_is (bindings t + 1) (λ n. passes (delivery t n)) (stands_below t passes none) k x

@@ -16,7 +16,7 @@ use Rattle.router_trace.specs.declared.binding.DeliveryName.{DeliveryName}
 use Rattle.router_trace.specs.declared.binding.Origin.{Origin}
 use Rattle.router_trace.specs.declared.handle.Attachment.{Attachment}
 use Rattle.router_trace.specs.Trace.{Trace, Did, Out, Took, Bound, Booked, Began}
-use Rattle.router_trace.specs.Deliveries.{Delivery, source, delivery, named, after_event, bindings, bound, joined, joins_standing, with_binding, with_origin, name_in, same_name, number_named, unless_called, unless_over, is_over, after_ends, after_put, after_frame, put_in, ended_by, is_number, carried, tag_in, told, is_meant, origin_id, stands_on, untold, unsettled, last_of, sending, sender, channels_found, acts_found}
+use Rattle.router_trace.specs.Deliveries.{Delivery, source, delivery, named, after_event, bindings, bound, joined, joins_standing, with_binding, with_origin, name_in, same_name, number_named, unless_called, unless_over, is_over, after_ends, after_put, after_frame, put_in, ended_by, is_number, carried, tag_in, told, is_meant, origin_id, stands_on, untold, unsettled, last_of, sending, sender, channels_found, acts_found, rank_in}
 use Rattle.state_deliveries.specs.declared.change.Change.{Change}
 use Rattle.state_deliveries.specs.declared.change.Change.TheVariants as change
 use Rattle.state_deliveries.specs.declared.change.Gone.TheVariants as gone
@@ -55,8 +55,8 @@ kept (Bound b ∷ t) n = by_kind (joins_standing b.kind) (kept t n)
         by_test true = refl
         by_test false = keeps
 
-    fresh : (new : Bool) → IsKept (delivery t n) → IsKept (if new then Some (bound (name_in t b) b) else unless_called (name_in t b) (delivery t n))
-    fresh true keeps = bound_kept (name_in t b) b
+    fresh : (new : Bool) → IsKept (delivery t n) → IsKept (if new then Some (bound (name_in t b) (rank_in t b) b) else unless_called (name_in t b) (delivery t n))
+    fresh true keeps = bound_kept (name_in t b) (rank_in t b) b
     fresh false keeps = uncalled (delivery t n) keeps
 
     rejoined : (p : Origin) (v : Option Delivery) → IsKept v → IsKept (option_map (joined (name_in t b) p) v)
@@ -67,7 +67,7 @@ kept (Bound b ∷ t) n = by_kind (joins_standing b.kind) (kept t n)
         by_test true = origin_kept p d
         by_test false = keeps
 
-    by_kind : (j : Option Origin) → IsKept (delivery t n) → IsKept (with_binding j (name_in t b) b (bindings t + 1 == n) (delivery t n))
+    by_kind : (j : Option Origin) → IsKept (delivery t n) → IsKept (with_binding j (name_in t b) (rank_in t b) b (bindings t + 1 == n) (delivery t n))
     by_kind None keeps = fresh (bindings t + 1 == n) keeps
     by_kind (Some p) keeps = rejoined p (delivery t n) keeps
 

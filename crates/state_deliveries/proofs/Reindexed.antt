@@ -2,10 +2,11 @@
 use Rattle.std.proofs.Common.{◌≡◌, ◌∙◌, ℕ, Bool, true, false, refl, sym, ap, Option}
 use Rattle.std.specs.Prelude.{◌==◌, if◌then◌else◌}
 use Rattle.std.proofs.lemmas.Bool.{eqb-true}
-use Rattle.router_trace.specs.Deliveries.{Delivery, is_number}
-use Rattle.state_collections.specs.NumberSet.{has as is_marked}
+use Rattle.router_trace.specs.declared.binding.Rank.{Rank}
+use Rattle.router_trace.specs.Deliveries.{Delivery}
 use Rattle.state_deliveries.specs.declared.by_id.ById.{ById}
-use Rattle.state_deliveries.specs.declared.by_link.ByLink.{ByLink}
+use Rattle.state_deliveries.specs.declared.by_rank.ByRank.{ByRank}
+use Rattle.state_deliveries.specs.declared.by_rank.Turn.{Turn}
 use Rattle.state_deliveries.specs.declared.consumers.Consumers.{Consumers}
 use Rattle.state_deliveries.specs.declared.handles.Handles.{Handles}
 use Rattle.state_deliveries.specs.declared.index.Index.{Index}
@@ -13,8 +14,9 @@ use Rattle.state_deliveries.specs.declared.index.Keys.{Keys}
 use Rattle.state_deliveries.specs.declared.spots.Spot.{Spot}
 use Rattle.state_deliveries.specs.declared.spots.Spots.{Spots}
 use Rattle.state_deliveries.specs.declared.tallies.Tallies.{Tallies}
-use Rattle.state_deliveries.specs.Indexing.{Indexes, standing, in_group}
+use Rattle.state_deliveries.specs.Indexing.{Indexes, standing}
 use Rattle.state_deliveries.specs.Placing.{SpotsFit, HandlesFit, IdsFit}
+use Rattle.state_deliveries.specs.Ranking.{in_group, is_turn}
 use Rattle.state_deliveries.specs.Tallying.{IsTallied, AreTallied}
 use Rattle.state_deliveries.proofs.Handled.{handles_same}
 use Rattle.state_deliveries.proofs.Identified.{ids_same}
@@ -25,9 +27,9 @@ pub indexes_same : (s : Index) (f g : ℕ → Keys) → ((n : ℕ) → f n ≡ g
 indexes_same s f g same x = record {
   consumers = all_same s.consumers (λ n. (f n).waiting) (λ n. (g n).waiting) (λ n. (f n).undecided) (λ n. (g n).undecided)
       (λ n. ap (λ (q : Keys). q.waiting) (same n)) (λ n. ap (λ (q : Keys). q.undecided) (same n)) x.consumers;
-  unsent = λ k n. x.unsent k n ∙ ap (λ (q : Keys). is_number q.unsent k) (same n);
+  unsent = λ k r n. x.unsent k r n ∙ ap (λ (q : Keys). is_turn q.unsent k r) (same n);
   held = tallied_same s.held (λ n. (f n).held) (λ n. (g n).held) (λ n. ap (λ (q : Keys). q.held) (same n)) x.held;
-  to_tell = λ n. x.to_tell n ∙ ap (λ (q : Keys). q.to_tell) (same n);
+  to_tell = λ k r n. x.to_tell k r n ∙ ap (λ (q : Keys). is_turn q.to_tell k r) (same n);
   on = handles_same s.on (λ n. (f n).on) (λ n. (g n).on) (λ n. ap (λ (q : Keys). q.on) (same n)) x.on;
   from = handles_same s.from (λ n. (f n).from) (λ n. (g n).from) (λ n. ap (λ (q : Keys). q.from) (same n)) x.from;
   by_id = ids_same s.by_id (λ n. (f n).by_id) (λ n. (g n).by_id) (λ n. ap (λ (q : Keys). q.by_id) (same n)) x.by_id;
@@ -39,8 +41,9 @@ by_key : {A : Type 0} (part : Keys → A) (b : Bool) (after old : Keys) → (if 
 by_key part true after old = refl
 by_key part false after old = refl
 
-abbrev GroupMoves : ByLink → ByLink → ℕ → Option ℕ → Option ℕ → Type 0
-GroupMoves s t m before after = ((k : ℕ) → in_group s k m ≡ is_number before k) → (k n : ℕ) → in_group t k n ≡ (if m == n then is_number after k else in_group s k n)
+abbrev GroupMoves : ByRank → ByRank → ℕ → Option Turn → Option Turn → Type 0
+GroupMoves s t m before after = ((k : ℕ) (r : Rank) → in_group s k r m ≡ is_turn before k r)
+    → (k : ℕ) (r : Rank) (n : ℕ) → in_group t k r n ≡ (if m == n then is_turn after k r else in_group s k r n)
 
 abbrev TallyMoves : Tallies → Tallies → Option ℕ → Option ℕ → Type 0
 TallyMoves s t before after = (m : ℕ) (known : ℕ → Option ℕ) → known m ≡ before → IsTallied s known → IsTallied t (λ n. if m == n then after else known n)
@@ -61,7 +64,7 @@ IdMoves s t m before after = (known : ℕ → Option Spot) → known m ≡ befor
 pub indexes_moved : (s t : Index) (m : ℕ) (before after : Keys) (known : ℕ → Keys)
     → ConsumersMove s.consumers t.consumers before after → GroupMoves s.unsent t.unsent m before.unsent after.unsent
     → TallyMoves s.held t.held before.held after.held
-    → (is_marked s.to_tell m ≡ before.to_tell → (n : ℕ) → is_marked t.to_tell n ≡ (if m == n then after.to_tell else is_marked s.to_tell n))
+    → GroupMoves s.to_tell t.to_tell m before.to_tell after.to_tell
     → HandleMoves s.on t.on m before.on after.on → HandleMoves s.from t.from m before.from after.from → IdMoves s.by_id t.by_id m before.by_id after.by_id
     → SpotMoves s.durable t.durable m before.durable after.durable
     → known m ≡ before → Indexes s known → Indexes t (λ n. if m == n then after else known n)
@@ -70,12 +73,12 @@ indexes_moved s t m before after known consumers unsent held to_tell on from by_
       (λ n. if m == n then after.undecided else (known n).undecided) (λ n. (if m == n then after else known n).undecided)
       (λ n. by_key (λ q. q.waiting) (m == n) after (known n)) (λ n. by_key (λ q. q.undecided) (m == n) after (known n))
       (consumers m (λ n. (known n).waiting) (λ n. (known n).undecided) (ap (λ (q : Keys). q.waiting) is) (ap (λ (q : Keys). q.undecided) is) x.consumers);
-  unsent = λ k n. unsent (λ j. x.unsent j m ∙ ap (λ (q : Keys). is_number q.unsent j) is) k n
-      ∙ ap (λ b. if m == n then is_number after.unsent k else b) (x.unsent k n) ∙ by_key (λ q. is_number q.unsent k) (m == n) after (known n);
+  unsent = λ k r n. unsent (λ j q. x.unsent j q m ∙ ap (λ (y : Keys). is_turn y.unsent j q) is) k r n
+      ∙ ap (λ b. if m == n then is_turn after.unsent k r else b) (x.unsent k r n) ∙ by_key (λ q. is_turn q.unsent k r) (m == n) after (known n);
   held = tallied_same t.held (λ n. if m == n then after.held else (known n).held) (λ n. (if m == n then after else known n).held)
       (λ n. by_key (λ q. q.held) (m == n) after (known n)) (held m (λ n. (known n).held) (ap (λ (q : Keys). q.held) is) x.held);
-  to_tell = λ n. to_tell (x.to_tell m ∙ ap (λ (q : Keys). q.to_tell) is) n
-      ∙ ap (λ b. if m == n then after.to_tell else b) (x.to_tell n) ∙ by_key (λ q. q.to_tell) (m == n) after (known n);
+  to_tell = λ k r n. to_tell (λ j q. x.to_tell j q m ∙ ap (λ (y : Keys). is_turn y.to_tell j q) is) k r n
+      ∙ ap (λ b. if m == n then is_turn after.to_tell k r else b) (x.to_tell k r n) ∙ by_key (λ q. is_turn q.to_tell k r) (m == n) after (known n);
   on = handles_same t.on (λ n. if m == n then after.on else (known n).on) (λ n. (if m == n then after else known n).on)
       (λ n. by_key (λ q. q.on) (m == n) after (known n)) (on (λ n. (known n).on) (ap (λ (q : Keys). q.on) is) x.on);
   from = handles_same t.from (λ n. if m == n then after.from else (known n).from) (λ n. (if m == n then after else known n).from)

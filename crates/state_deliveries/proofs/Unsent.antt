@@ -1,15 +1,16 @@
 -- Whether there is a first delivery, and links on which frames of deliveries remain to be sent.
-use Rattle.std.proofs.Common.{◌≡◌, ◌∙◌, ◌<◌, ◌+◌, ◌&&◌, ℕ, zero, suc, Bool, true, false, refl, sym, ap, arith, Option, Some, None}
-use Rattle.std.specs.Prelude.{◌==◌, nat_lt, is_some, unwrap_or}
+use Rattle.std.proofs.Common.{◌≡◌, ◌∙◌, ◌<◌, ◌≤◌, ◌+◌, ◌&&◌, ℕ, zero, suc, Bool, true, false, refl, sym, ap, arith, Option, Some, None}
+use Rattle.std.specs.Prelude.{◌==◌, is_some}
 use Rattle.std.proofs.lemmas.Bool.{eqb-true}
 use Rattle.std.proofs.lemmas.Bool.Decides.{nat_tests}
+use Rattle.router_trace.specs.declared.binding.Rank.{Rank}
 use Rattle.router_trace.specs.Trace.{Trace}
 use Rattle.router_trace.specs.Deliveries.{Delivery, bindings, delivery}
 use Rattle.router_trace.specs.Following.{first_delivery, is_unsent_on}
 use Rattle.router_trace.specs.Numbers.{first_below, or_other, if_passes}
-use Rattle.state_deliveries.specs.Finding.{IsFirst, IsFirstLink, is_above}
+use Rattle.state_deliveries.specs.Finding.{IsFirst, IsFirstBy, is_above}
 use Rattle.router_trace.proofs.Numbers.{none_below}
-use Rattle.state_deliveries.proofs.Numbers.{none_before, stands_below}
+use Rattle.state_deliveries.proofs.Numbers.{stands_below}
 
 -- there is a first number below a bound exactly if one passes
 or_some : (v w : Option ℕ) → is_some w ≡ true → is_some (or_other v w) ≡ true
@@ -52,6 +53,18 @@ there_first (suc b) p e = by_test (p b) refl (λ k. there_first b p k)
 pub some_delivery : (t : Trace) (passes : Option Delivery → Bool) → passes None ≡ false → (n : ℕ) → passes (delivery t n) ≡ true → is_some (first_delivery t passes) ≡ true
 some_delivery t passes none n e = first_there (bindings t + 1) (λ m. passes (delivery t m)) n (stands_below t passes none n e) e
 
+-- whether there is a first one by ranks
+pub some_by : (t : Trace) (passes : Option Delivery → Bool) (rank : ℕ → Rank) → passes None ≡ false → (r : Option ℕ) → IsFirstBy rank (λ n. passes (delivery t n)) r
+    → is_some r ≡ is_some (first_delivery t passes)
+some_by t passes rank none None x = sym (ap is_some (none_below (bindings t + 1) (λ n. passes (delivery t n)) (λ n l. x n)))
+some_by t passes rank none (Some n) x = sym (some_delivery t passes none n x.0)
+
+-- the lowest link, above this one or of all, that has numbers which pass
+abbrev pub IsFirstLink : (ℕ → ℕ → Bool) → Option ℕ → Option ℕ → Type 0
+IsFirstLink passes above None = (k n : ℕ) → is_above above k ≡ true → passes k n ≡ false
+IsFirstLink passes above (Some k) =
+    (is_above above k ≡ true) × ((n : ℕ) × (passes k n ≡ true)) × ((j n : ℕ) → is_above above j ≡ true → passes j n ≡ true → k ≤ j)
+
 left : (a b : Bool) → (a && b) ≡ true → a ≡ true
 left true b e = refl
 left false b e = e
@@ -74,13 +87,3 @@ links_are t above (Some k) x = (
       = there_first (bindings t + 1) (λ n. is_unsent_on j (delivery t n)) (right (is_above above j) (is_some (first_delivery t (is_unsent_on j))) e)
       in x.2 j one.0 (left (is_above above j) (is_some (first_delivery t (is_unsent_on j))) e) one.1,
 )
-
--- above no number means all: none has the number 0
-pub above_none : (t : Trace) (k : ℕ) (above : Option ℕ) (n : ℕ)
-    → (nat_lt (unwrap_or above 0) n && is_unsent_on k (delivery t n)) ≡ (is_above above n && is_unsent_on k (delivery t n))
-above_none t k (Some m) n = refl
-above_none t k None zero = sym (ap (is_unsent_on k) (none_before t))
-above_none t k None (suc n) = ap (λ b. b && is_unsent_on k (delivery t (suc n))) (more n)
-  where
-    more : (n : ℕ) → nat_lt 0 (suc n) ≡ true
-    more n = grind (arith, nat_tests)

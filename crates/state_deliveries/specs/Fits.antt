@@ -9,7 +9,7 @@ use Rattle.amqp_model.specs.declared.item.Item.{Item}
 use Rattle.amqp_model.specs.declared.item.Item.TheVariants as item
 use Rattle.router_trace.specs.Trace.{Trace}
 use Rattle.router_trace.specs.declared.binding.DeliveryName.{DeliveryName}
-use Rattle.router_trace.specs.Deliveries.{bindings, counters, delivery, sending, next_id, carried, tag_in}
+use Rattle.router_trace.specs.Deliveries.{bindings, counters, last_row, delivery, sending, next_id, carried, tag_in}
 use Rattle.state_deliveries.specs.declared.deliveries.Deliveries.{Deliveries}
 use Rattle.state_deliveries.specs.declared.next_ids.NextIds.{NextIds}
 use Rattle.state_deliveries.specs.declared.sending.Sending.{Sending}
@@ -51,6 +51,7 @@ pub record NextIdsFit (s : NextIds) (t : Trace) : Type 0 where
 pub record DeliveriesFit (s : Deliveries) (t : Trace) : Type 0 where
   pub bindings : s.bindings ≡ bindings t
   pub counters : s.counters ≡ counters t
+  pub last_row : s.last_row ≡ last_row t
   pub store : StoreFit s.store t
   pub sending : SendingFit s.sending t
   pub names : NamesFit s.names t

@@ -1,16 +1,9 @@
 -- The indexes of a table of deliveries.
-use Rattle.std.specs.Prelude.{◌≡◌, ◌==◌, ℕ, Bool, true, false, not, ◌&&◌, ◌||◌, if◌then◌else◌, is_none, is_some, Option, Some, None}
-use Rattle.std.specs.Ordering.{nat_cmp, ordering_then, is_gt}
-use Rattle.std.specs.declared.cmp.Ordering.{Ordering}
-use Rattle.std.specs.declared.ops.Bound.{Bound}
-use Rattle.std.specs.declared.ops.Bound.TheVariants.{Excluded, Unbounded}
-use Rattle.std.specs.BTreeMap.{is_at}
-use Rattle.std.specs.BTreeMap.Range.{IsFromStart}
-use Rattle.std.specs.BTreeSet.{contains}
-use Rattle.state_collections.specs.NumberSet.{has as is_marked}
+use Rattle.std.specs.Prelude.{◌≡◌, ℕ, Bool, true, false, not, ◌&&◌, ◌||◌, if◌then◌else◌, is_none, is_some, Option, Some, None}
 use Rattle.router_trace.specs.declared.binding.Origin.{Origin}
-use Rattle.router_trace.specs.Deliveries.{Delivery, has_row, source, sender, holder, is_over, is_undecided, unless_over, is_number}
-use Rattle.state_deliveries.specs.declared.by_link.ByLink.{ByLink}
+use Rattle.router_trace.specs.declared.binding.Rank.{Rank}
+use Rattle.router_trace.specs.Deliveries.{Delivery, has_row, source, sender, holder, is_over, is_undecided, unless_over}
+use Rattle.state_deliveries.specs.declared.by_rank.Turn.{Turn}
 use Rattle.state_deliveries.specs.declared.change.Change.{Change}
 use Rattle.state_deliveries.specs.declared.change.Change.TheVariants as change
 use Rattle.state_deliveries.specs.declared.index.Index.{Index}
@@ -18,43 +11,8 @@ use Rattle.state_deliveries.specs.declared.index.Keys.{Keys}
 use Rattle.state_deliveries.specs.declared.index.Moved.{Moved}
 use Rattle.state_deliveries.specs.declared.spots.Spot.{Spot}
 use Rattle.state_deliveries.specs.Placing.{SpotsFit, HandlesFit, IdsFit, spot_of, on_spot, from_spot, id_spot, own_spot, is_gone_there, is_id_there}
+use Rattle.state_deliveries.specs.Ranking.{in_group, is_turn}
 use Rattle.state_deliveries.specs.Tallying.{IsTallied, AreTallied}
-
--- a link and a number; ordered by link, then by number
-abbrev pub Pair : Type 0
-Pair = ℕ × ℕ
-
-abbrev pub pair_cmp : Pair → Pair → Ordering
-pair_cmp p q = ordering_then (nat_cmp p.0 q.0) (nat_cmp p.1 q.1)
-
--- a pair is this one
-abbrev pub is_pair : Option Pair → Pair → Bool
-is_pair None q = false
-is_pair (Some p) q = is_at (pair_cmp p) q
-
--- a pair is the one in place, or among the others
-abbrev pub has_pair : ByLink → Pair → Bool
-has_pair g q = is_pair g.place q || contains pair_cmp g.others q
-
--- a number belongs to a link
-abbrev pub in_group : ByLink → ℕ → ℕ → Bool
-in_group g k n = has_pair g (k, n)
-
--- the first pair from a bound on that passes, if any does
-abbrev pub IsFirstPair : (Pair → Bool) → Bound Pair → Option Pair → Type 0
-IsFirstPair passes low None = (q : Pair) → IsFromStart pair_cmp low q → passes q ≡ false
-IsFirstPair passes low (Some p) = IsFromStart pair_cmp low p × (passes p ≡ true)
-    × ((q : Pair) → IsFromStart pair_cmp low q → passes q ≡ true → is_gt (pair_cmp p q) ≡ false)
-
--- the number of a pair of this link
-abbrev pub number_on : ℕ → Option Pair → Option ℕ
-number_on k None = None
-number_on k (Some p) = if p.0 == k then Some p.1 else None
-
--- where the pairs of the links above this one begin, or those of all
-abbrev pub after_link : Option ℕ → Bound Pair
-after_link None = Unbounded
-after_link (Some k) = Excluded (k, 18446744073709551615)
 
 -- the entries of a delivery in the indexes
 abbrev pub on_link : ℕ → Bool → Option ℕ
@@ -64,6 +22,10 @@ abbrev pub from_link : Option Origin → Bool → Option ℕ
 from_link None holds = None
 from_link (Some p) holds = on_link p.link.number holds
 
+-- its place in the order of binding, on a link; 0 stands for all links
+abbrev pub turn_on : ℕ → Rank → Bool → Option Turn
+turn_on link rank holds = if holds then Some (record { link = link; rank = rank }) else None
+
 -- the place of the id that the router gave, of an undecided delivery with a row
 abbrev pub durable_spot : Delivery → Option Spot
 durable_spot d = if is_undecided d && has_row d.name then own_spot d.link d.id else None
@@ -71,10 +33,10 @@ durable_spot d = if is_undecided d && has_row d.name then own_spot d.link d.id e
 abbrev pub keys : Delivery → Keys
 keys d = record {
   waiting = on_link d.link.number (is_none d.id && d.going_on);
-  unsent = on_link d.link.number d.going_on;
+  unsent = turn_on d.link.number d.rank d.going_on;
   undecided = on_link d.link.number (is_none d.outcome && not d.suspended);
   held = from_link (holder d) (is_none d.outcome || has_row d.name);
-  to_tell = not (is_none d.outcome) && is_some d.origin;
+  to_tell = turn_on 0 d.rank (not (is_none d.outcome) && is_some d.origin);
   on = on_spot (spot_of d.link) (d.going_on || (is_none d.outcome && not d.suspended));
   from = from_spot (sender d);
   by_id = id_spot (source d);
@@ -82,7 +44,7 @@ keys d = record {
 }
 
 abbrev pub nowhere : Keys
-nowhere = record { waiting = None; unsent = None; undecided = None; held = None; to_tell = false; on = None; from = None; by_id = None; durable = None }
+nowhere = record { waiting = None; unsent = None; undecided = None; held = None; to_tell = None; on = None; from = None; by_id = None; durable = None }
 
 abbrev pub standing : Option Delivery → Keys
 standing None = nowhere
@@ -95,9 +57,9 @@ moved before d = record { name = d.name; over = is_over d; before = before; afte
 -- each number has the entries that it should have, and links have the counts
 pub record Indexes (s : Index) (known : ℕ → Keys) : Type 0 where
   pub consumers : AreTallied s.consumers (λ n. (known n).waiting) (λ n. (known n).undecided)
-  pub unsent : (k n : ℕ) → in_group s.unsent k n ≡ is_number (known n).unsent k
+  pub unsent : (k : ℕ) (r : Rank) (n : ℕ) → in_group s.unsent k r n ≡ is_turn (known n).unsent k r
   pub held : IsTallied s.held (λ n. (known n).held)
-  pub to_tell : (n : ℕ) → is_marked s.to_tell n ≡ (known n).to_tell
+  pub to_tell : (k : ℕ) (r : Rank) (n : ℕ) → in_group s.to_tell k r n ≡ is_turn (known n).to_tell k r
   pub on : HandlesFit s.on (λ n. (known n).on)
   pub from : HandlesFit s.from (λ n. (known n).from)
   pub by_id : IdsFit s.by_id (λ n. (known n).by_id)

@@ -5,6 +5,7 @@ pub mod Rowing
 pub mod Placing
 pub mod Indexing
 pub mod Finding
+pub mod Ranking
 pub mod Tallying
 pub mod Calling
 pub mod Fits

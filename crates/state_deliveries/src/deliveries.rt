@@ -1,5 +1,5 @@
 //! The table of deliveries.
-ghost use Rattle.std.specs.Prelude.{◌≡◌, ◌==◌, ◌&&◌, ◌∷◌, List, ℕ, OnOk, IfOk, true, false, if◌then◌else◌};
+ghost use Rattle.std.specs.Prelude.{◌≡◌, ◌==◌, ◌-◌, ◌&&◌, ◌∷◌, List, ℕ, OnOk, IfOk, true, false, if◌then◌else◌};
 ghost use Rattle.std.specs.Option.{option_copied, option_map, is_none, is_some};
 ghost use Rattle.state_collections.specs.NumberMap.{at_number};
 ghost use Rattle.router_trace.specs.Trace.{Beginning, Trace};
@@ -7,14 +7,14 @@ ghost use Rattle.router_trace.specs.Configuration.{opened};
 ghost use Rattle.router_trace.specs.Trace.{Entry, Out, Bound, did};
 ghost use Rattle.router_trace.specs.declared.binding.JoinedTo.TheVariants.{New};
 ghost use Rattle.router_trace.specs.declared.event.Event.TheVariants as event;
-ghost use Rattle.router_trace.specs.Deliveries.{called, joined_by, joining, joins_standing, origin_in, told_in, early_in, delivery, acts_found, channels_found, giving, name_of, next_id, sending, named, waits_on, undecided_on, held_from, is_to_tell};
+ghost use Rattle.router_trace.specs.Deliveries.{called, rank_at, last_with, row_or, joined_by, joining, joins_standing, origin_in, told_in, early_in, delivery, acts_found, channels_found, giving, name_of, next_id, sending, named, waits_on, undecided_on, held_from, is_to_tell};
 ghost use Rattle.router_trace.specs.Sessions.{maps, is_channel};
 ghost use Rattle.router_trace.specs.Following.{first_delivery, is_unsent_on, is_used};
 ghost use Rattle.router_trace.specs.Settling.{open_ids};
 ghost use Rattle.state_deliveries.specs.Calling.{Knows};
 ghost use Rattle.state_deliveries.specs.Deciding.{decided_rows, rows_from};
 ghost use Rattle.router_trace.specs.Counting.{IsCount};
-ghost use Rattle.state_deliveries.specs.Finding.{IsFirst, count_deliveries, is_above};
+ghost use Rattle.state_deliveries.specs.Finding.{IsFirst, IsFirstBy, count_deliveries, is_above, is_beyond};
 ghost use Rattle.state_deliveries.specs.Naming.{Remembers};
 ghost use Rattle.router_trace.specs.Channels.{channel_of};
 ghost use Rattle.state_deliveries.specs.Fits.{DeliveriesFit, AreSending};
@@ -42,6 +42,8 @@ pub struct Deliveries {
     // how many messages were bound, and how many of them have no row
     bindings: u64,
     counters: u64,
+    // the last row that was admitted
+    last_row: u64,
     store: Store,
     sending: Sending,
     names: Names,
@@ -49,14 +51,15 @@ pub struct Deliveries {
 }
 
 impl Deliveries {
-    /// An empty table.
-    pub fn new(alloc: Global) -> Deliveries
-        ensures { (g : Beginning) (below : Trace) → DeliveriesFit result (opened g below) }
+    /// An empty table; `last_row` is the last row that was admitted before.
+    pub fn new(alloc: Global, last_row: u64) -> Deliveries
+        ensures { (g : Beginning) (below : Trace) → last_row ≡ g.book.next_row - 1 → DeliveriesFit result (opened g below) }
     {
         Deliveries {
             alloc,
             bindings: 0,
             counters: 0,
+            last_row,
             store: Store::new(alloc),
             sending: Sending::new(alloc),
             names: Names::new(alloc),
@@ -100,11 +103,12 @@ impl Deliveries {
         self.store.first_unsent(link).is_some()
     }
 
-    /// The first delivery, above a number or of all, of which frames remain to be sent on the link with this number.
+    /// The first delivery, in the order of binding, behind that with a number or of all, of which frames remain to be sent on the link with this
+    /// number.
     pub fn unsent_after(&self, link: u64, number: Option<u64>) -> Option<u64>
-        ensures { (t : List Entry) → DeliveriesFit self.now t → IsFirst (λ n. is_above number n && is_unsent_on link (delivery t n)) result }
+        ensures { (t : List Entry) → DeliveriesFit self.now t → IsFirstBy (rank_at t) (λ n. is_beyond (rank_at t) number n && is_unsent_on link (delivery t n)) result }
     {
-        self.store.unsent_after(link, number.unwrap_or(0))
+        self.store.unsent_after(link, number)
     }
 
     /// The lowest number of a link, above this one or of all, on which frames of a delivery remain to be sent.
@@ -146,9 +150,9 @@ impl Deliveries {
         self.store.held(link)
     }
 
-    /// The lowest number of a delivery, above this one or of all, whose outcome must be reported to its producer.
+    /// The first delivery, in the order of binding, behind that with a number or of all, whose outcome must be reported to its producer.
     pub fn to_tell_after(&self, number: Option<u64>) -> Option<u64>
-        ensures { (t : List Entry) → DeliveriesFit self.now t → IsFirst (λ n. is_above number n && is_to_tell (delivery t n)) result }
+        ensures { (t : List Entry) → DeliveriesFit self.now t → IsFirstBy (rank_at t) (λ n. is_beyond (rank_at t) number n && is_to_tell (delivery t n)) result }
     {
         self.store.to_tell_after(number)
     }
@@ -231,8 +235,10 @@ impl Deliveries {
             return Err(AllocError);
         };
         self.counters = counted(binding.row, self.counters, counter);
-        self.store
-            .bind(number, name_of(binding.row, counter), binding)?;
+        let name = name_of(binding.row, counter);
+        let rank = name.rank(self.last_row);
+        self.last_row = last_with(&binding, self.last_row);
+        self.store.bind(number, name, rank, binding)?;
         self.bindings = number;
         Ok(())
     }
@@ -349,4 +355,24 @@ fn counted(row: Option<RowNumber>, before: u64, next: u64) -> u64
     ensures { result ≡ (if is_none row then next else before) }
 {
     if row.is_none() { next } else { before }
+}
+
+/// The last row that was admitted, after a binding: the binding's, if it is a message that came with a row.
+fn last_with(binding: &Binding, last: u64) -> u64
+    ensures { result ≡ last_with binding.now last }
+{
+    match binding.kind {
+        BindingKind::Message(_) => row_or(binding.row, last),
+        _ => last,
+    }
+}
+
+/// The number of a row, or else this one.
+fn row_or(row: Option<RowNumber>, last: u64) -> u64
+    ensures { result ≡ row_or row last }
+{
+    match row {
+        None => last,
+        Some(row) => row.0,
+    }
 }

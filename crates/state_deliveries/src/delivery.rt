@@ -10,7 +10,9 @@ use crate::change::{Change, Gone, comes_with_id, is_in};
 use crate::state::failed;
 use amqp_model::{DeliveryState, Transfer, copy_state};
 use bytes::Bytes;
-use router_trace::{Attachment, Binding, BindingKind, DeliveryName, JoinedTo, Origin, Resumed};
+use router_trace::{
+    Attachment, Binding, BindingKind, DeliveryName, JoinedTo, Origin, Rank, Resumed,
+};
 use std::alloc::AllocError;
 use std::marker::Model;
 
@@ -19,6 +21,8 @@ use std::marker::Model;
 pub struct Delivery {
     /// Its name, from which its tag is made.
     pub name: DeliveryName,
+    /// Its place in the order of binding.
+    pub rank: Rank,
     /// The consumer's link.
     pub link: Attachment,
     /// The producer's delivery, to which the outcome is reported; none if no report is due to it any more.
@@ -78,6 +82,7 @@ impl Model for Delivery {
 
     ghost view = { λ d. record {
       name = d.name;
+      rank = d.rank;
       link = d.link;
       origin = d.origin;
       presettled = d.presettled;
@@ -227,13 +232,14 @@ fn outcome_as(how: Resumed) -> Option<DeliveryState>
 }
 
 impl Delivery {
-    /// A message that was just bound, under a name.
-    pub(crate) fn bound(name: DeliveryName, binding: Binding) -> Delivery
-        ensures { result ≡ bound name binding }
+    /// A message that was just bound, under a name, at a place in the order of binding.
+    pub(crate) fn bound(name: DeliveryName, rank: Rank, binding: Binding) -> Delivery
+        ensures { result ≡ bound name rank binding }
     {
         let brought = Brought::by(binding.kind);
         Delivery {
             name,
+            rank,
             link: binding.consumer,
             origin: brought.producers.origin,
             presettled: brought.presettled,
@@ -451,6 +457,7 @@ impl Delivery {
     {
         Delivery {
             name: self.name,
+            rank: self.rank,
             link: self.link,
             origin: self.origin,
             presettled: self.presettled,

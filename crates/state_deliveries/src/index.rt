@@ -2,16 +2,15 @@
 ghost use Rattle.std.specs.Prelude.{◌≡◌, ◌==◌, ℕ, Bool, None, true, false, if◌then◌else◌, OnOk, IfOk, ◌||◌};
 ghost use Rattle.std.specs.Ordering.{nat_cmp};
 ghost use Rattle.std.specs.BTreeSet.{contains};
-ghost use Rattle.state_collections.specs.NumberSet.{has as is_marked};
 ghost use Rattle.state_deliveries.specs.declared.index.Keys.{Keys as TheKeys};
 ghost use Rattle.state_deliveries.specs.Deciding.{decides, decide};
 ghost use Rattle.router_trace.specs.Deliveries.{is_over, unless_over};
-ghost use Rattle.state_deliveries.specs.Indexing.{Indexes, nowhere, keys, standing, moved, on_link, durable_spot, concerns};
+ghost use Rattle.state_deliveries.specs.Indexing.{Indexes, nowhere, keys, standing, moved, on_link, turn_on, durable_spot, concerns};
 ghost use Rattle.state_deliveries.specs.Placing.{spot_of, on_spot, from_spot, id_spot, own_spot, is_gone_there};
 ghost use Rattle.amqp_session.specs.Ranges.{has};
 
 use crate::by_id::ById;
-use crate::by_link::ByLink;
+use crate::by_rank::{ByRank, Turn};
 use crate::change::{Change, Gone};
 use crate::consumers::Consumers;
 use crate::delivery::Delivery;
@@ -19,8 +18,8 @@ use crate::handles::Handles;
 use crate::sets::add;
 use crate::spots::{Spot, Spots};
 use crate::tallies::Tallies;
-use router_trace::{Attachment, DeliveryName, Origin};
-use state_collections::{Boxed, NumberSet};
+use router_trace::{Attachment, DeliveryName, Origin, Rank};
+use state_collections::Boxed;
 use std::alloc::{AllocError, Global};
 use std::collections::BTreeSet;
 
@@ -29,14 +28,14 @@ use std::collections::BTreeSet;
 pub(crate) struct Keys {
     /// The link on which it waits to start.
     pub(crate) waiting: Option<u64>,
-    /// The link on which frames of it remain to be sent.
-    pub(crate) unsent: Option<u64>,
+    /// Its turn on the link on which frames of it remain to be sent.
+    pub(crate) unsent: Option<Turn>,
     /// The link on which it is undecided.
     pub(crate) undecided: Option<u64>,
     /// The producer's link from which it is held.
     pub(crate) held: Option<u64>,
-    /// Whether its outcome must be reported to its producer.
-    pub(crate) to_tell: bool,
+    /// Its turn among those whose outcome must be reported to their producer, if it is one; all are under the link 0.
+    pub(crate) to_tell: Option<Turn>,
     /// The place of its consumer's link, if the end of that link would change it.
     pub(crate) on: Option<Spot>,
     /// The place of its producer's link, if the producer still needs its outcome.
@@ -66,11 +65,11 @@ pub(crate) struct Index {
     // how many wait to start on a link, and how many of it are undecided
     pub(crate) consumers: Consumers,
     // those of a link of which frames remain to be sent
-    pub(crate) unsent: ByLink,
+    pub(crate) unsent: ByRank,
     // how many are held from a producer's link
     pub(crate) held: Tallies,
-    // those whose outcome must be reported to their producer
-    pub(crate) to_tell: NumberSet,
+    // those whose outcome must be reported to their producer, under the link 0
+    pub(crate) to_tell: ByRank,
     // those changed by the end of a consumer's link, those by the end of a producer's link, and those by a producer's delivery-id
     on: Handles,
     from: Handles,
@@ -89,7 +88,7 @@ impl Keys {
             unsent: None,
             undecided: None,
             held: None,
-            to_tell: false,
+            to_tell: None,
             on: None,
             from: None,
             by_id: None,
@@ -139,13 +138,13 @@ impl Keys {
                 delivery.link.number,
                 delivery.id.is_none() && delivery.going_on,
             ),
-            unsent: on_link(delivery.link.number, delivery.going_on),
+            unsent: turn_on(delivery.link.number, delivery.rank, delivery.going_on),
             undecided: on_link(delivery.link.number, open),
             held: match delivery.holder() {
                 None => None,
                 Some(origin) => on_link(origin.link.number, undecided || delivery.name.has_row()),
             },
-            to_tell: !undecided && delivery.origin.is_some(),
+            to_tell: turn_on(0, delivery.rank, !undecided && delivery.origin.is_some()),
             on: on_spot(spot_of(delivery.link), delivery.going_on || open),
             from: from_spot(delivery.sender()),
             by_id: id_spot(source),
@@ -187,6 +186,17 @@ fn on_link(link: u64, holds: bool) -> Option<u64>
     ensures { result ≡ on_link link holds }
 {
     if holds { Some(link) } else { None }
+}
+
+/// The turn of a rank on a link, if `holds`.
+fn turn_on(link: u64, rank: Rank, holds: bool) -> Option<Turn>
+    ensures { result ≡ turn_on link rank holds }
+{
+    if holds {
+        Some(Turn { link, rank })
+    } else {
+        None
+    }
 }
 
 /// The place of a link.
@@ -262,9 +272,9 @@ impl Index {
     {
         Index {
             consumers: Consumers::new(alloc),
-            unsent: ByLink::new(alloc),
+            unsent: ByRank::new(alloc),
             held: Tallies::new(alloc),
-            to_tell: NumberSet::new(alloc),
+            to_tell: ByRank::new(alloc),
             on: Handles::new(alloc),
             from: Handles::new(alloc),
             by_id: ById::new(alloc),
@@ -284,7 +294,7 @@ impl Index {
         self.consumers.shift(before, after)?;
         self.unsent.shift(number, before.unsent, after.unsent)?;
         self.held.shift(before.held, after.held)?;
-        mark(&mut self.to_tell, number, before.to_tell, after.to_tell)?;
+        self.to_tell.shift(number, before.to_tell, after.to_tell)?;
         self.on.shift(number, before.on, after.on)?;
         self.from.shift(number, before.from, after.from)?;
         self.by_id.shift(number, before.by_id, after.by_id)?;
@@ -417,20 +427,5 @@ fn add_all(numbers: &mut BTreeSet<u64>, more: &[u64]) -> Result<(), AllocError>
     for number in more {
         add(numbers, *number)?;
     }
-    Ok(())
-}
-
-/// Puts a number into a set or removes it, where it isn't there or is.
-fn mark(numbers: &mut NumberSet, number: u64, before: bool, after: bool) -> Result<(), AllocError>
-    ensures { OnOk result (is_marked numbers.old number ≡ before
-        → (n : ℕ) → is_marked numbers.new n ≡ (if number == n then after else is_marked numbers.old n)) }
-{
-    if before == after {
-        return Ok(());
-    }
-    if after {
-        return numbers.insert(number);
-    }
-    numbers.remove(number);
     Ok(())
 }

@@ -12,8 +12,8 @@
 #![tactic(auto)]
 
 mod by_id;
-mod by_link;
 mod by_name;
+mod by_rank;
 mod change;
 mod consumers;
 mod deciding;

@@ -1,5 +1,5 @@
 //! Sets of numbers.
-ghost use Rattle.std.specs.Prelude.{◌≡◌, ◌==◌, ℕ, true, if◌then◌else◌, OnOk, ◌&&◌, nat_lt};
+ghost use Rattle.std.specs.Prelude.{◌≡◌, ◌==◌, ℕ, true, if◌then◌else◌, OnOk};
 ghost use Rattle.std.specs.Ordering.{nat_cmp};
 ghost use Rattle.std.specs.BTreeSet.{contains};
 ghost use Rattle.state_collections.specs.NumberSet.{has as is_marked};
@@ -24,11 +24,4 @@ pub(crate) fn first(numbers: &NumberSet) -> Option<u64>
     ensures { IsFirst (is_marked numbers.now) result }
 {
     numbers.first()
-}
-
-/// The lowest number of a set above `number`.
-pub(crate) fn after(numbers: &NumberSet, number: u64) -> Option<u64>
-    ensures { IsFirst (λ n. nat_lt number n && is_marked numbers.now n) result }
-{
-    numbers.after(number)
 }

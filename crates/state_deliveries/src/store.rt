@@ -7,7 +7,7 @@ ghost use Rattle.state_collections.specs.NumberMap.{at_number};
 ghost use Rattle.amqp_session.specs.Ranges.{has};
 ghost use Rattle.router_trace.specs.declared.binding.DeliveryName.{DeliveryName as Name};
 ghost use Rattle.router_trace.specs.declared.binding.DeliveryName.TheVariants.{Row};
-ghost use Rattle.router_trace.specs.Deliveries.{unless_over, unless_called, same_name, bound, joined, with_origin, after_frame, is_number, is_id, delivery, number_named, sending};
+ghost use Rattle.router_trace.specs.Deliveries.{ranked, unless_over, unless_called, same_name, bound, joined, with_origin, after_frame, is_number, is_id, delivery, number_named, sending};
 ghost use Rattle.router_trace.specs.Settling.{is_open_as};
 ghost use Rattle.router_trace.specs.Trace.{Entry, Out, did};
 ghost use Rattle.amqp_model.specs.declared.item.Item.TheVariants as item;
@@ -16,11 +16,11 @@ ghost use Rattle.state_deliveries.specs.Calling.{at_name, is_called, Knows};
 ghost use Rattle.state_deliveries.specs.Deciding.{decide};
 ghost use Rattle.state_deliveries.specs.Fits.{Indexed, StoreFit, carried_in, carried_by};
 ghost use Rattle.state_deliveries.specs.declared.index.Keys.{Keys as TheKeys};
-ghost use Rattle.state_deliveries.specs.Indexing.{Indexes, keys, moved, standing, in_group, is_by_place, are_by_place, concerns};
+ghost use Rattle.state_deliveries.specs.Indexing.{Indexes, keys, moved, standing, is_by_place, are_by_place, concerns};
 ghost use Rattle.state_deliveries.specs.Placing.{is_id_there};
 ghost use Rattle.std.specs.BTreeSet.{contains};
-ghost use Rattle.state_collections.specs.NumberSet.{has as is_marked};
-ghost use Rattle.state_deliveries.specs.Finding.{IsFirst, IsFirstLink, is_above};
+ghost use Rattle.state_deliveries.specs.Finding.{IsFirst};
+ghost use Rattle.state_deliveries.specs.Ranking.{IsFirstIn, IsFirstGroup, in_group, is_past};
 ghost use Rattle.state_deliveries.specs.Touching.{is_touched_in, StandsSame, StoreTouches};
 ghost use Rattle.book_model.specs.declared.act.Act.TheVariants.{Decide};
 ghost use Rattle.state_deliveries.specs.Giving.{after_acts, with_outcome};
@@ -33,13 +33,12 @@ use crate::by_name::ByName;
 use crate::change::{Change, Gone, after_put};
 use crate::delivery::Delivery;
 use crate::index::{Index, Keys, Moved};
-use crate::sets::{after, first};
 use crate::spots::Spot;
 use crate::touched::Touched;
 use amqp_model::{DeliveryState, Item, Perf, Transfer};
 use book_model::Decision;
 use bytes::Bytes;
-use router_trace::{Binding, ConnectionId, DeliveryName, Origin};
+use router_trace::{Binding, ConnectionId, DeliveryName, Origin, Rank};
 use state_collections::{Boxed, NumberMap};
 use std::alloc::{AllocError, Global};
 use std::collections::BTreeSet;
@@ -113,23 +112,40 @@ impl Store {
         self.index.consumers.waiting(link)
     }
 
+    /// The place of the delivery with a number in the order of binding.
+    pub(crate) fn rank(&self, number: u64) -> Rank
+        ensures { result ≡ ranked (at_number self.now.deliveries number) }
+    {
+        match self.get(number) {
+            None => Rank { row: 0, counter: 0 },
+            Some(delivery) => delivery.rank,
+        }
+    }
+
     /// The first delivery of a link of which frames remain to be sent.
     pub(crate) fn first_unsent(&self, link: u64) -> Option<u64>
-        ensures { IsFirst (in_group self.now.index.unsent link) result }
+        ensures { IsFirstIn (in_group self.now.index.unsent link) result }
     {
         self.index.unsent.first(link)
     }
 
-    /// The first of them above a number.
-    pub(crate) fn unsent_after(&self, link: u64, number: u64) -> Option<u64>
-        ensures { IsFirst (λ n. nat_lt number n && in_group self.now.index.unsent link n) result }
+    /// The first of them behind the one with a number, or of all.
+    pub(crate) fn unsent_after(&self, link: u64, number: Option<u64>) -> Option<u64>
+        ensures { IsFirstIn (λ r n. is_past (at_number self.now.deliveries) number r n && in_group self.now.index.unsent link r n) result }
     {
-        self.index.unsent.first_after(link, number)
+        match number {
+            None => self.index.unsent.first(link),
+            Some(number) => {
+                self.index
+                    .unsent
+                    .first_after(link, self.rank(number), number)
+            }
+        }
     }
 
     /// The lowest link, above this one or of all, that has such deliveries.
     pub(crate) fn unsent_link_after(&self, link: Option<u64>) -> Option<u64>
-        ensures { IsFirstLink (in_group self.now.index.unsent) link result }
+        ensures { IsFirstGroup (in_group self.now.index.unsent) link result }
     {
         self.index.unsent.link_after(link)
     }
@@ -151,13 +167,13 @@ impl Store {
         self.touched.forget(link);
     }
 
-    /// The lowest delivery, above this one or of all, whose outcome must be reported to its producer.
+    /// The first delivery, behind the one with a number or of all, whose outcome must be reported to its producer.
     pub(crate) fn to_tell_after(&self, number: Option<u64>) -> Option<u64>
-        ensures { IsFirst (λ n. is_above number n && is_marked self.now.index.to_tell n) result }
+        ensures { IsFirstIn (λ r n. is_past (at_number self.now.deliveries) number r n && in_group self.now.index.to_tell 0 r n) result }
     {
         match number {
-            None => first(&self.index.to_tell),
-            Some(number) => after(&self.index.to_tell, number),
+            None => self.index.to_tell.first(0),
+            Some(number) => { self.index.to_tell.first_after(0, self.rank(number), number) }
         }
     }
 
@@ -233,31 +249,38 @@ impl Store {
         self.index.shift(number, before, after)
     }
 
-    /// Adds a message that was bound, under its number and its name. An earlier delivery of this name is removed.
+    /// Adds a message that was bound, under its number and its name, at its place in the order of binding. An earlier delivery of this name is removed.
     pub(crate) fn bind(
         &mut self,
         number: u64,
         name: DeliveryName,
+        rank: Rank,
         binding: Binding,
     ) -> Result<(), AllocError>
         ensures deliveries { OnOk result (Indexed self.old
-            → (n : ℕ) → at_number self.new.deliveries n ≡ (if number == n then Some (bound name binding) else unless_called name (at_number self.old.deliveries n))) }
+            → (n : ℕ) → at_number self.new.deliveries n ≡ (if number == n then Some (bound name rank binding) else unless_called name (at_number self.old.deliveries n))) }
         ensures indexed { OnOk result (at_number self.old.deliveries number ≡ None → Indexed self.old → Indexed self.new) }
         ensures touches { OnOk result (StoreTouches self.old self.new) }
     {
         self.remove_called(name)?;
-        self.add(number, name, binding)
+        self.add(number, name, rank, binding)
     }
 
-    /// Adds a message that was bound, under its number and its name.
-    fn add(&mut self, number: u64, name: DeliveryName, binding: Binding) -> Result<(), AllocError>
-        ensures deliveries { OnOk result ((n : ℕ) → at_number self.new.deliveries n ≡ (if number == n then Some (bound name binding) else at_number self.old.deliveries n)) }
+    /// Adds a message that was bound, under its number and its name, at its place in the order of binding.
+    fn add(
+        &mut self,
+        number: u64,
+        name: DeliveryName,
+        rank: Rank,
+        binding: Binding,
+    ) -> Result<(), AllocError>
+        ensures deliveries { OnOk result ((n : ℕ) → at_number self.new.deliveries n ≡ (if number == n then Some (bound name rank binding) else at_number self.old.deliveries n)) }
         ensures indexed { OnOk result (at_number self.old.deliveries number ≡ None → ((n : ℕ) → is_called name (at_number self.old.deliveries n) ≡ false)
             → Indexed self.old → Indexed self.new) }
         ensures touches { OnOk result (StoreTouches self.old self.new) }
     {
         self.by_name.set(name, number)?;
-        let delivery = Delivery::bound(name, binding);
+        let delivery = Delivery::bound(name, rank, binding);
         let after = Keys::of(&delivery);
         let delivery = Boxed::new(self.alloc, delivery)?;
         let before = put(&mut self.deliveries, number, delivery)?;

@@ -12,7 +12,7 @@ use Rattle.book_model.specs.declared.act.Act.{Act}
 use Rattle.router_trace.specs.Trace.{Trace, Took, Booked, did}
 use Rattle.router_trace.specs.Configuration.{distribution}
 use Rattle.router_trace.specs.Links.{asked, told_handle_max, highest_handle, answered_handle, their_handle, link, attachments, last_of_key, numbered, holder, place_of, if_attached, has_number}
-use Rattle.router_trace.specs.Deliveries.{bindings, counters, delivery, sending, named, next_id}
+use Rattle.router_trace.specs.Deliveries.{bindings, counters, delivery, sending, named, next_id, last_row}
 use Rattle.router_trace.specs.Claims.{claims}
 use Rattle.router_trace.specs.Numbers.{count_below}
 use Rattle.state_deliveries.specs.declared.deliveries.Deliveries.{Deliveries}
@@ -47,6 +47,7 @@ pub record IsQuiet (t u : Trace) : Type 0 where
   pub numbers : (n : ℕ) → numbered u n ≡ numbered t n
   pub bound : bindings u ≡ bindings t
   pub counted : counters u ≡ counters t
+  pub admitted : last_row u ≡ last_row t
   pub deliveries : (n : ℕ) → delivery u n ≡ delivery t n
   pub handles : (c o h : ℕ) → sending u c o h ≡ sending t c o h
   pub names : (c o id : ℕ) → named u c o id ≡ named t c o id
@@ -105,6 +106,7 @@ deliveries_quiet : (s : Deliveries) (t u : Trace) → IsQuiet t u → Deliveries
 deliveries_quiet s t u q fit = record {
   bindings = fit.bindings ∙ sym q.bound;
   counters = fit.counters ∙ sym q.counted;
+  last_row = fit.last_row ∙ sym q.admitted;
   store = record { deliveries = λ n. fit.store.deliveries n ∙ sym (q.deliveries n); indexed = fit.store.indexed };
   sending = record { numbers = λ c o h. known_quiet t u q (at s.sending.numbers c o h) (sending t c o h) (sending u c o h) (q.handles c o h) (fit.sending.numbers c o h) };
   names = record {
@@ -148,6 +150,7 @@ taken_fits s d k t old = quiet_fits s t (Took d k ∷ t) quiet old
       numbers = λ n. refl;
       bound = refl;
       counted = refl;
+      admitted = refl;
       deliveries = λ n. refl;
       handles = λ c o h. refl;
       names = λ c o id. refl;
@@ -173,6 +176,7 @@ booked_fits s acts full t old = quiet_fits s t (Booked acts full ∷ t) quiet ol
       numbers = λ n. refl;
       bound = refl;
       counted = refl;
+      admitted = refl;
       deliveries = λ n. refl;
       handles = λ c o h. refl;
       names = λ c o id. refl;
@@ -198,6 +202,7 @@ risen_fits s d p t old = quiet_fits s t (did (event.Up d p) ∷ t) quiet old
       numbers = λ n. refl;
       bound = refl;
       counted = refl;
+      admitted = refl;
       deliveries = λ n. kept t n;
       handles = λ c o h. refl;
       names = λ c o id. refl;
@@ -223,6 +228,7 @@ ticked_fits s moment t old = quiet_fits s t (did (event.Tick moment) ∷ t) quie
       numbers = λ n. refl;
       bound = refl;
       counted = refl;
+      admitted = refl;
       deliveries = λ n. kept t n;
       handles = λ c o h. refl;
       names = λ c o id. refl;
@@ -248,6 +254,7 @@ started_fits s t old = quiet_fits s t (did event.Start ∷ t) quiet old
       numbers = λ n. refl;
       bound = refl;
       counted = refl;
+      admitted = refl;
       deliveries = λ n. kept t n;
       handles = λ c o h. refl;
       names = λ c o id. refl;

@@ -1,5 +1,5 @@
 //! Links, the deliveries on them and the pools of their addresses.
-ghost use Rattle.std.specs.Prelude.{◌≡◌, ℕ, List, ◌∷◌, OnOk, IfOk};
+ghost use Rattle.std.specs.Prelude.{◌≡◌, ◌-◌, ℕ, List, ◌∷◌, OnOk, IfOk};
 ghost use Rattle.route_table.specs.Places.{FindsAs};
 ghost use Rattle.router_trace.specs.Trace.{Beginning, Trace};
 ghost use Rattle.router_trace.specs.Configuration.{opened};
@@ -37,14 +37,14 @@ pub struct Messages {
 }
 
 impl Messages {
-    /// Tables without any links; addresses are shared as this table says.
-    pub fn new(alloc: Global, table: Table) -> Messages
-        ensures { (g : Beginning) (below : Trace) → FindsAs table g.routing → MessagesFit result (opened g below) }
+    /// Tables without any links; addresses are shared as this table says, and `last_row` is the last row that was admitted before.
+    pub fn new(alloc: Global, table: Table, last_row: u64) -> Messages
+        ensures { (g : Beginning) (below : Trace) → FindsAs table g.routing → last_row ≡ g.book.next_row - 1 → MessagesFit result (opened g below) }
     {
         Messages {
             alloc,
             links: Links::new(alloc),
-            deliveries: Deliveries::new(alloc),
+            deliveries: Deliveries::new(alloc, last_row),
             incoming: IncomingDeliveries::new(alloc),
             pools: Pools::new(alloc, table),
         }

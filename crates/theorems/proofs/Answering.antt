@@ -40,7 +40,7 @@ use Rattle.router_trace.specs.declared.handle.PeerHandle.{PeerHandle}
 use Rattle.router_trace.specs.declared.handle.PeerHandle.TheVariants.{Mapped, Detaching}
 use Rattle.router_trace.specs.Trace.{Trace, Did, Out, Step, puts}
 use Rattle.router_trace.specs.Connection.{Connection, conn, standing, found, due, has}
-use Rattle.router_trace.specs.Deliveries.{either_origin, bound, brought, is_message, origin_of, outcome_in, presettles, name_in}
+use Rattle.router_trace.specs.Deliveries.{either_origin, bound, brought, is_message, origin_of, outcome_in, presettles, name_in, rank_in}
 use Rattle.router_trace.specs.Following.{link_of, is_sending}
 use Rattle.router_trace.specs.Frames.{open_item, close_item}
 use Rattle.router_trace.specs.Links.{Link, LinkPlace, nowhere, detaching, on, asked, asked_at, asked_of, answered_handle, is_lost, link, link_place, link_place_by, on_link, their_handle, last_of_key, free_handle, durable_key}
@@ -319,11 +319,11 @@ admitted_row u b r adm ordered = record {
     below = rises_last before.rows (admitted x) (let P : BookView → Type 0 = λ c. Rises number_of_row c.rows in subst P now ordered.rows_rise)
 
 row_fact : (u : Trace) (b : Binding) (o : Option Origin) (r : RowNumber) → b.kind ≡ kind.Message o → (adm : IsAdmitted u b r)
-    → ((p : Origin) → origin_of b.kind ≡ Some p → HasClaim u p adm.admission.tag.items) → IsOrdered (book_in u) → RowFact u (book_in u) r (bound (name_in u b) b)
+    → ((p : Origin) → origin_of b.kind ≡ Some p → HasClaim u p adm.admission.tag.items) → IsOrdered (book_in u) → RowFact u (book_in u) r (bound (name_in u b) (rank_in u b) b)
 row_fact u b o r fresh adm tagged ordered = record {
   settled = ap presettles fresh ∙ unsettled o (subst (λ (k : BindingKind). IsFromTerminus (origin_of k) u (book_in adm.before) adm.admission.producer) fresh adm.producer);
   known = (admitted_row u b r adm ordered).known;
-  agrees = subst (λ (v : Option ARow). Agrees u (book_in u) v (bound (name_in u b) b)) (sym (admitted_row u b r adm ordered).found) (record {
+  agrees = subst (λ (v : Option ARow). Agrees u (book_in u) v (bound (name_in u b) (rank_in u b) b)) (sym (admitted_row u b r adm ordered).found) (record {
     outcome = inr (ap outcome_in (sym fresh));
     waits = λ p from. refl;
     from = λ p from. producer p (origin_is (origin_of b.kind) p (ap (λ (k : BindingKind). either_origin (origin_of b.kind) (brought (λ v. v.told) k)) (sym fresh) ∙ from));

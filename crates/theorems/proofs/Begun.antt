@@ -368,6 +368,7 @@ did_owned s t ys begun was = record {
   ids = λ c o k v free is. by_ids c o k v free (came_claim s t c o k v is);
   tagged = λ c o h said free is. by_tagged c o h said free (came_said s t c o h said is);
   tags = λ c o h k said v free is named claimed on. by_tags c o h k said v free named on (came_said s t c o h said is) (came_claim s t c o k v claimed);
+  alone = λ c o h k said v key tag free durable is claimed on named has. by_alone c o h k said v key tag free durable on named has (came_said s t c o h said is) (came_claim s t c o k v claimed);
 }
   where
     stays : (c o k : ℕ) (v : Claim) → ClaimIs s t c o k v → LinkStays t (Did s ∷ t) c o v.handle
@@ -410,3 +411,19 @@ did_owned s t ys begun was = record {
         absurd (none_not_some (sym ((begun c o h new.x new.first free).fresh k (sym (ap (λ (x : Said). x.id) new.says) ∙ named)) ∙ claim.there))
     by_tags c o h k said v free named on (inr new) (inr claim) =
         claim.tag ∙ ap tag_in (one_transfer s t c c o o v.handle h claim.x new.x claim.first new.first) ∙ sym (ap (λ (x : Said). x.tag) new.says)
+
+    by_alone : (c o h k : ℕ) (said : Said) (v : Claim) (key : LinkKey) (tag : List ℕ) → is_ending ys (place c o h) ≡ false → durable_key (link (Did s ∷ t) c o h) ≡ Some key → v.handle ≡ h
+        → said.tag ≡ Some tag → v.tag ≡ Some tag → SaidIs s t c o h said → ClaimIs s t c o k v → said.id ≡ Some k
+    by_alone c o h k said v key tag free durable on named has is claimed = by is claimed
+      where
+        before : durable_key (link t c o h) ≡ Some key
+        before =
+            ap (λ (g : ℕ). durable_key (link t c o g)) (sym on) ∙ (stays c o k v claimed).durable ∙ ap (λ (g : ℕ). durable_key (link (Did s ∷ t) c o g)) on ∙ durable
+
+        by : SaidIs s t c o h said → ClaimIs s t c o k v → said.id ≡ Some k
+        by (inl old) (inl claim) = was.alone c o h k said claim.before key tag refl before old claim.there (sym claim.handle ∙ on) named (sym claim.tag ∙ has)
+        by (inl old) (inr claim) = absurd (none_not_some (sym (ap (λ (g : ℕ). said_of (link t c o g)) (sym on) ∙ none_said s t c o v.handle claim.x claim.first) ∙ old))
+        by (inr new) (inl claim) =
+            absurd ((begun c o h new.x new.first free).unused key tag k claim.before before (sym (ap (λ (x : Said). x.tag) new.says) ∙ named) claim.there (sym claim.handle ∙ on) (sym claim.tag ∙ has))
+        by (inr new) (inr claim) =
+            ap (λ (x : Said). x.id) new.says ∙ ap (λ (x : Transfer). x.delivery_id) (one_transfer s t c c o o h v.handle new.x claim.x new.first claim.first) ∙ claim.id

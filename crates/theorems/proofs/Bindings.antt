@@ -7,8 +7,9 @@ use Rattle.router_trace.specs.declared.binding.BindingKind.{BindingKind}
 use Rattle.router_trace.specs.declared.binding.BindingKind.TheVariants as kind
 use Rattle.router_trace.specs.declared.binding.DeliveryName.{DeliveryName}
 use Rattle.router_trace.specs.declared.binding.Origin.{Origin}
+use Rattle.router_trace.specs.declared.binding.Rank.{Rank}
 use Rattle.router_trace.specs.Trace.{Entry, Did, Out, Took, Bound, Booked, Began, is_opening, IsOneRun}
-use Rattle.router_trace.specs.Deliveries.{Delivery, has_row, bound, joined, joins_standing, presettles, either_origin, origin_of, with_binding, unless_called, bindings, name_in, number_named, delivery, sending, named, is_over, unless_over, after_put, after_event, channels_found, acts_found}
+use Rattle.router_trace.specs.Deliveries.{Delivery, has_row, bound, joined, joins_standing, presettles, either_origin, origin_of, with_binding, unless_called, bindings, name_in, number_named, delivery, sending, named, is_over, unless_over, after_put, after_event, channels_found, acts_found, rank_in}
 use Rattle.theorems.specs.Each.{EachBound}
 use Rattle.theorems.specs.OneConsumer.{IsOrNone, IsOf, joined_in, WhileThere, IsOfMessage}
 use Rattle.state_connections.proofs.Lists.{by_test}
@@ -16,8 +17,8 @@ use Rattle.state_deliveries.proofs.Called.{uncalled}
 use Rattle.theorems.proofs.Tests.{some_same, none_not_some}
 use Rattle.theorems.proofs.Followed.{Follows, AllFollow, same, origin_then, joined_both, all_bound, item_follows, event_follows, entry_follows, later_follows}
 
-bound_is : (name : DeliveryName) (b : Binding) → IsOf [] b (bound name b)
-bound_is name b = record { consumer = refl; payload = refl; format = refl; origin = inl refl; presettled = refl; lasting = refl }
+bound_is : (name : DeliveryName) (rank : Rank) (b : Binding) → IsOf [] b (bound name rank b)
+bound_is name rank b = record { consumer = refl; payload = refl; format = refl; origin = inl refl; presettled = refl; lasting = refl }
 
 pub follows_is : (first later : List Entry) (b : Binding) (d e : Delivery) → IsOf first b d → Follows (joined_in later d.name) d e → IsOf (later ++ first) b e
 follows_is first later b d e is follows = record {
@@ -38,17 +39,17 @@ while_is later b d None is follows = tt
 while_is later b d (Some e) is follows = subst (λ (x : List Entry). IsOf x b e) (append-nil later) (follows_is [] later b d e is follows)
 
 -- what a binding with a number makes
-pub bound_now : (b : Binding) (t : List Entry) → joins_standing b.kind ≡ None → (delivery (Bound b ∷ t) (bindings t + 1) ≡ Some (bound (name_in t b) b)) × (bindings (Bound b ∷ t) ≡ bindings t + 1)
+pub bound_now : (b : Binding) (t : List Entry) → joins_standing b.kind ≡ None → (delivery (Bound b ∷ t) (bindings t + 1) ≡ Some (bound (name_in t b) (rank_in t b) b)) × (bindings (Bound b ∷ t) ≡ bindings t + 1)
 bound_now b t none = (
-  ap (λ (j : Option Origin). with_binding j (name_in t b) b (bindings t + 1 == bindings t + 1) (delivery t (bindings t + 1))) none
-      ∙ ap (λ (new : Bool). if new then Some (bound (name_in t b) b) else unless_called (name_in t b) (delivery t (bindings t + 1))) (eq-eqb (bindings t + 1) (bindings t + 1) refl),
+  ap (λ (j : Option Origin). with_binding j (name_in t b) (rank_in t b) b (bindings t + 1 == bindings t + 1) (delivery t (bindings t + 1))) none
+      ∙ ap (λ (new : Bool). if new then Some (bound (name_in t b) (rank_in t b) b) else unless_called (name_in t b) (delivery t (bindings t + 1))) (eq-eqb (bindings t + 1) (bindings t + 1) refl),
   ap (λ (j : Option Origin). if is_none j then bindings t + 1 else bindings t) none,
 )
 
 pub stays_with_consumer : (b : Binding) (t later : List Entry) → IsOneRun later → joins_standing b.kind ≡ None → WhileThere (IsOf later b) (delivery (later ++ Bound b ∷ t) (bindings t + 1))
 stays_with_consumer b t later one numbered =
     let now = bound_now b t numbered
-    in while_is later b (bound (name_in t b) b) (delivery (later ++ Bound b ∷ t) (bindings t + 1)) (bound_is (name_in t b) b)
+    in while_is later b (bound (name_in t b) (rank_in t b) b) (delivery (later ++ Bound b ∷ t) (bindings t + 1)) (bound_is (name_in t b) (rank_in t b) b)
     (subst (λ (v : Option Delivery). AllFollow later v (delivery (later ++ Bound b ∷ t) (bindings t + 1))) now.0
     (later_follows later (Bound b ∷ t) (bindings t + 1) one (subst (λ (k : ℕ). bindings t + 1 ≤ k) (sym now.1) (least (bindings t + 1)))))
   where
@@ -109,7 +110,7 @@ bound_message b t n d h was = by (joins_standing b.kind) refl h
     by_join p None there g = absurd (none_not_some g)
     by_join p (Some x) there g = was_here x there
 
-    by : (j : Option Origin) → joins_standing b.kind ≡ j → with_binding j newest b (bindings t + 1 == n) (delivery t n) ≡ Some d → IsOfMessage (Bound b ∷ t) n d
+    by : (j : Option Origin) → joins_standing b.kind ≡ j → with_binding j newest (rank_in t b) b (bindings t + 1 == n) (delivery t n) ≡ Some d → IsOfMessage (Bound b ∷ t) n d
     by None none g =
         by_test (bindings t + 1 == n)
         (λ e. record {
@@ -121,7 +122,7 @@ bound_message b t n d h was = by (joins_standing b.kind) refl h
           numbered = none;
           number = eqb-true (bindings t + 1) n e;
           name = sym (ap (λ (f : Delivery). f.name) (some_same (rw e at g)));
-          is = subst (λ (f : Delivery). IsOf [] b f) (some_same (rw e at g)) (bound_is newest b);
+          is = subst (λ (f : Delivery). IsOf [] b f) (some_same (rw e at g)) (bound_is newest (rank_in t b) b);
         })
         (λ e. was_here d (uncalled newest (delivery t n) d (rw e at g)).0)
     by (Some p) joins g = by_join p (delivery t n) refl g

@@ -65,17 +65,18 @@ use Rattle.theorems.proofs.Applying.{settled_apply, admission_applies, ordered_a
 use Rattle.theorems.proofs.Changing.{Leaves, leaves_by, undecided_is}
 use Rattle.theorems.proofs.Decisions.{decided_of, none_for}
 use Rattle.theorems.proofs.Ended.{IsEnded, ended_by_all, event_gives}
-use Rattle.theorems.proofs.Claimed.{OneTag}
 use Rattle.theorems.proofs.Facts.{FromTerminus, KeptAs, kept_none, kept_some, IsHeld, Agrees, RowFact, Facts, FactsOf}
 use Rattle.theorems.proofs.Forgetting.{IsFrom, is_from_one, resumed_is_done, forgotten_is_done}
 use Rattle.theorems.proofs.Giving.{row_given, acts_give, map_form, kept_is_form}
 use Rattle.theorems.proofs.Hearing.{gives}
 use Rattle.theorems.proofs.KeptForm.{kept_form, kept_twice}
 use Rattle.theorems.proofs.Looking.{found_number, found_below, none_above}
+use Rattle.theorems.proofs.Owning.{Owned, owned_one}
 use Rattle.theorems.proofs.Settling.{settled, settled_row, found_at_number, found_key, Stays, stays_it, terminus_stays, admission_stays}
 use Rattle.theorems.proofs.Standing.{Standing, one_place, holds_key}
 use Rattle.theorems.proofs.Tests.{some_same, none_not_some}
 use Rattle.theorems.proofs.Undecided.{ends_keep}
+use Rattle.theorems.proofs.Unshared.{event_unshared}
 
 clash : false ≡ true → ⊥
 clash e = cc
@@ -323,11 +324,11 @@ facts_with full t e g planned ordered before decides done was n d r there name =
     under r k n low most = omega (arith, low, most)
 
 -- of an event whose item is no attach: its changes decide all that its acts do
-facts_after : (full : Bool) (t : Trace) (e : Event) → IsPlanned full t e → map_decides (book_in t) t e (event_answer full (book_in t) t e) ≡ [] → Standing t → OneTag t → IsOrdered (book_in t) → Facts t []
+facts_after : (full : Bool) (t : Trace) (e : Event) → IsPlanned full t e → map_decides (book_in t) t e (event_answer full (book_in t) t e) ≡ [] → Standing t → Owned t [] → IsOrdered (book_in t) → Facts t []
     → Facts (Booked (event_acts full (book_in t) t e) (due t e) ∷ t) (event_changes t e (event_answer full (book_in t) t e))
-facts_after full t e planned unmapped standing one ordered was =
+facts_after full t e planned unmapped standing owned ordered was =
     facts_with full t e (λ d. d) planned ordered (λ d. record { settled = refl; comes = λ p from. from }) decides
-    (λ n d r there name from among. forgotten_is_done t b n d r e answer standing one ordered from there name among) was
+    (λ n d r there name from among. forgotten_is_done t b d r e answer standing (owned_one t owned) (event_unshared full b t e owned) ordered from among) was
   where
     b : BookView
     b = book_in t
@@ -618,17 +619,17 @@ sasl_decides full t c channel (perf.Attach a) payload = by (standing (found t e 
     by (Some p) = nothing (receives a.role)
 sasl_decides full t c channel body payload = refl
 
-pub booked_facts : (t : Trace) (e : Event) → Standing t → OneTag t → IsOrdered (book_in t) → (e ≡ event.Start → (n : ℕ) → delivery t n ≡ None) → Facts t []
+pub booked_facts : (t : Trace) (e : Event) → Standing t → Owned t [] → IsOrdered (book_in t) → (e ≡ event.Start → (n : ℕ) → delivery t n ≡ None) → Facts t []
     → FactsOf (Booked (acts_of t e) (due t e) ∷ t) (gives e (acts_of t e)) (changes_of t e)
-booked_facts t event.Start standing one ordered none was = λ n d r there name. absurd (none_not_some (sym (none refl n) ∙ there))
-booked_facts t (event.Item c (item.Frame true channel body payload)) standing one ordered none was =
+booked_facts t event.Start standing owned ordered none was = λ n d r there name. absurd (none_not_some (sym (none refl n) ∙ there))
+booked_facts t (event.Item c (item.Frame true channel body payload)) standing owned ordered none was =
     facts_after (finds_full (journaled t) t (event.Item c (item.Frame true channel body payload))) t (event.Item c (item.Frame true channel body payload)) refl
-    (sasl_decides (finds_full (journaled t) t (event.Item c (item.Frame true channel body payload))) t c channel body payload) standing one ordered was
-booked_facts t (event.Item c (item.Frame false channel (perf.Attach a) payload)) standing one ordered none was =
+    (sasl_decides (finds_full (journaled t) t (event.Item c (item.Frame true channel body payload))) t c channel body payload) standing owned ordered was
+booked_facts t (event.Item c (item.Frame false channel (perf.Attach a) payload)) standing owned ordered none was =
     attach_facts (finds_full (journaled t) t (event.Item c (item.Frame false channel (perf.Attach a) payload))) t c channel a payload standing ordered was
-booked_facts t (event.Item c (item.Frame false channel body payload)) standing one ordered none was =
-    facts_after (finds_full (journaled t) t (event.Item c (item.Frame false channel body payload))) t (event.Item c (item.Frame false channel body payload)) refl refl standing one ordered was
-booked_facts t (event.Item c i) standing one ordered none was = facts_after (finds_full (journaled t) t (event.Item c i)) t (event.Item c i) refl refl standing one ordered was
-booked_facts t (event.Up c p) standing one ordered none was = facts_after (finds_full (journaled t) t (event.Up c p)) t (event.Up c p) refl refl standing one ordered was
-booked_facts t (event.Down c) standing one ordered none was = facts_after (finds_full (journaled t) t (event.Down c)) t (event.Down c) refl refl standing one ordered was
-booked_facts t (event.Tick ms) standing one ordered none was = facts_after (finds_full (journaled t) t (event.Tick ms)) t (event.Tick ms) refl refl standing one ordered was
+booked_facts t (event.Item c (item.Frame false channel body payload)) standing owned ordered none was =
+    facts_after (finds_full (journaled t) t (event.Item c (item.Frame false channel body payload))) t (event.Item c (item.Frame false channel body payload)) refl refl standing owned ordered was
+booked_facts t (event.Item c i) standing owned ordered none was = facts_after (finds_full (journaled t) t (event.Item c i)) t (event.Item c i) refl refl standing owned ordered was
+booked_facts t (event.Up c p) standing owned ordered none was = facts_after (finds_full (journaled t) t (event.Up c p)) t (event.Up c p) refl refl standing owned ordered was
+booked_facts t (event.Down c) standing owned ordered none was = facts_after (finds_full (journaled t) t (event.Down c)) t (event.Down c) refl refl standing owned ordered was
+booked_facts t (event.Tick ms) standing owned ordered none was = facts_after (finds_full (journaled t) t (event.Tick ms)) t (event.Tick ms) refl refl standing owned ordered was

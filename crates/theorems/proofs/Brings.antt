@@ -19,7 +19,7 @@ use Rattle.resume_core.specs.Resuming.{entries_of, told_of, outcome_given, decid
 use Rattle.reply_rows.specs.declared.answer.Answer.{Answer}
 use Rattle.router_trace.specs.Configuration.{beginning, opened}
 use Rattle.router_trace.specs.Connection.{conn, due}
-use Rattle.router_trace.specs.Deliveries.{outcome_among, outcome_as, acts_found, bound, name_in, is_message, joins_standing}
+use Rattle.router_trace.specs.Deliveries.{outcome_among, outcome_as, acts_found, bound, name_in, is_message, joins_standing, rank_in}
 use Rattle.router_trace.specs.Trace.{Beginning, Trace, Did, Out, Took, Bound, Put, Step, did, step_of, goes, puts, each_to}
 use Rattle.router_trace.specs.declared.binding.Binding.{Binding}
 use Rattle.router_trace.specs.declared.binding.BindingKind.{BindingKind}
@@ -161,13 +161,13 @@ bound_brings (Some b) t fresh was = record {
     ordered : IsOrdered (book_in t)
     ordered = sound_is_ordered (book_in t) was.book
 
-    joined : (p : Origin) → JoinsRow t b p → (r : RowNumber) → b.row ≡ Some r → RowLasts (book_in t) r (bound (name_in t b) b)
+    joined : (p : Origin) → JoinsRow t b p → (r : RowNumber) → b.row ≡ Some r → RowLasts (book_in t) r (bound (name_in t b) (rank_in t b) b)
     joined p joins r named =
         let number : joins.row.number ≡ r = some_same (sym (ap (λ (x : Binding). x.row) joins.joins) ∙ named) in
         joined_lasts t b (ap (λ (x : Binding). x.lasting) joins.joins) r
         (subst (λ (n : RowNumber). n.0 < (book_in t).next_row) number (joined_below t b p joins ordered)) named
 
-    by : (k : BindingKind) → b.kind ≡ k → joins_standing b.kind ≡ None → (r : RowNumber) → b.row ≡ Some r → RowLasts (book_in t) r (bound (name_in t b) b)
+    by : (k : BindingKind) → b.kind ≡ k → joins_standing b.kind ≡ None → (r : RowNumber) → b.row ≡ Some r → RowLasts (book_in t) r (bound (name_in t b) (rank_in t b) b)
     by (kind.Message o) is new r named =
         let now = (fresh b refl).0 (ap is_message is) in
         message_lasts t b r (subst (λ (o : Option RowNumber). IsAdmittedUnder t b o) named now.1) ordered now.0 named

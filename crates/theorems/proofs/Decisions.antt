@@ -1,14 +1,12 @@
 -- What an event decides and forgets of rows is what its changes make of their deliveries.
-use Rattle.std.proofs.Common.{◌≡◌, ◌∙◌, sym, ap, refl, subst, ℕ, zero, suc, ◌+◌, ◌-◌, ◌^◌, ◌≤◌, ◌<◌, Bool, true, false, ◌&&◌, ◌||◌, List, [], ◌∷◌, ◌++◌, ◌⊎◌, inl, inr, arith}
-use Rattle.std.specs.Prelude.{◌==◌, nat_le, Option, Some, None, map, filter, option_map, if◌then◌else◌}
-use Rattle.std.proofs.lemmas.Bool.{eqb-true, eq-eqb}
+use Rattle.std.proofs.Common.{◌≡◌, ◌∙◌, sym, ap, refl, subst, ℕ, zero, suc, ◌+◌, ◌-◌, ◌≤◌, ◌<◌, Bool, true, false, ◌||◌, List, [], ◌∷◌, ◌++◌, ◌⊎◌, inl, inr, arith}
+use Rattle.std.specs.Prelude.{◌==◌, Option, Some, None, map, filter, option_map, if◌then◌else◌}
+use Rattle.std.proofs.lemmas.Bool.{eqb-true}
 use Rattle.std.proofs.lemmas.Bool.Decides.{nat_tests}
 use Rattle.amqp_model.specs.declared.perf.Disposition.{Disposition as ADisposition}
 use Rattle.amqp_model.specs.declared.perf.Role.{Role}
 use Rattle.amqp_model.specs.declared.perf.Role.TheVariants.{Sender, Receiver}
 use Rattle.amqp_model.specs.declared.state.DeliveryState.{DeliveryState}
-use Rattle.amqp_session.specs.Ranges.{in_range}
-use Rattle.amqp_session.specs.Serials.{distance}
 use Rattle.book_model.specs.declared.act.Decision.{Decision}
 use Rattle.book_model.specs.declared.row.Row.{Row as ARow}
 use Rattle.book_model.specs.declared.row.RowNumber.{RowNumber}
@@ -21,15 +19,14 @@ use Rattle.router_trace.specs.declared.binding.DeliveryName.TheVariants.{Row, Co
 use Rattle.router_trace.specs.declared.binding.Origin.{Origin}
 use Rattle.router_trace.specs.Trace.{Trace}
 use Rattle.router_trace.specs.DeliveryFrames.{kept_outcome}
-use Rattle.router_trace.specs.Deliveries.{Delivery, source, bindings, number_named, delivery, is_undecided, untold, last_of, stands_on}
+use Rattle.router_trace.specs.Deliveries.{Delivery, source, bindings, number_named, delivery, is_undecided, untold, last_of}
 use Rattle.state_deliveries.specs.declared.change.Change.{Change}
 use Rattle.state_deliveries.specs.declared.change.Change.TheVariants as change
-use Rattle.state_deliveries.specs.Deciding.{gathered_below, changed_by, row_of, outcome_of_row, outcome_of, decision_of, decided_rows, listed_row, row_from, rows_from}
+use Rattle.state_deliveries.specs.Deciding.{gathered_below, changed_by, row_of, outcome_of_row, outcome_of, decision_of, decided_rows}
 use Rattle.state_deliveries.specs.Hearing.{disposed_change}
 use Rattle.state_deliveries.specs.Stepping.{comes_with_id, changed}
 use Rattle.state_deliveries.proofs.Called.{there_named}
 use Rattle.router_reply.specs.Deciding.{listed, as_kept}
-use Rattle.router_reply.specs.Joining.{is_held_on}
 use Rattle.theorems.proofs.Bindings.{there_bound}
 use Rattle.theorems.proofs.Changing.{leaves_by}
 use Rattle.theorems.proofs.Looking.{by_case, none_above}
@@ -228,72 +225,6 @@ untold_is_done d c own x more settled comes p from = by x.settled settled from
     by true e from =
         undone (comes_with_id (source d) c own x.first (last_of x)) comes p
         ((leaves_by more (changed (change.Untold c own x.first (last_of x)) d)).comes p from)
-
--- the row of a delivery on a session that its producer isn't done with
-
-among_gathered : (k : ℕ) (g : ℕ → List RowNumber) (n m : ℕ) → m < k → is_among n (g m) ≡ true → is_among n (gathered_below k g) ≡ true
-unfolding gathered_below
-among_gathered zero g n m low is = absurd (never m low)
-  where
-    never : (m : ℕ) → m < 0 → ⊥
-    never m low = omega (arith, low)
-among_gathered (suc k) g n m low is =
-    among_more n (gathered_below k g) (g k)
-    ∙ by_case (k == m)
-    (λ e. last (is_among n (gathered_below k g)) (subst (λ (j : ℕ). is_among n (g j) ≡ true) (sym (eqb-true k m e)) is))
-    (λ e. before (is_among n (g k)) (among_gathered k g n m (under m k low e) is))
-  where
-    under : (m k : ℕ) → m < suc k → (k == m) ≡ false → m < k
-    under m k low e = grind (arith, nat_tests)
-
-    last : (q : Bool) → is_among n (g k) ≡ true → (q || is_among n (g k)) ≡ true
-    last true is = refl
-    last false is = is
-
-    before : (q : Bool) → is_among n (gathered_below k g) ≡ true → (is_among n (gathered_below k g) || q) ≡ true
-    before q is = ap (λ (p : Bool). p || q) is
-
-comes_among : (t : Trace) (n : ℕ) (d : Delivery) (r : RowNumber) (c o first last : ℕ) → delivery t n ≡ Some d → d.name ≡ Row r → comes_with_id (source d) c o first last ≡ true
-    → is_among r.0 (rows_from t c o first last) ≡ true
-comes_among t n d r c o first last there name comes =
-    among_gathered (bindings t + 1) (λ m. row_from c o first last (delivery t m)) r.0 n (under n (bindings t) (there_bound t n d there))
-    (ap (λ (v : Option Delivery). is_among r.0 (row_from c o first last v)) there
-    ∙ ap (λ (q : Bool). is_among r.0 (if q then listed_row (row_of d.name) else [])) comes
-    ∙ ap (λ (x : DeliveryName). is_among r.0 (listed_row (row_of x))) name ∙ itself r.0)
-  where
-    under : (n k : ℕ) → n ≤ k → n < k + 1
-    under n k low = omega (arith, low)
-
-    itself : (m : ℕ) → ((m == m) || false) ≡ true
-    itself m = ap (λ (q : Bool). q || false) (eq-eqb m m refl)
-
--- its id is in one half of all
-either_half : (id : ℕ) → (in_range 0 (2 ^ 31 - 1) id || in_range (2 ^ 31) (2 ^ 32 - 1) id) ≡ true
-either_half id = by_case (nat_le (distance 0 id) (2 ^ 31 - 1)) (λ e. rw e refl) (λ e. rw (e, high id e) refl)
-  where
-    high : (id : ℕ) → nat_le (distance 0 id) (2 ^ 31 - 1) ≡ false → nat_le (distance (2 ^ 31) id) (2 ^ 31 - 1) ≡ true
-    high id e = grind (arith, nat_tests)
-
-pub held_is : (t : Trace) (n : ℕ) (d : Delivery) (r : RowNumber) (c o : ℕ) (p : Origin) → delivery t n ≡ Some d → d.name ≡ Row r → source d ≡ Some p → p.link.conn.0 ≡ c → p.link.channel ≡ o
-    → is_held_on t c o r.0 ≡ true
-held_is t n d r c o p there name from conn channel = by (in_range 0 (2 ^ 31 - 1) p.id) (in_range (2 ^ 31) (2 ^ 32 - 1) p.id) refl refl (either_half p.id)
-  where
-    on_session : stands_on p.link c o ≡ true
-    on_session = rw (eq-eqb p.link.conn.0 c conn, eq-eqb p.link.channel o channel) refl
-
-    comes : (first last : ℕ) → in_range first last p.id ≡ true → is_among r.0 (rows_from t c o first last) ≡ true
-    comes first last is =
-        comes_among t n d r c o first last there name
-        (ap (λ (v : Option Origin). comes_with_id v c o first last) from ∙ ap (λ (q : Bool). q && in_range first last p.id) on_session ∙ is)
-
-    second : (q : Bool) → is_among r.0 (rows_from t c o (2 ^ 31) (2 ^ 32 - 1)) ≡ true → (q || is_among r.0 (rows_from t c o (2 ^ 31) (2 ^ 32 - 1))) ≡ true
-    second true is = refl
-    second false is = is
-
-    by : (f g : Bool) → in_range 0 (2 ^ 31 - 1) p.id ≡ f → in_range (2 ^ 31) (2 ^ 32 - 1) p.id ≡ g → (f || g) ≡ true → is_held_on t c o r.0 ≡ true
-    by true g low high is = ap (λ (q : Bool). q || is_among r.0 (rows_from t c o (2 ^ 31) (2 ^ 32 - 1))) (comes 0 (2 ^ 31 - 1) low)
-    by false true low high is = second (is_among r.0 (rows_from t c o 0 (2 ^ 31 - 1))) (comes (2 ^ 31) (2 ^ 32 - 1) high)
-    by false false low high is = absurd (clash is)
 
 -- the rows of a producer
 

@@ -25,7 +25,7 @@ use Rattle.router_trace.specs.declared.binding.Origin.{Origin}
 use Rattle.router_trace.specs.declared.handle.Attachment.{Attachment}
 use Rattle.router_trace.specs.Trace.{Trace, Entry, Did, Out, Took, Bound, Step}
 use Rattle.router_trace.specs.Claims.{Claim, answered_by, bind_claim, bound_claim, claim_after, claim_after_in, claims, unless_ended}
-use Rattle.router_trace.specs.Deliveries.{Delivery, source, told, ended_by, is_meant, origin_id, last_of, bound, origin_of, stands_on, joins_standing, with_origin, name_in, name_of, number_named, delivery, sending, named, after_put, after_event, channels_found, acts_found}
+use Rattle.router_trace.specs.Deliveries.{Delivery, source, told, ended_by, is_meant, origin_id, last_of, bound, origin_of, stands_on, joins_standing, with_origin, name_in, name_of, number_named, delivery, sending, named, after_put, after_event, channels_found, acts_found, rank_in}
 use Rattle.router_trace.specs.Following.{link_of}
 use Rattle.router_trace.specs.Links.{link, durable_key, ends_handle, ends_handle_in}
 use Rattle.state_deliveries.specs.declared.change.Change.{Change}
@@ -253,7 +253,7 @@ named_row : (row : Option RowNumber) (k : ℕ) (r : RowNumber) → name_of row k
 named_row None k r is = absurd cc
 named_row (Some q) k r is = cc
 
-pub bound_facts : (b : Binding) (t : List Entry) → (joins_standing b.kind ≡ None → (r : RowNumber) → b.row ≡ Some r → RowFact t (book_in t) r (bound (name_in t b) b))
+pub bound_facts : (b : Binding) (t : List Entry) → (joins_standing b.kind ≡ None → (r : RowNumber) → b.row ≡ Some r → RowFact t (book_in t) r (bound (name_in t b) (rank_in t b) b))
     → ((r : RowNumber) (p : Origin) (d : Delivery) → joins_standing b.kind ≡ Some p → b.row ≡ Some r → RowFact t (book_in t) r d → RowFact t (book_in t) r (with_origin p d))
     → Facts t [] → Facts (Bound b ∷ t) []
 bound_facts b t new joined was n d r now name =

@@ -1,9 +1,8 @@
 -- First frames that are taken: each has a tag, and an id and (on a durable link) a tag that the link doesn't claim; any other answer ends the link. This is
 -- for events that aren't refused.
 use Rattle.std.proofs.Common.{◌≡◌, ◌∙◌, sym, ap, refl, subst, ◌⊎◌, inl, inr, ℕ, ◌<◌, ◌^◌, Bool, true, false, not, ◌&&◌, ◌||◌, List, [], ◌∷◌, ◌++◌}
-use Rattle.std.specs.Prelude.{◌==◌, nat_eq, bytes_eq, Option, Some, None, is_none, is_some, option_map, map, Result, Ok, Err, if◌then◌else◌}
+use Rattle.std.specs.Prelude.{◌==◌, nat_eq, Option, Some, None, is_none, is_some, option_map, map, Result, Ok, Err, if◌then◌else◌}
 use Rattle.std.proofs.lemmas.Bool.{eqb-true, eq-eqb, ltb-true}
-use Rattle.std.proofs.lemmas.Slice.Eq.{bytes_eq-Decides}
 use Rattle.amqp_model.specs.declared.perf.Perf.TheVariants as perf
 use Rattle.amqp_model.specs.declared.perf.Transfer.{Transfer}
 use Rattle.amqp_model.specs.declared.item.Item.{Item}
@@ -32,7 +31,7 @@ use Rattle.router_trace.specs.Links.{Link, LinkPlace, on, on_link, Happened, rec
 use Rattle.router_trace.specs.Numbers.{first_below}
 use Rattle.router_trace.specs.Refusing.{refuses}
 use Rattle.router_trace.specs.Sessions.{maps, on_session, place_by, session, theirs}
-use Rattle.router_trace.specs.Settling.{is_claimed, is_tagged_on, middle_by, middle_on, told_first, uses_tag}
+use Rattle.router_trace.specs.Settling.{is_claimed, middle_by, middle_on, told_first, uses_tag}
 use Rattle.reply_rows.specs.declared.answer.Answer.{Answer}
 use Rattle.reply_rows.specs.declared.answer.Answer.TheVariants.{CloseWith, Taken}
 use Rattle.reply_rows.specs.Rows.{in_turn, out_of_turn, transfer_reply, turn_by}
@@ -45,13 +44,13 @@ use Rattle.state_connections.proofs.Lists.{by_test}
 use Rattle.state_deliveries.specs.declared.change.Change.{Change}
 use Rattle.state_deliveries.specs.declared.change.Change.TheVariants as change
 use Rattle.state_deliveries.specs.declared.change.Gone.TheVariants as gone
-use Rattle.state_deliveries.proofs.Unsent.{first_there}
 use Rattle.theorems.proofs.Begun.{Begun, FirstFrame}
 use Rattle.theorems.proofs.Ending.{CameBegun, answer_rest}
 use Rattle.theorems.proofs.Owning.{Owned, ends_it, is_ending}
 use Rattle.theorems.proofs.Wholes.{lost_ending}
 use Rattle.theorems.proofs.Standing.{place}
 use Rattle.theorems.proofs.Tests.{some_same, none_not_some}
+use Rattle.theorems.proofs.Unshared.{uses_it}
 
 clash : true ≡ false → ⊥
 clash e = cc
@@ -180,21 +179,13 @@ new_begun b t c o h x owned new = record {
   small = λ k named. serial_id x new.named k named;
   tagged = tag_some (λ tag. tag.items) x.delivery_tag (is_serial x.delivery_id) new.named;
   fresh = λ k named. unclaimed (claims t c o k) (sym (ap (is_among (is_claimed t c o)) named) ∙ new.fresh);
-  unused = λ key tag k v durable tagged there on_link has. clash (sym (used tag k v there on_link has) ∙ unused_tag key tag durable tagged);
+  unused = λ key tag k v durable tagged there on_link has. clash (sym (uses_it t c o h tag k v owned there on_link has) ∙ unused_tag key tag durable tagged);
 }
   where
     unused_tag : (key : LinkKey) (tag : List ℕ) → durable_key (link t c o h) ≡ Some key → tag_in x ≡ Some tag → uses_tag t c o h tag ≡ false
     unused_tag key tag durable tagged =
         first_false (uses_tag t c o h tag) (not x.resume && stands_from (terminus_of key b.termini) tag b.rows)
         (sym (ap (repeats b t c o h x.resume (Some key)) tagged) ∙ sym (ap (λ (w : Option LinkKey). repeats b t c o h x.resume w (tag_in x)) durable) ∙ new.unrepeated)
-
-    used : (tag : List ℕ) (k : ℕ) (v : Claim) → claims t c o k ≡ Some v → v.handle ≡ h → v.tag ≡ Some tag → uses_tag t c o h tag ≡ true
-    used tag k v there on_link has =
-        first_there (2 ^ 32) (λ id. is_tagged_on h tag (claims t c o id)) k (owned.ids c o k v refl there)
-        (ap (is_tagged_on h tag) there ∙ is_tagged v.handle v.tag (eq-eqb v.handle h on_link) has)
-      where
-        is_tagged : (g : ℕ) (own : Option (List ℕ)) → (g == h) ≡ true → own ≡ Some tag → is_tagged_on h tag (Some (record { handle = g; unbound = false; tag = own })) ≡ true
-        is_tagged g own e f = rw (e, f) ((bytes_eq-Decides tag tag).1 refl)
 
 -- for each first frame that comes
 

@@ -24,7 +24,7 @@ use Rattle.router_trace.specs.declared.event.Event.{Event}
 use Rattle.router_trace.specs.declared.event.Event.TheVariants as event
 use Rattle.router_trace.specs.declared.handle.Attachment.{Attachment}
 use Rattle.router_trace.specs.Trace.{Entry, Did, Out, Took, Booked, Bound, Began, is_opening, IsOneRun}
-use Rattle.router_trace.specs.Deliveries.{Delivery, bindings, counters, name_of, name_in, same_name, number_named, unless_called, bound, joined, joins_standing, with_binding, with_origin, either_origin, delivery, sending, named, is_over, unless_over, after_frame, decided, source, untold, unsettled, told, ended, decided_at_end, suspended_at_end, closes, is_undecided, is_meant, is_named, decision, terminal, is_gone_with, after_origin, after_ends, ended_by, put_in, after_put, carried, tag_in, is_number, is_on, is_settled_at, disposed, outcome_or, outcome_named, given, heard_in, heard, lost_with, after_event, origin_id, channels_found, acts_found, sender, forsaken}
+use Rattle.router_trace.specs.Deliveries.{Delivery, bindings, counters, name_of, name_in, same_name, number_named, unless_called, bound, joined, joins_standing, with_binding, with_origin, either_origin, delivery, sending, named, is_over, unless_over, after_frame, decided, source, untold, unsettled, told, ended, decided_at_end, suspended_at_end, closes, is_undecided, is_meant, is_named, decision, terminal, is_gone_with, after_origin, after_ends, ended_by, put_in, after_put, carried, tag_in, is_number, is_on, is_settled_at, disposed, outcome_or, outcome_named, given, heard_in, heard, lost_with, after_event, origin_id, channels_found, acts_found, sender, forsaken, rank_in}
 use Rattle.theorems.specs.OneConsumer.{IsOrNone, is_row_of, joined_in, WhileThere}
 use Rattle.state_connections.proofs.Lists.{by_test}
 use Rattle.state_deliveries.proofs.Called.{there_named}
@@ -315,12 +315,12 @@ entry_follows (Bound b) t n given = by (joins_standing b.kind) refl
     newest : DeliveryName
     newest = name_in t b
 
-    by_number : AllFollow [] (delivery t n) (if bindings t + 1 == n then Some (bound newest b) else unless_called newest (delivery t n))
+    by_number : AllFollow [] (delivery t n) (if bindings t + 1 == n then Some (bound newest (rank_in t b) b) else unless_called newest (delivery t n))
     by_number = by_test (bindings t + 1 == n) (λ e. absurd (too_high n (bindings t) given (eqb-true (bindings t + 1) n e))) (λ e. rw e (uncalled_follow newest (delivery t n)))
 
-    by : (j : Option Origin) → joins_standing b.kind ≡ j → AllFollow (Bound b ∷ []) (delivery t n) (with_binding j newest b (bindings t + 1 == n) (delivery t n))
+    by : (j : Option Origin) → joins_standing b.kind ≡ j → AllFollow (Bound b ∷ []) (delivery t n) (with_binding j newest (rank_in t b) b (bindings t + 1 == n) (delivery t n))
     by None none =
-        nothing_joined (Bound b ∷ []) (λ name. none_joined b name none) (delivery t n) (if bindings t + 1 == n then Some (bound newest b) else unless_called newest (delivery t n)) by_number
+        nothing_joined (Bound b ∷ []) (λ name. none_joined b name none) (delivery t n) (if bindings t + 1 == n then Some (bound newest (rank_in t b) b) else unless_called newest (delivery t n)) by_number
     by (Some p) joins = join_follows b t n p joins
 
 pub more_bound : (e : Entry) (t : List Entry) (n : ℕ) → is_opening e ≡ false → n ≤ bindings t → n ≤ bindings (e ∷ t)

@@ -27,7 +27,7 @@ use Rattle.book_model.specs.declared.terminus.LinkRole.{LinkRole}
 use Rattle.book_model.specs.declared.terminus.LinkRole.TheVariants.{Producer, Consumer}
 use Rattle.book_model.specs.declared.terminus.Terminus.{Terminus}
 use Rattle.book_model.specs.declared.terminus.TerminusNumber.{TerminusNumber}
-use Rattle.book_model.specs.Book.{BookView, row_at, row_named, has_tag, terminus_at, terminus_of, is_from, is_for, is_for_by, is_of, same_role, same_bytes, is_undecided as is_open_row, decided, forgotten, effects, first_fault}
+use Rattle.book_model.specs.Book.{BookView, row_at, has_tag, terminus_at, terminus_of, is_from, is_for, is_for_by, is_of, same_role, is_undecided as is_open_row, decided, forgotten, effects, first_fault}
 use Rattle.book_core.specs.Rising.{Rises, AllAbove}
 use Rattle.gate_journal.specs.Ordered.{IsOrdered, number_of_row}
 use Rattle.journal_store.specs.declared.acting.TerminusAct.{TerminusAct}
@@ -36,7 +36,6 @@ use Rattle.journal_store.proofs.Makes.{effects_more}
 use Rattle.journal_store.proofs.Rowwise.{Leaves as Left}
 use Rattle.journal_store.proofs.Settled.{settles_leave}
 use Rattle.journal_store.proofs.Started.{start_applies}
-use Rattle.router_trace.specs.declared.binding.DeliveryName.TheVariants.{Row}
 use Rattle.router_trace.specs.declared.binding.Origin.{Origin}
 use Rattle.router_trace.specs.declared.event.ConnectionId.{ConnectionId}
 use Rattle.router_trace.specs.declared.event.Event.{Event}
@@ -65,13 +64,13 @@ use Rattle.router_reply.specs.Acts.{live_answer, event_answer, answer_acts, plan
 use Rattle.router_reply.specs.Admitting.{event_admission, admits}
 use Rattle.router_reply.specs.Asking.{key_taken, receives, resumed_key, attach_in, decided_for, map_decides, forgotten_of, all_rows, forgotten_for, map_forgets}
 use Rattle.router_reply.specs.Deciding.{as_kept, lost, listed, ended_by, stolen_from, session_found, settled_on, event_changes, decided as decided_in, sent_by, sent_from, closed_terminus, item_forgets, forgotten as forgotten_at, terminus_of_event}
-use Rattle.router_reply.specs.Joining.{settled_whole, is_held_on, unless_held, settled_by_transfer, number_under, rows_claimed}
-use Rattle.reply_transfers.specs.Joining.{named_row, row_joined, row_under}
+use Rattle.router_reply.specs.Joining.{settled_whole, row_alone, settled_by_transfer, number_under, rows_claimed}
+use Rattle.reply_transfers.specs.Joining.{row_joined, row_under}
 use Rattle.theorems.proofs.Applying.{settled_apply, admission_applies, ordered_after}
 use Rattle.theorems.proofs.Changing.{Leaves, leaves_by, undecided_is}
-use Rattle.theorems.proofs.Decisions.{decided_of, none_for, either_for, untold_is_done, among_rows, among_more, held_is}
+use Rattle.theorems.proofs.Decisions.{untold_is_done, among_rows, among_more}
 use Rattle.theorems.proofs.Ended.{IsEnded, ended_by_all, event_gives}
-use Rattle.theorems.proofs.Claimed.{ClaimedRow, claimed_row, listed_is, HasClaim, OneTag}
+use Rattle.theorems.proofs.Claimed.{ClaimedRow, claimed_row, JoinedRow, joined_row, listed_is, HasClaim, OneTag}
 use Rattle.theorems.proofs.Facts.{FromTerminus, IsHeld, Agrees}
 use Rattle.theorems.proofs.Giving.{row_given, acts_give, map_form, kept_is_form}
 use Rattle.theorems.proofs.Hearing.{gives}
@@ -81,6 +80,7 @@ use Rattle.theorems.proofs.Settling.{settled, settled_row, found_at_number, foun
 use Rattle.theorems.proofs.Standing.{Standing, one_place, holds_key}
 use Rattle.theorems.proofs.Tests.{some_same, none_not_some}
 use Rattle.theorems.proofs.Undecided.{ends_keep}
+use Rattle.theorems.proofs.Unshared.{SettlesUnshared, EventUnshared}
 
 clash : false ≡ true → ⊥
 clash e = cc
@@ -119,9 +119,9 @@ sent_by_key t b d r key x ordered agrees found Producer among p from =
     let rows = among_rows r.0 (is_from x.number.0) b.rows ordered.rows_rise among in
     key_of_row t b d r key x ordered agrees found rows.0 rows.1 rows.2 p from
 
-closed_is_done : (t : Trace) (b : BookView) (n : ℕ) (d : Delivery) (r : RowNumber) (c : ℕ) (answer : Answer) (first : List Change) (i : Item) → Standing t → IsOrdered b → IsFrom t b (row_at r.0 b.rows) d
+closed_is_done : (t : Trace) (b : BookView) (d : Delivery) (r : RowNumber) (c : ℕ) (answer : Answer) (first : List Change) (i : Item) → Standing t → IsOrdered b → IsFrom t b (row_at r.0 b.rows) d
     → is_among r.0 (sent_from b (closed_terminus b t c answer)) ≡ true → (p : Origin) → source (changed_by (first ++ ended_by t c i answer) d) ≡ Some p → ⊥
-closed_is_done t b n d r c (Detach own handle true None) first i standing ordered agrees among p from =
+closed_is_done t b d r c (Detach own handle true None) first i standing ordered agrees among p from =
     by_key (durable_key (link t c own handle)) refl among
   where
     last : source (changed (change.Ends (gone.Link c own handle) true) (changed_by first d)) ≡ Some p
@@ -150,9 +150,9 @@ closed_is_done t b n d r c (Detach own handle true None) first i standing ordere
     by_key : (v : Option LinkKey) → durable_key (link t c own handle) ≡ v → is_among r.0 (sent_from b (option_and_then (λ key. terminus_of key b.termini) v)) ≡ true → ⊥
     by_key None durable among = clash among
     by_key (Some key) durable among = by_terminus key (terminus_of key b.termini) durable refl among
-closed_is_done t b n d r c (Detach own handle true (Some x)) first i standing ordered agrees among p from = clash among
-closed_is_done t b n d r c (Detach own handle false x) first i standing ordered agrees among p from = clash among
-closed_is_done t b n d r c _ first i standing ordered agrees among p from = clash among
+closed_is_done t b d r c (Detach own handle true (Some x)) first i standing ordered agrees among p from = clash among
+closed_is_done t b d r c (Detach own handle false x) first i standing ordered agrees among p from = clash among
+closed_is_done t b d r c _ first i standing ordered agrees among p from = clash among
 
 -- nor is a producer whose attach says so: its link takes the place of the older one
 
@@ -239,7 +239,7 @@ resumed_is_done t b d r c channel sasl a payload (Attach own) first standing ord
     by_wish false among = clash among
 resumed_is_done t b d r c channel sasl a payload _ first standing ordered agrees among p from = clash among
 
--- nor is one that resumes it by a settled delivery: no delivery on its session has the row
+-- nor is one that resumes it by a settled delivery: no unsettled delivery of the link has its tag
 
 named_there : (p : ARow → Bool) (rs : List ARow) (row : ARow) → Rises number_of_row rs → find p rs ≡ Some row → (p row ≡ true) × (row_at row.number.0 rs ≡ Some row)
 named_there p [] row up is = absurd (none_not_some is)
@@ -260,54 +260,38 @@ named_there p (r ∷ rs) row up is = by (p r) refl is (named_there p rs row up.1
     by true e is rest = subst (λ (v : ARow). (p v ≡ true) × (row_at v.number.0 (r ∷ rs) ≡ Some v)) (some_same is) (e, rw (eq-eqb r.number.0 r.number.0 refl) refl)
     by false e is rest = let later = rest is in (later.0, rw (apart later.1) later.1)
 
-transfer_is_done : (t : Trace) (b : BookView) (n : ℕ) (d : Delivery) (r : RowNumber) (c : ℕ) (x : ATransfer) (answer : Answer) → Standing t → IsOrdered b → IsFrom t b (row_at r.0 b.rows) d
-    → delivery t n ≡ Some d → d.name ≡ Row r → is_among r.0 (settled_by_transfer b t c x answer) ≡ true → (p : Origin) → source d ≡ Some p → ⊥
-transfer_is_done t b n d r c x (Taken own handle) standing ordered agrees there name among p from =
-    by_key (durable_key (link t c own handle)) refl (settled_whole x (middle_on (link_place t c own x.handle))) among
+transfer_is_done : (t : Trace) (b : BookView) (d : Delivery) (r : RowNumber) (c : ℕ) (x : ATransfer) (answer : Answer) → Standing t → IsOrdered b → IsFrom t b (row_at r.0 b.rows) d
+    → SettlesUnshared t c x answer → is_among r.0 (settled_by_transfer b t c x answer) ≡ true → (p : Origin) → source d ≡ Some p → ⊥
+transfer_is_done t b d r c x (Taken own handle) standing ordered agrees unshared among p from = by (row_joined b key tag) refl among
   where
-    one : (row : ARow) (m : ℕ) → ((row.number.0 == m) || false) ≡ true → row.number.0 ≡ m
-    one row m is = by (row.number.0 == m) refl is
+    key : Option LinkKey
+    key = durable_key (link t c own handle)
+
+    tag : Option (List ℕ)
+    tag = settled_whole x (middle_on (link_place t c own x.handle))
+
+    one : (m : ℕ) → ((m == r.0) || false) ≡ true → m ≡ r.0
+    one m is = test (m == r.0) refl is
       where
-        by : (q : Bool) → (row.number.0 == m) ≡ q → (q || false) ≡ true → row.number.0 ≡ m
-        by true e is = eqb-true row.number.0 m e
-        by false e is = absurd (clash is)
+        test : (q : Bool) → (m == r.0) ≡ q → (q || false) ≡ true → m ≡ r.0
+        test true e is = eqb-true m r.0 e
+        test false e is = absurd (clash is)
 
-    by_place : (key : LinkKey) (y : Terminus) (row : ARow) → durable_key (link t c own handle) ≡ Some key → terminus_of key b.termini ≡ Some y → is_from y.number.0 row ≡ true
-        → row_at row.number.0 b.rows ≡ Some row → row.number.0 ≡ r.0 → is_held_on t c own r.0 ≡ true
-    by_place key y row durable found came stands same =
-        let at : row_at r.0 b.rows ≡ Some row = subst (λ (m : ℕ). row_at m b.rows ≡ Some row) same stands in
-        let place = one_place t standing p.link (record { number = 0; conn = record { 0 = c }; channel = own; handle = handle }) key
-        (key_of_row t b d r key y ordered agrees found row at came p from) durable in
-        held_is t n d r c own p there name from place.0 place.1
+    -- the producer's delivery would have its tag on the link
+    on : (row : ARow) → JoinedRow b key tag row → row.number.0 ≡ r.0 → ⊥
+    on row joined number =
+        let at = named_there (has_tag joined.terminus.number.0 row.tag.items) b.rows row ordered.rows_rise joined.named in
+        let there : row_at r.0 b.rows ≡ Some row = subst (λ (m : ℕ). row_at m b.rows ≡ Some row) number at.1 in
+        let came : is_from joined.terminus.number.0 row ≡ true = eq-eqb row.producer.0 joined.terminus.number.0 joined.its_producer in
+        let place = one_place t standing p.link (record { number = 0; conn = record { 0 = c }; channel = own; handle = handle }) joined.of_link
+        (key_of_row t b d r joined.of_link joined.terminus ordered agrees joined.of_key row there came p from) joined.durable in
+        let has : HasClaim t p row.tag.items = (subst (λ (v : Option ARow). IsFrom t b v d) there agrees p from).1 in
+        unshared joined.of_link row.tag.items joined.durable joined.same_tag p place.0 place.1 place.2 has
 
-    by_row : (key : LinkKey) (y : Terminus) (tag : List ℕ) → durable_key (link t c own handle) ≡ Some key → terminus_of key b.termini ≡ Some y
-        → (v : Option ARow) → row_named y.number.0 tag b.rows ≡ v → is_among r.0 (unless_held t c own v) ≡ true → ⊥
-    by_row key y tag durable found None named among = clash among
-    by_row key y tag durable found (Some row) named among = test (is_held_on t c own row.number.0) refl among
-      where
-        test : (q : Bool) → is_held_on t c own row.number.0 ≡ q → is_among r.0 (if q then [] else row.number ∷ []) ≡ true → ⊥
-        test true e among = clash among
-        test false e among =
-            let same : row.number.0 ≡ r.0 = one row r.0 among in
-            let at = named_there (has_tag y.number.0 tag) b.rows row ordered.rows_rise named in
-            clash (sym (subst (λ (m : ℕ). is_held_on t c own m ≡ false) same e) ∙ by_place key y row durable found (first (is_from y.number.0 row) (not row.forgotten) (same_bytes row.tag.items tag) at.0) at.1 same)
-          where
-            first : (f g h : Bool) → (f && g && h) ≡ true → f ≡ true
-            first true g h is = refl
-            first false true h is = is
-            first false false h is = is
-
-    by_terminus : (key : LinkKey) (v : Option Terminus) (tag : List ℕ) → durable_key (link t c own handle) ≡ Some key → terminus_of key b.termini ≡ v
-        → is_among r.0 (unless_held t c own (named_row v tag b.rows)) ≡ true → ⊥
-    by_terminus key None tag durable found among = clash among
-    by_terminus key (Some y) tag durable found among = by_row key y tag durable found (row_named y.number.0 tag b.rows) refl among
-
-    by_key : (v : Option LinkKey) → durable_key (link t c own handle) ≡ v → (tag : Option (List ℕ)) → is_among r.0 (unless_held t c own (row_joined b v tag)) ≡ true → ⊥
-    by_key None durable None among = clash among
-    by_key None durable (Some tag) among = clash among
-    by_key (Some key) durable None among = clash among
-    by_key (Some key) durable (Some tag) among = by_terminus key (terminus_of key b.termini) tag durable refl among
-transfer_is_done t b n d r c x _ standing ordered agrees there name among p from = clash among
+    by : (v : Option ARow) → row_joined b key tag ≡ v → is_among r.0 (row_alone v) ≡ true → ⊥
+    by None is among = clash among
+    by (Some row) is among = on row (joined_row b key tag row is) (one row.number.0 among)
+transfer_is_done t b d r c x _ standing ordered agrees unshared among p from = clash among
 
 -- nor is one that settles the delivery of a row, by the id that its producer claims
 
@@ -381,23 +365,23 @@ settled_is_done t b d r c (Some own) Sender x more standing ordered agrees one a
     by true e among = let found = among_claimed b t c own r (ids_claimed t c own x.first (last_of x)) among in settles e found.0 found.1 found.2 found.3 found.4
 
 -- by an item
-item_is_done : (t : Trace) (b : BookView) (n : ℕ) (d : Delivery) (r : RowNumber) (e : Event) (answer : Answer) → Standing t → OneTag t → IsOrdered b → IsFrom t b (row_at r.0 b.rows) d
-    → delivery t n ≡ Some d → d.name ≡ Row r → is_among r.0 (item_forgets b t e answer) ≡ true → (p : Origin) → source (changed_by (event_changes t e answer) d) ≡ Some p → ⊥
-item_is_done t b n d r (event.Item c (item.Frame false channel (perf.Disposition x) payload)) answer standing one ordered agrees there name among p from =
+item_is_done : (t : Trace) (b : BookView) (d : Delivery) (r : RowNumber) (e : Event) (answer : Answer) → Standing t → OneTag t → EventUnshared t e answer → IsOrdered b → IsFrom t b (row_at r.0 b.rows) d
+    → is_among r.0 (item_forgets b t e answer) ≡ true → (p : Origin) → source (changed_by (event_changes t e answer) d) ≡ Some p → ⊥
+item_is_done t b d r (event.Item c (item.Frame false channel (perf.Disposition x) payload)) answer standing one unshared ordered agrees among p from =
     let i : Item = item.Frame false channel (perf.Disposition x) payload in
     let heard : List Change = listed (disposed_change x.role c.0 (session_found t c i) x) in
     settled_is_done t b d r c.0 (session_found t c i) x.role x (map lost (due t (event.Item c i)) ++ ended_by t c.0 i answer) standing ordered agrees one among p
     (ap (λ (zs : List Change). source (changed_by zs d)) (sym (append_assoc heard (map lost (due t (event.Item c i))) (ended_by t c.0 i answer))) ∙ from)
-item_is_done t b n d r (event.Item c (item.Frame false channel (perf.Detach x) payload)) answer standing one ordered agrees there name among p from =
+item_is_done t b d r (event.Item c (item.Frame false channel (perf.Detach x) payload)) answer standing one unshared ordered agrees among p from =
     let i : Item = item.Frame false channel (perf.Detach x) payload in
-    closed_is_done t b n d r c.0 answer (map lost (due t (event.Item c i))) i standing ordered agrees among p from
-item_is_done t b n d r (event.Item c (item.Frame false channel (perf.Transfer x) payload)) answer standing one ordered agrees there name among p from =
-    transfer_is_done t b n d r c.0 x answer standing ordered agrees there name among p
+    closed_is_done t b d r c.0 answer (map lost (due t (event.Item c i))) i standing ordered agrees among p from
+item_is_done t b d r (event.Item c (item.Frame false channel (perf.Transfer x) payload)) answer standing one unshared ordered agrees among p from =
+    transfer_is_done t b d r c.0 x answer standing ordered agrees unshared among p
     ((leaves_by (event_changes t (event.Item c (item.Frame false channel (perf.Transfer x) payload)) answer) d).comes p from)
-item_is_done t b n d r (event.Item c (item.Frame false channel _ payload)) answer standing one ordered agrees there name among p from = clash among
-item_is_done t b n d r (event.Item c (item.Frame true channel body payload)) answer standing one ordered agrees there name among p from = clash among
-item_is_done t b n d r (event.Item c _) answer standing one ordered agrees there name among p from = clash among
-item_is_done t b n d r _ answer standing one ordered agrees there name among p from = clash among
+item_is_done t b d r (event.Item c (item.Frame false channel _ payload)) answer standing one unshared ordered agrees among p from = clash among
+item_is_done t b d r (event.Item c (item.Frame true channel body payload)) answer standing one unshared ordered agrees among p from = clash among
+item_is_done t b d r (event.Item c _) answer standing one unshared ordered agrees among p from = clash among
+item_is_done t b d r _ answer standing one unshared ordered agrees among p from = clash among
 
 -- by the map of an attach
 map_is_done : (t : Trace) (b : BookView) (d : Delivery) (r : RowNumber) (e : Event) (answer : Answer) → Standing t → IsOrdered b → IsFrom t b (row_at r.0 b.rows) d
@@ -417,11 +401,11 @@ either_list n xs ys is = by (is_among n xs) refl (sym (among_more n xs ys) ∙ i
     by true e is = inl e
     by false e is = inr is
 
-pub forgotten_is_done : (t : Trace) (b : BookView) (n : ℕ) (d : Delivery) (r : RowNumber) (e : Event) (answer : Answer) → Standing t → OneTag t → IsOrdered b → IsFrom t b (row_at r.0 b.rows) d
-    → delivery t n ≡ Some d → d.name ≡ Row r → is_among r.0 (forgotten_at b t e answer) ≡ true → (p : Origin) → source (changed_by (event_changes t e answer) d) ≡ Some p → ⊥
-forgotten_is_done t b n d r e answer standing one ordered agrees there name among p from =
+pub forgotten_is_done : (t : Trace) (b : BookView) (d : Delivery) (r : RowNumber) (e : Event) (answer : Answer) → Standing t → OneTag t → EventUnshared t e answer → IsOrdered b → IsFrom t b (row_at r.0 b.rows) d
+    → is_among r.0 (forgotten_at b t e answer) ≡ true → (p : Origin) → source (changed_by (event_changes t e answer) d) ≡ Some p → ⊥
+forgotten_is_done t b d r e answer standing one unshared ordered agrees among p from =
     by (either_list r.0 (item_forgets b t e answer) (map_forgets b t e answer) among)
   where
     by : (is_among r.0 (item_forgets b t e answer) ≡ true) ⊎ (is_among r.0 (map_forgets b t e answer) ≡ true) → ⊥
-    by (inl is) = item_is_done t b n d r e answer standing one ordered agrees there name is p from
+    by (inl is) = item_is_done t b d r e answer standing one unshared ordered agrees is p from
     by (inr is) = map_is_done t b d r e answer standing ordered agrees is p from

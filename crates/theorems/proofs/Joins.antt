@@ -23,7 +23,7 @@ use Rattle.router_trace.specs.Trace.{Trace}
 use Rattle.router_trace.specs.Claims.{claims}
 use Rattle.router_trace.specs.Following.{link_of}
 use Rattle.router_trace.specs.Links.{link, durable_key, has_number, is_attached}
-use Rattle.router_trace.specs.Deliveries.{Delivery, bound, called, is_undecided, joined_to, joining, joins_standing, name_in, source, with_origin}
+use Rattle.router_trace.specs.Deliveries.{Delivery, bound, called, is_undecided, joined_to, joining, joins_standing, name_in, source, with_origin, rank_in}
 use Rattle.state_connections.proofs.Lists.{by_test}
 use Rattle.router_reply.specs.Acts.{book_in}
 use Rattle.theorems.specs.Came.{JoinsRow}
@@ -106,9 +106,9 @@ joined_fact u b p joins ordered sound e settled kept comes = record {
 -- What a binding needs, so that what holds stays: its consumer has its link, if what is bound is undecided; its producer has its; and what the book has of
 -- its row holds of what is bound, and of the delivery to which a producer's is joined.
 pub record CanBind (u : Trace) (b : Binding) : Type 0 where
-  pub consumer : is_undecided (bound (name_in u b) b) ≡ true → Sends u b.consumer
-  pub producer : (q : Origin) → source (bound (name_in u b) b) ≡ Some q → is_attached u q.link ≡ true
-  pub new : joins_standing b.kind ≡ None → (r : RowNumber) → b.row ≡ Some r → RowFact u (book_in u) r (bound (name_in u b) b)
+  pub consumer : is_undecided (bound (name_in u b) (rank_in u b) b) ≡ true → Sends u b.consumer
+  pub producer : (q : Origin) → source (bound (name_in u b) (rank_in u b) b) ≡ Some q → is_attached u q.link ≡ true
+  pub new : joins_standing b.kind ≡ None → (r : RowNumber) → b.row ≡ Some r → RowFact u (book_in u) r (bound (name_in u b) (rank_in u b) b)
   pub joined : (r : RowNumber) (q : Origin) (d : Delivery) → joins_standing b.kind ≡ Some q → b.row ≡ Some r → RowFact u (book_in u) r d → RowFact u (book_in u) r (with_origin q d)
 
 clash : false ≡ true → ⊥
@@ -149,7 +149,7 @@ can_join u b p joins ordered sound = subst (CanBind u) (sym joins.joins) (by (ca
     new_one o is = record {
       consumer = λ undecided. absurd (clash (sym (never o) ∙ undecided));
       producer = λ q from. origin_attached u b p joins q (some_same from);
-      new = λ new r named. fact (bound (name_in u (joining p n (New o))) (joining p n (New o))) refl (inr is) (λ q from. sym (some_same from)) r named;
+      new = λ new r named. fact (bound (name_in u (joining p n (New o))) (rank_in u (joining p n (New o))) (joining p n (New o))) refl (inr is) (λ q from. sym (some_same from)) r named;
       joined = λ r q d is. absurd (none_not_some is);
     }
       where

@@ -23,7 +23,7 @@ use Rattle.router_trace.specs.Trace.{Trace, Out, Took, Put, goes, each_to}
 use Rattle.router_trace.specs.Connection.{live}
 use Rattle.router_trace.specs.DeliveryFrames.{kept_outcome}
 use Rattle.router_trace.specs.declared.handle.Attachment.{Attachment}
-use Rattle.router_trace.specs.Deliveries.{Delivery, either_origin, source, bindings, has_row, number_named, delivery, sending, is_undecided, ended_by, after_put}
+use Rattle.router_trace.specs.Deliveries.{Delivery, either_origin, source, bindings, has_row, number_named, delivery, sending, is_undecided, ended_by, after_put, rank_at}
 use Rattle.router_trace.specs.Following.{is_to_be_told, outcome_to, tell, tells_of, tells, sends_due, drains_due}
 use Rattle.router_trace.specs.Claims.{claims}
 use Rattle.router_trace.specs.Links.{durable_key, ends_handle_in, link}
@@ -35,7 +35,7 @@ use Rattle.state_deliveries.specs.Stepping.{changed}
 use Rattle.state_messages.specs.Messages.{grants_due}
 use Rattle.router_reply.specs.Acts.{book_in}
 use Rattle.state_connections.proofs.Lists.{by_test}
-use Rattle.router_core.proofs.Due.{first_elim, goes_on_link, AllOnLinks, drains_on}
+use Rattle.router_core.proofs.Due.{ranked_elim, goes_on_link, AllOnLinks, drains_on}
 use Rattle.router_core.proofs.Following.{Steps, passed_on, passed_keeps}
 use Rattle.router_core.proofs.Granting.{AllGrants, all_grants}
 use Rattle.theorems.specs.Each.{EachOut}
@@ -276,7 +276,7 @@ tell_plain None = tt
 tell_plain (Some d) = told_plain d.origin (not (has_row d.name)) d.outcome
 
 tells_plain : (t : Trace) → PlainPut (tells t)
-tells_plain t = first_elim (bindings t + 1) (λ n. is_to_be_told t (delivery t n)) (λ x. PlainPut (tells_of t x)) tt (λ n e. tell_plain (delivery t n))
+tells_plain t = ranked_elim (rank_at t) (bindings t + 1) (λ n. is_to_be_told t (delivery t n)) (λ x. PlainPut (tells_of t x)) tt (λ n e. tell_plain (delivery t n))
 
 flow_plain : (body : Perf) → goes_on_link body ≡ true → is_loud_in body ≡ false → is_plain_in body ≡ true
 flow_plain (perf.Flow f) kind quiet = refl

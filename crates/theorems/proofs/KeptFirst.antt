@@ -72,7 +72,7 @@ use Rattle.theorems.proofs.Bindings.{of_messages, there_bound}
 use Rattle.theorems.proofs.Brings.{Brings, Found, found_row, no_brings, start_brings, opened_brings, handled_brings, took_brings, cut_brings}
 use Rattle.theorems.proofs.Booked.{acts_apply, ordered_acts, changes_of, booked_facts}
 use Rattle.theorems.proofs.Hearing.{gives}
-use Rattle.theorems.proofs.Owning.{began_owned, booked_owned, owned_one}
+use Rattle.theorems.proofs.Owning.{began_owned, booked_owned}
 use Rattle.theorems.proofs.Begun.{AreBegun}
 use Rattle.theorems.proofs.Claimed.{HasClaim}
 use Rattle.theorems.proofs.Ending.{takes_none, answer_rest, CameBegun, CameClaims, came_kept, due_there, ends_kept}
@@ -228,7 +228,7 @@ booked_kept : (t : Trace) (e : Event) → (e ≡ event.Start → (n : ℕ) → d
 booked_kept t e none was = record {
   law = was.law;
   own = was.own;
-  facts = booked_facts t e was.standing (owned_one t was.owned) was.ordered none was.facts;
+  facts = booked_facts t e was.standing was.owned was.ordered none was.facts;
   standing = booked_standing t (acts_of t e) was.standing;
   named = was.named;
   ordered = ordered_acts t e was.ordered;

@@ -20,7 +20,7 @@ use Rattle.router_trace.specs.declared.event.Event.{Event}
 use Rattle.router_trace.specs.Following.{link_of}
 use Rattle.router_trace.specs.Links.{durable_key}
 use Rattle.router_trace.specs.Trace.{Trace, Did, Out, Bound, Step}
-use Rattle.router_trace.specs.Deliveries.{Delivery, bound, counters, joins_standing, has_row, name_in, name_of, delivery}
+use Rattle.router_trace.specs.Deliveries.{Delivery, bound, counters, joins_standing, has_row, name_in, name_of, delivery, rank_in}
 use Rattle.state_messages.specs.Messages.{lasts}
 use Rattle.router_reply.specs.Acts.{book_in, acts_of, booked}
 use Rattle.router_reply.specs.Admitting.{terminus_for}
@@ -149,7 +149,7 @@ named_row : (row : Option RowNumber) (k : ℕ) (r : RowNumber) → name_of row k
 named_row None k r is = absurd cc
 named_row (Some q) k r is = cc
 
-pub bound_lasting : (b : Binding) (u : Trace) → (joins_standing b.kind ≡ None → (r : RowNumber) → b.row ≡ Some r → RowLasts (book_in u) r (bound (name_in u b) b)) → Lasting u → Lasting (Bound b ∷ u)
+pub bound_lasting : (b : Binding) (u : Trace) → (joins_standing b.kind ≡ None → (r : RowNumber) → b.row ≡ Some r → RowLasts (book_in u) r (bound (name_in u b) (rank_in u b) b)) → Lasting u → Lasting (Bound b ∷ u)
 bound_lasting b u new was n d r now name = by (after_bound b u n d now)
   where
     by : AfterBound b u n d → RowLasts (book_in u) r d
@@ -161,7 +161,7 @@ bound_lasting b u new was n d r now name = by (after_bound b u n d now)
     by (is_old there) = was n d r there name
 
 -- a binding with a row lasts as its consumer's link does
-bound_lasts : (u : Trace) (b : Binding) (r : RowNumber) → b.row ≡ Some r → b.lasting ≡ lasts u b.consumer → lasts u b.consumer ≡ true → (bound (name_in u b) b).lasting ≡ true
+bound_lasts : (u : Trace) (b : Binding) (r : RowNumber) → b.row ≡ Some r → b.lasting ≡ lasts u b.consumer → lasts u b.consumer ≡ true → (bound (name_in u b) (rank_in u b) b).lasting ≡ true
 bound_lasts u b r named is durable = by b.row named
   where
     by : (o : Option RowNumber) → o ≡ Some r → (has_row (name_of o (counters u + 1)) && b.lasting) ≡ true
@@ -169,7 +169,7 @@ bound_lasts u b r named is durable = by b.row named
     by (Some q) named = is ∙ durable
 
 -- that of a message: the book has admitted its row for the terminus of that link, if it is durable
-pub message_lasts : (u : Trace) (b : Binding) (r : RowNumber) → IsAdmitted u b r → IsOrdered (book_in u) → b.lasting ≡ lasts u b.consumer → b.row ≡ Some r → RowLasts (book_in u) r (bound (name_in u b) b)
+pub message_lasts : (u : Trace) (b : Binding) (r : RowNumber) → IsAdmitted u b r → IsOrdered (book_in u) → b.lasting ≡ lasts u b.consumer → b.row ≡ Some r → RowLasts (book_in u) r (bound (name_in u b) (rank_in u b) b)
 message_lasts u b r adm ordered is named =
     let there = admitted_row u b r adm ordered in
     record { known = there.known; lasting = λ row found bound_one. bound_lasts u b r named is (durable row (some_same (sym there.found ∙ found)) bound_one) }
@@ -184,7 +184,7 @@ message_lasts u b r adm ordered is named =
         (ap is_some (sym adm.consumer) ∙ ap (λ (x : ARow). is_some x.consumer) same ∙ bound_one)
 
 -- that of a row to which a producer's delivery is joined
-pub joined_lasts : (u : Trace) (b : Binding) → b.lasting ≡ true → (r : RowNumber) → r.0 < (book_in u).next_row → b.row ≡ Some r → RowLasts (book_in u) r (bound (name_in u b) b)
+pub joined_lasts : (u : Trace) (b : Binding) → b.lasting ≡ true → (r : RowNumber) → r.0 < (book_in u).next_row → b.row ≡ Some r → RowLasts (book_in u) r (bound (name_in u b) (rank_in u b) b)
 joined_lasts u b lasts r low named = record { known = low; lasting = λ row found bound_one. by b.row named }
   where
     by : (o : Option RowNumber) → o ≡ Some r → (has_row (name_of o (counters u + 1)) && b.lasting) ≡ true
@@ -193,7 +193,7 @@ joined_lasts u b lasts r low named = record { known = low; lasting = λ row foun
 
 -- and that of a row that is taken up
 pub taken_lasts : (u : Trace) (b : Binding) (takes : TakesUp u b) → takes.row.number.0 < (book_in u).next_row → lasts u b.consumer ≡ true → (r : RowNumber) → b.row ≡ Some r
-    → RowLasts (book_in u) r (bound (name_in u b) b)
+    → RowLasts (book_in u) r (bound (name_in u b) (rank_in u b) b)
 taken_lasts u b takes low durable r named =
     record {
       known = subst (λ (n : RowNumber). n.0 < (book_in u).next_row) (some_same (sym takes.number ∙ named)) low;

@@ -25,6 +25,7 @@ pub mod Claimed
 pub mod Middles
 pub mod Owning
 pub mod Begun
+pub mod Unshared
 pub mod Ours
 pub mod Wholes
 pub mod Firsts

@@ -20,7 +20,7 @@ use Rattle.router_trace.specs.Peers.{largest_frame}
 use Rattle.router_trace.specs.Sessions.{session}
 use Rattle.router_trace.specs.DeliveryFrames.{first_transfer, later_transfer, with_more, part_frame, filled, next_frame, largest_out, rest_of}
 use Rattle.router_trace.specs.Following.{link_of, is_busy, is_open, is_used, is_going, is_there, is_wide, goes_on_at, takes_more, can_start, can_go, place_to_go, transfer_of, send, send_of, sends_due}
-use Rattle.router_trace.specs.Deliveries.{Delivery, bindings, name_in, number_named, number_tagged, delivery, sending, named, named_in, named_by, next_id, is_id, carried, tag_in, tag_of, tagged, is_number, is_undecided, after_frame, put_in, after_put, after_event, ended_by, closes, source, told, is_meant, origin_id, untold, unsettled, channels_found, acts_found}
+use Rattle.router_trace.specs.Deliveries.{Delivery, bindings, name_in, number_named, number_tagged, delivery, sending, named, named_in, named_by, next_id, is_id, carried, tag_in, tag_of, tagged, is_number, is_undecided, after_frame, put_in, after_put, after_event, ended_by, closes, source, told, is_meant, origin_id, untold, unsettled, channels_found, acts_found, rank_at}
 use Rattle.state_deliveries.proofs.Called.{there_named}
 use Rattle.state_deliveries.proofs.Puts.{no_ends}
 use Rattle.state_connections.proofs.Lists.{by_test}
@@ -337,7 +337,7 @@ pub sends_elim : (t : List Entry) (P : List Put → Type 0) → HasSmallNumbers 
     → ((n : ℕ) (d : Delivery) (x : Transfer) (payload : List ℕ) → delivery t n ≡ Some d → IsNaming t n d x
     → P (record { conn = d.link.conn.0; item = item.Frame false d.link.channel (perf.Transfer x) payload } ∷ [])) → P (sends_due t)
 sends_elim t P small none each =
-    placed_elim (bindings t + 1) (λ n. place_to_go t n (delivery t n)) (λ x. P (send_of t x)) none (λ n a e. by n a (delivery t n) refl e)
+    placed_elim (rank_at t) (bindings t + 1) (λ n. place_to_go t n (delivery t n)) (λ x. P (send_of t x)) none (λ n a e. by n a (delivery t n) refl e)
   where
     passed : (b : Bool) (x a : Attachment) → (if b then Some x else None) ≡ Some a → b ≡ true
     passed true x a e = refl

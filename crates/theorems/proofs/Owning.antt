@@ -1,5 +1,5 @@
 -- What peers claim on their links: each claim has its link, and its id has 32 bits; on a durable link no two have one tag; and the claim under the id of the delivery in the middle of a
--- link, if it is of that link, has its tag. Of a link that the event's answer ends, while this is still to come, only the first is asked.
+-- link, if it is of that link, has its tag, and, if the link is durable, no other claim of the link has it. Of a link that the event's answer ends, while this is still to come, only the first is asked.
 use Rattle.std.proofs.Common.{◌≡◌, ◌∙◌, sym, ap, refl, subst, ◌⊎◌, inl, inr, ℕ, ◌+◌, ◌<◌, ◌^◌, Bool, true, false, not, ◌&&◌, ◌||◌, List, [], ◌∷◌, ◌++◌}
 use Rattle.std.specs.Prelude.{◌==◌, Option, Some, None, is_none, is_some, option_map, if◌then◌else◌}
 use Rattle.std.specs.List.{list_any}
@@ -48,6 +48,8 @@ pub record Owned (t : List Entry) (xs : List Change) : Type 0 where
   pub tagged : (c o h : ℕ) (said : Said) → is_ending xs (place c o h) ≡ false → said_of (link t c o h) ≡ Some said → is_some said.tag ≡ true
   pub tags : (c o h k : ℕ) (said : Said) (v : Claim) → is_ending xs (place c o h) ≡ false → said_of (link t c o h) ≡ Some said → said.id ≡ Some k → claims t c o k ≡ Some v → v.handle ≡ h
       → v.tag ≡ said.tag
+  pub alone : (c o h k : ℕ) (said : Said) (v : Claim) (key : LinkKey) (tag : List ℕ) → is_ending xs (place c o h) ≡ false → durable_key (link t c o h) ≡ Some key → said_of (link t c o h) ≡ Some said
+      → claims t c o k ≡ Some v → v.handle ≡ h → said.tag ≡ Some tag → v.tag ≡ Some tag → said.id ≡ Some k
 
 pub began_owned : (g : Beginning) (below : List Entry) → Owned (opened g below) []
 began_owned g below = record {
@@ -56,6 +58,7 @@ began_owned g below = record {
   ids = λ c o k v free is. absurd (none_not_some is);
   tagged = λ c o h said free is. absurd (none_not_some is);
   tags = λ c o h k said v free is. absurd (none_not_some is);
+  alone = λ c o h k said v key tag free durable is. absurd (none_not_some is);
 }
 
 -- where no change is to come, no two claims of a durable link have one tag
@@ -65,10 +68,10 @@ owned_one t owned c own j k v w key tag durable = owned.one c own j k v w key ta
 -- entries that touch neither claims nor links
 
 pub took_owned : (c k : ℕ) (t : List Entry) (xs : List Change) → Owned t xs → Owned (Took c k ∷ t) xs
-took_owned c k t xs was = record { links = was.links; one = was.one; ids = was.ids; tagged = was.tagged; tags = was.tags }
+took_owned c k t xs was = record { links = was.links; one = was.one; ids = was.ids; tagged = was.tagged; tags = was.tags; alone = was.alone }
 
 pub booked_owned : (acts : List Act) (full : List ℕ) (t : List Entry) (xs : List Change) → Owned t xs → Owned (Booked acts full ∷ t) xs
-booked_owned acts full t xs was = record { links = was.links; one = was.one; ids = was.ids; tagged = was.tagged; tags = was.tags }
+booked_owned acts full t xs was = record { links = was.links; one = was.one; ids = was.ids; tagged = was.tagged; tags = was.tags; alone = was.alone }
 
 -- a binding leaves a claim's link and its tag
 record BoundClaim (t : List Entry) (c o k : ℕ) (v : Claim) : Type 0 where
@@ -108,6 +111,9 @@ bound_owned b t xs was = record {
   tags = λ c o h k said v free is named claimed on.
       let w = bound_claim_was b t c o k v claimed in
       w.tag ∙ was.tags c o h k said w.before free is named w.there (sym w.handle ∙ on);
+  alone = λ c o h k said v key tag free durable is claimed on named has.
+      let w = bound_claim_was b t c o k v claimed in
+      was.alone c o h k said w.before key tag free durable is w.there (sym w.handle ∙ on) named (sym w.tag ∙ has);
 }
 
 -- changes that are over where their links are
@@ -119,6 +125,7 @@ gone_owned t xs ys gone was = record {
   ids = λ c o k v free is. was.ids c o k v (there c o v.handle free (λ e. none_some (sym (ap (λ (l : Option Link). is_some l) e) ∙ was.links c o k v is))) is;
   tagged = λ c o h said free is. was.tagged c o h said (there c o h free (λ e. none_not_some (sym (ap said_of e) ∙ is))) is;
   tags = λ c o h k said v free is named claimed on. was.tags c o h k said v (there c o h free (λ e. none_not_some (sym (ap said_of e) ∙ is))) is named claimed on;
+  alone = λ c o h k said v key tag free durable is. was.alone c o h k said v key tag (there c o h free (λ e. none_not_some (sym (ap said_of e) ∙ is))) durable is;
 }
   where
     none_some : false ≡ true → ⊥
@@ -211,6 +218,12 @@ out_owned d i t xs ys fresh standing ends was = record {
   tags = λ c o h k said v free is named claimed on.
       let x = out_claim_was d i t c o k v claimed in
       was.tags c o h k said v (still c o h free (not_ended c o h said is)) (said_before c o h said is) named x.0 on;
+  alone = λ c o h k said v key tag free durable is claimed on named has.
+      let x = out_claim_was d i t c o k v claimed in
+      let stays = link_there c o k v x.0 x.1 in
+      let before : durable_key (link t c o h) ≡ Some key =
+      ap (λ (g : ℕ). durable_key (link t c o g)) (sym on) ∙ stays.durable ∙ ap (λ (g : ℕ). durable_key (link (Out d i ∷ t) c o g)) on ∙ durable in
+      was.alone c o h k said v key tag (still c o h free (not_ended c o h said is)) before (said_before c o h said is) x.0 on named has;
 }
   where
     clash : true ≡ false → ⊥

@@ -13,7 +13,7 @@ use Rattle.router_trace.specs.declared.handle.Attachment.{Attachment}
 use Rattle.router_trace.specs.Trace.{Entry, Put}
 use Rattle.router_trace.specs.Connection.{Connection, live}
 use Rattle.router_trace.specs.Frames.{closing, told_of}
-use Rattle.router_trace.specs.Numbers.{Placed, first_placed}
+use Rattle.router_trace.specs.Numbers.{Placed, first_placed, no_rank}
 use Rattle.router_trace.specs.Settling.{unbound}
 use Rattle.router_trace.specs.Durable.{is_durable}
 use Rattle.router_trace.specs.LinkFrames.{attach_item, detach_item, answer_to, refusal_of, fits}
@@ -142,7 +142,7 @@ drain_by_quiet t None = tt
 drain_by_quiet t (Some p) = drained_quiet p.place (session t p.place.conn.0 p.place.channel) (link_of t p.place)
 
 pub drains_quiet : (t : List Entry) → QuietPut (drains_due t)
-drains_quiet t = drain_by_quiet t (first_placed (attachments t + 1) (λ n. place_drained t n (numbered t n)))
+drains_quiet t = drain_by_quiet t (first_placed no_rank (attachments t + 1) (λ n. place_drained t n (numbered t n)))
 
 all_granted : (t : List Entry) (ps : List Put) → AllGrants t ps → QuietPut ps
 all_granted t [] all = tt

@@ -6,7 +6,7 @@ use Rattle.router_trace.specs.declared.binding.Binding.{Binding}
 use Rattle.router_trace.specs.declared.binding.DeliveryName.{DeliveryName}
 use Rattle.router_trace.specs.declared.binding.Origin.{Origin}
 use Rattle.router_trace.specs.Trace.{Entry, Bound}
-use Rattle.router_trace.specs.Deliveries.{Delivery, bindings, bound, delivery, joined, joins_standing, name_in, same_name, unless_called, with_binding, with_origin}
+use Rattle.router_trace.specs.Deliveries.{Delivery, bindings, bound, delivery, joined, joins_standing, name_in, same_name, unless_called, with_binding, with_origin, rank_in}
 use Rattle.state_connections.proofs.Lists.{by_test}
 use Rattle.state_deliveries.proofs.Called.{same_is, uncalled}
 use Rattle.theorems.proofs.Tests.{none_not_some, some_same}
@@ -14,7 +14,7 @@ use Rattle.theorems.proofs.Tests.{none_not_some, some_same}
 pub record IsNew (b : Binding) (t : List Entry) (n : ℕ) (d : Delivery) : Type 0 where
   pub numbered : joins_standing b.kind ≡ None
   pub number : bindings t + 1 ≡ n
-  pub is : bound (name_in t b) b ≡ d
+  pub is : bound (name_in t b) (rank_in t b) b ≡ d
 
 pub record IsJoined (b : Binding) (t : List Entry) (n : ℕ) (d : Delivery) : Type 0 where
   pub origin : Origin
@@ -42,7 +42,7 @@ after_bound b t n d now = by (joins_standing b.kind) refl now
         (λ e. is_joined (record { origin = p; joins = joins; before = x; there = there; named = same_is x.name newest e; is = some_same (rw e at now) }))
         (λ e. is_old (there ∙ rw e at now))
 
-    by : (j : Option Origin) → joins_standing b.kind ≡ j → with_binding j newest b (bindings t + 1 == n) (delivery t n) ≡ Some d → AfterBound b t n d
+    by : (j : Option Origin) → joins_standing b.kind ≡ j → with_binding j newest (rank_in t b) b (bindings t + 1 == n) (delivery t n) ≡ Some d → AfterBound b t n d
     by None numbered now =
         by_test (bindings t + 1 == n)
         (λ e. is_new (record { numbered = numbered; number = eqb-true (bindings t + 1) n e; is = some_same (rw e at now) }))

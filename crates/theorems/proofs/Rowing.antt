@@ -25,7 +25,7 @@ use Rattle.router_trace.specs.declared.condition.Condition.{Condition}
 use Rattle.router_trace.specs.declared.condition.Condition.TheVariants.{ResourceLimitExceeded, MessageSizeExceeded}
 use Rattle.router_trace.specs.declared.handle.Attachment.{Attachment}
 use Rattle.router_trace.specs.Trace.{Trace, Bound, Put, goes, puts, each_to}
-use Rattle.router_trace.specs.Deliveries.{Delivery, bound, called, origin_in, origin_of, outcome_in, joins_standing, presettles, either_origin, source, name_in, delivery, is_undecided, terminal, last_of, ended_by as put_ends, brought, outcome_as, told_in}
+use Rattle.router_trace.specs.Deliveries.{Delivery, bound, called, origin_in, origin_of, outcome_in, joins_standing, presettles, either_origin, source, name_in, delivery, is_undecided, terminal, last_of, ended_by as put_ends, brought, outcome_as, told_in, rank_in}
 use Rattle.router_trace.specs.Following.{link_of, is_sending}
 use Rattle.router_trace.specs.LinkFrames.{detach_item}
 use Rattle.router_trace.specs.Links.{Link, link, link_place, has_number, is_attached, if_attached, last_of_key}
@@ -161,7 +161,7 @@ from_origin None p is = absurd (none_not_some is)
 from_origin (Some q) p is = is
 
 -- of a message
-pub can_message : (u : Trace) (b : Binding) (o : Option Origin) → b.kind ≡ kind.Message o → BindsMessage u b → ((r : RowNumber) → b.row ≡ Some r → RowFact u (book_in u) r (bound (name_in u b) b)) → CanBind u b
+pub can_message : (u : Trace) (b : Binding) (o : Option Origin) → b.kind ≡ kind.Message o → BindsMessage u b → ((r : RowNumber) → b.row ≡ Some r → RowFact u (book_in u) r (bound (name_in u b) (rank_in u b) b)) → CanBind u b
 can_message u b o is binds fact = record {
   consumer = λ undecided. consumer_sends u binds.producer b.consumer binds.chosen;
   producer = λ p from. from_attached (origin_of b.kind) u binds.conn binds.own binds.handle binds.producer binds.message binds.from binds.attached p
@@ -218,7 +218,7 @@ had_source u n o told p from_origin from_told is =
     by None named is = absurd (none_not_some is)
     by (Some d) named is = record { before = d; was_called = called_is u (Row n) d named; from = is }
 
-taken_source : (u : Trace) (b : Binding) (takes : TakesUp u b) (p : Origin) → source (bound (name_in u b) b) ≡ Some p → HadSource u takes.row.number p
+taken_source : (u : Trace) (b : Binding) (takes : TakesUp u b) (p : Origin) → source (bound (name_in u b) (rank_in u b) b) ≡ Some p → HadSource u takes.row.number p
 taken_source u b takes p from =
     had_source u takes.row.number (origin_of b.kind) (brought (λ v. v.told) b.kind) p (ap origin_of takes.taken ∙ takes.origin) (ap (brought (λ v. v.told)) takes.taken ∙ takes.told) from
 
@@ -228,20 +228,20 @@ pub record Holds (u : Trace) (b : Binding) (takes : TakesUp u b) : Type 0 where
   pub outcome : (row : ARow) → row_at takes.row.number.0 (book_in u).rows ≡ Some row → KeptAs row.outcome (outcome_as takes.brought.how)
 
 -- what the book has of the row holds of the new delivery as it did of the old one
-taken_fact : (u : Trace) (b : Binding) (takes : TakesUp u b) → Holds u b takes → Kept u [] → (r : RowNumber) → b.row ≡ Some r → RowFact u (book_in u) r (bound (name_in u b) b)
-taken_fact u b takes holds was r named = subst (λ (n : RowNumber). RowFact u (book_in u) n (bound (name_in u b) b)) (some_same (sym takes.number ∙ named)) fact
+taken_fact : (u : Trace) (b : Binding) (takes : TakesUp u b) → Holds u b takes → Kept u [] → (r : RowNumber) → b.row ≡ Some r → RowFact u (book_in u) r (bound (name_in u b) (rank_in u b) b)
+taken_fact u b takes holds was r named = subst (λ (n : RowNumber). RowFact u (book_in u) n (bound (name_in u b) (rank_in u b) b)) (some_same (sym takes.number ∙ named)) fact
   where
     n : RowNumber
     n = takes.row.number
 
     -- the old delivery's row
-    old : (p : Origin) → source (bound (name_in u b) b) ≡ Some p → (v : Option ARow) → row_at n.0 (book_in u).rows ≡ v
+    old : (p : Origin) → source (bound (name_in u b) (rank_in u b) b) ≡ Some p → (v : Option ARow) → row_at n.0 (book_in u).rows ≡ v
         → (before : Delivery) × (source before ≡ Some p) × Agrees u (book_in u) v before
     old p from v found =
         let had = taken_source u b takes p from in
         (had.before, had.from, subst (λ (w : Option ARow). Agrees u (book_in u) w had.before) found (was.facts had.was_called.number had.before n had.was_called.there had.was_called.named).agrees)
 
-    agrees : (v : Option ARow) → row_at n.0 (book_in u).rows ≡ v → Agrees u (book_in u) v (bound (name_in u b) b)
+    agrees : (v : Option ARow) → row_at n.0 (book_in u).rows ≡ v → Agrees u (book_in u) v (bound (name_in u b) (rank_in u b) b)
     agrees None found = λ p from. let had = old p from None found in had.2 p had.1
     agrees (Some row) found = record {
       outcome = subst (KeptAs row.outcome) (sym (ap outcome_in takes.taken)) (holds.outcome row found);
@@ -250,7 +250,7 @@ taken_fact u b takes holds was r named = subst (λ (n : RowNumber). RowFact u (b
       claimed = λ p from. let had = old p from (Some row) found in had.2.claimed p had.1;
     }
 
-    fact : RowFact u (book_in u) n (bound (name_in u b) b)
+    fact : RowFact u (book_in u) n (bound (name_in u b) (rank_in u b) b)
     fact = record {
       settled = ap presettles takes.taken;
       known = holds.known;
@@ -266,7 +266,7 @@ taken_up_kept u b takes holds was =
       joined = λ r q d joins. absurd (none_not_some (ap joins_standing (sym takes.taken) ∙ joins));
     }) was
   where
-    producer : (p : Origin) → source (bound (name_in u b) b) ≡ Some p → is_attached u p.link ≡ true
+    producer : (p : Origin) → source (bound (name_in u b) (rank_in u b) b) ≡ Some p → is_attached u p.link ≡ true
     producer p from =
         let had = taken_source u b takes p from in
         was.standing.producers had.was_called.number had.before p had.was_called.there had.from

@@ -11,7 +11,7 @@ use Rattle.router_trace.specs.LinkFrames.{fits}
 use Rattle.router_trace.specs.Links.{Link, Happened, sends, receives, link, numbered}
 use Rattle.router_trace.specs.Peers.{largest_frame}
 use Rattle.router_trace.specs.Sessions.{session}
-use Rattle.router_trace.specs.Deliveries.{Delivery, delivery, bindings, sending, next_id, is_number}
+use Rattle.router_trace.specs.Deliveries.{Delivery, delivery, bindings, sending, next_id, is_number, rank_at}
 use Rattle.router_trace.specs.DeliveryFrames.{first_transfer, later_transfer, with_more, part_frame, filled, next_frame, largest_out, rest_of}
 use Rattle.router_trace.specs.Following.{link_of, goes_on_at, is_going, has_credit, takes_more, is_sending, can_start, is_wide, is_there, can_go, place_to_go, transfer_of, send, send_of, sends_due}
 use Rattle.theorems.specs.Carried.{BeginsOrGoesOn}
@@ -201,4 +201,4 @@ sent_lawful t unstarted told sending_on n a (Some d) there e =
 
 pub sends_lawful : (t : List Entry) → Unstarted t → NamesTold t → GoingSends t → AllLawful t (sends_due t)
 sends_lawful t unstarted told sending_on =
-    placed_elim (bindings t + 1) (λ n. place_to_go t n (delivery t n)) (λ x. AllLawful t (send_of t x)) tt (λ n a e. sent_lawful t unstarted told sending_on n a (delivery t n) refl e)
+    placed_elim (rank_at t) (bindings t + 1) (λ n. place_to_go t n (delivery t n)) (λ x. AllLawful t (send_of t x)) tt (λ n a e. sent_lawful t unstarted told sending_on n a (delivery t n) refl e)

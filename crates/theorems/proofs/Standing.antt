@@ -38,7 +38,7 @@ use Rattle.router_trace.specs.Trace.{Beginning, Entry, Did, Out, Took, Bound, Bo
 use Rattle.router_trace.specs.Sessions.{maps, theirs}
 use Rattle.router_trace.specs.Links.{Link, Happened, durable_key, flowed_from, flowed_to, started, came_to, sends, receives, is_lost, ends_handle, ends_handle_in, handle_asked, answers_in, answers_by, answered_handle, asked, address_by, attachments, attached, after_our_flow, after_our_transfer, after_their_flow, after_their_transfer, is_handle, link_in, link_after, heard_link, link_by, link_at, names, names_by, their_handle, key_at, link, has_number, is_attached, if_attached, same_key, newest_in, last_of_key, holder}
 use Rattle.router_trace.specs.Following.{is_sending, link_of}
-use Rattle.router_trace.specs.Deliveries.{Delivery, name_in, delivery, source, either_origin, origin_of, joins_standing, brought, is_undecided, ended_by, bound}
+use Rattle.router_trace.specs.Deliveries.{Delivery, name_in, delivery, source, either_origin, origin_of, joins_standing, brought, is_undecided, ended_by, bound, rank_in}
 use Rattle.state_messages.specs.Messages.{standing_at}
 use Rattle.theorems.proofs.Rebound.{AfterBound, after_bound}
 use Rattle.theorems.proofs.Rebound.AfterBound.{is_new, is_joined, is_old}
@@ -521,8 +521,8 @@ booked_standing t acts was = record {
   producers = was.producers;
 }
 
-pub bound_standing : (b : Binding) (t : List Entry) → (is_undecided (bound (name_in t b) b) ≡ true → Sends t b.consumer)
-    → ((p : Origin) → source (bound (name_in t b) b) ≡ Some p → is_attached t p.link ≡ true) → Standing t → Standing (Bound b ∷ t)
+pub bound_standing : (b : Binding) (t : List Entry) → (is_undecided (bound (name_in t b) (rank_in t b) b) ≡ true → Sends t b.consumer)
+    → ((p : Origin) → source (bound (name_in t b) (rank_in t b) b) ≡ Some p → is_attached t p.link ≡ true) → Standing t → Standing (Bound b ∷ t)
 bound_standing b t consumer producer was = record {
   answered = was.answered;
   keys = was.keys;

@@ -16,7 +16,7 @@ use Rattle.router_core.specs.declared.driving.Driven.{Driven}
 use Rattle.router_core.specs.declared.driving.Sent.{Sent}
 use Rattle.router_core.specs.declared.router.Core.{Core}
 use Rattle.router_core.specs.Handling.{Fits, store_of}
-use Rattle.router_core.specs.Leaving.{IsBookAt, IsLeftAfter, IsLeftBy, LeftBy, book_behind_next}
+use Rattle.router_core.specs.Leaving.{IsBookAt, IsLeftAfter, IsLeftBy, LeftBy, book_after_next_turn}
 use Rattle.router_core.specs.Runs.{Run}
 use Rattle.theorems.specs.Lives.{Life, CutOff, GoesInTurn}
 use Rattle.theorems.specs.Stops.{IsUnderWay, EndsLife, EndsAnswered}
@@ -123,7 +123,7 @@ ends_answered id life lives t es handled xs way contents is = record {
   last = is.last;
   items = is.items ∙ ap (λ (ys : List Sent). ys ++ is.last) (sym end.same_taken);
   answered = λ some. end.book ∙ is.answered some
-      ∙ ap (λ (m : Trace). book_behind_next m is.rest) (sym end.same_mid) ∙ ap (λ (fs : List Event). book_behind_next end.ends.mid fs) (sym end.same_rest);
+      ∙ ap (λ (m : Trace). book_after_next_turn m is.rest) (sym end.same_mid) ∙ ap (λ (fs : List Event). book_after_next_turn end.ends.mid fs) (sym end.same_rest);
 }
   where
     end : Ended id life lives t es is.rest is.taken is.mid is.book contents

@@ -13,7 +13,7 @@ use Rattle.router_trace.specs.declared.binding.Binding.{Binding}
 use Rattle.router_trace.specs.declared.binding.DeliveryName.{DeliveryName}
 use Rattle.router_trace.specs.declared.binding.Origin.{Origin}
 use Rattle.router_trace.specs.Trace.{Entry, Did, Out, Took, Bound, Booked, Began, is_opening, IsOneRun}
-use Rattle.router_trace.specs.Deliveries.{Delivery, bindings, bound, joined, joins_standing, with_binding, with_origin, name_in, same_name, number_named, unless_called, delivery, sending, named, unless_over, either_origin, source, untold, unsettled, told, is_meant, last_of, origin_id, ended_by, after_put, after_event, channels_found, acts_found}
+use Rattle.router_trace.specs.Deliveries.{Delivery, bindings, bound, joined, joins_standing, with_binding, with_origin, name_in, same_name, number_named, unless_called, delivery, sending, named, unless_over, either_origin, source, untold, unsettled, told, is_meant, last_of, origin_id, ended_by, after_put, after_event, channels_found, acts_found, rank_in}
 use Rattle.amqp_session.specs.Serials.{distance}
 use Rattle.amqp_session.specs.Ranges.{in_range}
 use Rattle.theorems.specs.OneConsumer.{IsOrNone, is_row_of, joined_in, WhileThere}
@@ -174,7 +174,7 @@ unjoined_none b t n apart given none = by (joins_standing b.kind) apart
     other_none p None e h = tt
     other_none p (Some d) e h = ap (λ (q : Bool). (if q then with_origin p d else d).origin) e ∙ h
 
-    by : (j : Option Origin) → is_joined j newest (delivery t n) ≡ false → WhileThere NoOrigin (with_binding j newest b (bindings t + 1 == n) (delivery t n))
+    by : (j : Option Origin) → is_joined j newest (delivery t n) ≡ false → WhileThere NoOrigin (with_binding j newest (rank_in t b) b (bindings t + 1 == n) (delivery t n))
     by None e = by_test (bindings t + 1 == n) (λ f. absurd (too_high given (eqb-true (bindings t + 1) n f))) (λ f. rw f (uncalled_none (delivery t n) none))
     by (Some p) e = other_none p (delivery t n) e none
 
@@ -309,7 +309,7 @@ bound_under c own id later b t n given none = by (joins_standing b.kind) refl
         of_row : is_row_of b.row d.name ≡ true → joined_in (Bound b ∷ later) d.name ≡ Some p
         of_row e = ap (λ (q : Bool). if q then either_origin (joins_standing b.kind) (joined_in later d.name) else joined_in later d.name) e ∙ ap (λ (j : Option Origin). either_origin j (joined_in later d.name)) is
 
-    by : (j : Option Origin) → joins_standing b.kind ≡ j → WhileThere (UnlessJoined c own id (Bound b ∷ later)) (with_binding j newest b (bindings t + 1 == n) (delivery t n))
+    by : (j : Option Origin) → joins_standing b.kind ≡ j → WhileThere (UnlessJoined c own id (Bound b ∷ later)) (with_binding j newest (rank_in t b) b (bindings t + 1 == n) (delivery t n))
     by None is = by_test (bindings t + 1 == n) (λ e. absurd (too_high given (eqb-true (bindings t + 1) n e))) (λ e. rw e (stays (delivery t n) none))
     by (Some p) is = joins p is (delivery t n) refl none
 

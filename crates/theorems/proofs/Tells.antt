@@ -8,9 +8,9 @@ use Rattle.router_trace.specs.declared.binding.BindingKind.TheVariants as kind
 use Rattle.router_trace.specs.declared.binding.DeliveryName.TheVariants.{Counter}
 use Rattle.router_trace.specs.declared.binding.Origin.{Origin}
 use Rattle.router_trace.specs.Trace.{Entry, Did, Out, Took, Bound, Booked, Began}
-use Rattle.router_trace.specs.Deliveries.{Delivery, has_row, bindings, counters, name_of, is_message, origin_of, either_origin, joins_standing, presettles, delivery}
+use Rattle.router_trace.specs.Deliveries.{Delivery, has_row, bindings, counters, name_of, is_message, origin_of, either_origin, joins_standing, presettles, delivery, rank_at}
 use Rattle.router_trace.specs.Following.{is_to_be_told, outcome_to, tell, tells_of, tells}
-use Rattle.router_core.proofs.Due.{first_elim}
+use Rattle.router_core.proofs.Due.{ranked_elim}
 use Rattle.router_reply.specs.Acts.{book_in}
 use Rattle.theorems.specs.Admitted.{IsFromTerminus, IsAdmittedUnder, IsAdmittedIf, RowIsAdmitted}
 use Rattle.theorems.specs.Each.{EachBound}
@@ -108,4 +108,4 @@ tell_lawful t n (Some d) admitted there = outcome_lawful t n d d.origin d.outcom
 
 pub tells_lawful : (t : List Entry) → EachBound RowIsAdmitted t → AllLawful t (tells t)
 tells_lawful t admitted =
-    first_elim (bindings t + 1) (λ n. is_to_be_told t (delivery t n)) (λ x. AllLawful t (tells_of t x)) tt (λ n e. tell_lawful t n (delivery t n) admitted refl)
+    ranked_elim (rank_at t) (bindings t + 1) (λ n. is_to_be_told t (delivery t n)) (λ x. AllLawful t (tells_of t x)) tt (λ n e. tell_lawful t n (delivery t n) admitted refl)

@@ -1,5 +1,5 @@
 -- What takes don't change: an event that ends no connection has the same acts in a trace without its takes, and so its item has the same answer.
-use Rattle.std.proofs.Common.{◌≡◌, ◌∙◌, ap, refl, ℕ, ◌+◌, ◌-◌, ◌^◌, Bool, true, false, List, [], ◌∷◌, ◌++◌, map}
+use Rattle.std.proofs.Common.{◌≡◌, ◌∙◌, ap, refl, ℕ, ◌+◌, Bool, true, false, List, [], ◌∷◌, ◌++◌, map}
 use Rattle.std.specs.Prelude.{Option, Some, None, ◌||◌, if◌then◌else◌, is_none, is_some, filter, filter_map, option_map, option_and_then}
 use Rattle.amqp_model.specs.declared.perf.Disposition.{Disposition as ADisposition}
 use Rattle.amqp_model.specs.declared.perf.Perf.{Perf}
@@ -16,14 +16,13 @@ use Rattle.amqp_link.specs.declared.part.Part.TheVariants as part
 use Rattle.book_model.specs.declared.act.Act.{Act}
 use Rattle.book_model.specs.declared.act.Admission.{Admission}
 use Rattle.book_model.specs.declared.act.Decision.{Decision}
-use Rattle.book_model.specs.declared.row.Row.{Row}
 use Rattle.book_model.specs.declared.row.RowNumber.{RowNumber}
 use Rattle.book_model.specs.declared.terminus.LinkKey.{LinkKey}
 use Rattle.book_model.specs.declared.terminus.Terminus.{Terminus}
 use Rattle.book_model.specs.declared.terminus.TerminusNumber.{TerminusNumber}
 use Rattle.book_model.specs.Book.{BookView, terminus_of}
 use Rattle.journal_store.specs.declared.acting.TerminusAct.TheVariants as terminus
-use Rattle.journal_store.specs.Acting.{is_among, event_acts as settled_acts}
+use Rattle.journal_store.specs.Acting.{event_acts as settled_acts}
 use Rattle.journal_store.specs.Lost.{start_acts}
 use Rattle.journal_store.specs.Store.{exceeds}
 use Rattle.router_trace.specs.declared.event.Event.{Event}
@@ -38,7 +37,7 @@ use Rattle.router_trace.specs.Sessions.{own_of, session_on}
 use Rattle.router_trace.specs.Settling.{ids_between, middle_on, part_of}
 use Rattle.state_links.specs.Fits.{channel_of}
 use Rattle.state_deliveries.specs.declared.change.Change.{Change}
-use Rattle.state_deliveries.specs.Deciding.{gathered_below, decision_of, decided_rows, row_from, rows_from}
+use Rattle.state_deliveries.specs.Deciding.{gathered_below, decision_of, decided_rows}
 use Rattle.state_deliveries.specs.Hearing.{heard_change}
 use Rattle.state_messages.specs.Messages.{consumer_of}
 use Rattle.reply_rows.specs.declared.answer.Answer.{Answer}
@@ -47,7 +46,7 @@ use Rattle.reply_rows.specs.Booking.{answer_at}
 use Rattle.router_reply.specs.Admitting.{without_acts, terminus_for, admission_of, admitted_to, whole_admission, part_admission, taken_admission, unless_ends, event_admission, admits}
 use Rattle.router_reply.specs.Asking.{attach_in, decided_for, map_decides, forgotten_for, map_forgets}
 use Rattle.router_reply.specs.Deciding.{lost, stolen_from, stolen_for, ended_by, listed, event_changes, as_kept, decided, settled_on, sent_from, closed_terminus, forgotten_by, forgotten_in, item_forgets, forgotten, made_for, terminus_by, terminus_in, terminus_of_event}
-use Rattle.router_reply.specs.Joining.{settled_whole, is_held_on, unless_held, settled_by_transfer, rows_claimed}
+use Rattle.router_reply.specs.Joining.{settled_whole, row_alone, settled_by_transfer, rows_claimed}
 use Rattle.reply_transfers.specs.Joining.{row_joined}
 use Rattle.router_reply.specs.Acts.{Journaled, live_answer, event_answer, answer_acts, planned_acts, admitted_acts, or_admits, event_acts, finds_full, journaled, book_in, acts_of, before_acts, found_journal, full_at, answer_of}
 use Rattle.theorems.specs.Takes.{untaken}
@@ -152,9 +151,6 @@ same_changed t e a none =
 same_decided : (b : BookView) (t : List Entry) (e : Event) (a : Answer) → due t e ≡ [] → decided b t e a ≡ plain_decided b (untaken t) e a
 same_decided b t e a none = λ j. same_changed t e a none j ++ decided_for b (attach_in e) (same_resumed_key t e a j)
 
-same_rows_from : (t : List Entry) (c o first last : ℕ) → rows_from t c o first last ≡ rows_from (untaken t) c o first last
-same_rows_from t c o first last = λ j. gathered_below (same_bindings t j + 1) (λ n. row_from c o first last (same_delivery t n j))
-
 same_rows_claimed : (b : BookView) (t : List Entry) (c o first last : ℕ) → rows_claimed b t c o first last ≡ rows_claimed b (untaken t) c o first last
 same_rows_claimed b t c o first last = λ j. filter_map (λ id. option_map (λ r. r.number) (same_row_under b t c o id j)) (filter (λ id. is_some (same_claims t c o id j)) (ids_between first last))
 
@@ -169,17 +165,9 @@ same_closed b t c (Detach own handle true (Some e)) = refl
 same_closed b t c (Detach own handle false x) = refl
 same_closed b t c _ = refl
 
-same_held : (t : List Entry) (c own n : ℕ) → is_held_on t c own n ≡ is_held_on (untaken t) c own n
-same_held t c own n = λ j. is_among n (same_rows_from t c own 0 (2 ^ 31 - 1) j) || is_among n (same_rows_from t c own (2 ^ 31) (2 ^ 32 - 1) j)
-
-same_unless : (t : List Entry) (c own : ℕ) (v : Option Row) → unless_held t c own v ≡ unless_held (untaken t) c own v
-same_unless t c own None = refl
-same_unless t c own (Some r) = ap (λ (q : Bool). if q then [] else r.number ∷ []) (same_held t c own r.number.0)
-
 same_transfer : (b : BookView) (t : List Entry) (c : ℕ) (x : ATransfer) (a : Answer) → settled_by_transfer b t c x a ≡ settled_by_transfer b (untaken t) c x a
 same_transfer b t c x (Taken own handle) =
-    (λ j. unless_held t c own (row_joined b (durable_key (same_link t c own handle j)) (settled_whole x (middle_on (same_link_place t c own x.handle j)))))
-    ∙ same_unless t c own (row_joined b (durable_key (link (untaken t) c own handle)) (settled_whole x (middle_on (link_place (untaken t) c own x.handle))))
+    λ j. row_alone (row_joined b (durable_key (same_link t c own handle j)) (settled_whole x (middle_on (same_link_place t c own x.handle j))))
 same_transfer b t c x _ = refl
 
 same_forgotten_by : (b : BookView) (t : List Entry) (c : ℕ) (own : Option ℕ) (body : Perf) (a : Answer)

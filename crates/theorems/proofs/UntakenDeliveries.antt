@@ -7,10 +7,10 @@ use Rattle.router_trace.specs.declared.binding.Origin.{Origin}
 use Rattle.router_trace.specs.declared.handle.Attachment.{Attachment}
 use Rattle.router_trace.specs.Trace.{Entry, Did, Out, Took, Bound, Booked, Began}
 use Rattle.router_trace.specs.Links.{is_lost, has_number, attachments, newest_by, numbered}
-use Rattle.router_trace.specs.Deliveries.{Delivery, none_if_ended, ended_first, acts_found, channels_found, bindings, counters, joins_standing, origin_of, with_binding, name_of, name_in, same_name, number_named, delivery, called, unless_over, after_event, after_put, sending_by, sending, named_by, named, next_id_by, next_id, stands_on}
+use Rattle.router_trace.specs.Deliveries.{Delivery, none_if_ended, ended_first, acts_found, channels_found, bindings, counters, joins_standing, origin_of, with_binding, name_of, name_in, same_name, number_named, delivery, called, unless_over, after_event, after_put, sending_by, sending, named_by, named, next_id_by, next_id, stands_on, rank_at, rank_in, rank_of, ranked, last_row, last_with}
 use Rattle.router_trace.specs.DeliveryFrames.{next_frame, largest_out, rest_of, first_transfer, later_transfer}
 use Rattle.router_trace.specs.Claims.{Claim, bind_claim, claim_at, claim_after, claims}
-use Rattle.router_trace.specs.Numbers.{Placed, first_below, first_placed}
+use Rattle.router_trace.specs.Numbers.{Placed, first_below, first_placed, first_ranked, no_rank}
 use Rattle.router_trace.specs.Following.{is_still_attached, is_to_be_told, tell, tells_of, tells, goes_on_at, is_going, takes_more, is_going_on, is_busy, is_open, is_used, can_start, is_wide, is_there, can_go, place_to_go, send, send_of, sends_due, is_unsent_on, owes_one, place_drained, drain_on, drain_by, drains_due}
 use Rattle.theorems.specs.Takes.{untaken}
 use Rattle.theorems.proofs.Untaken.{same_theirs, same_session}
@@ -96,15 +96,30 @@ same_acts_found (Began g ∷ t) = refl
 same_channels : (t : List Entry) (c p : ℕ) → channels_found t c p ≡ channels_found (untaken t) c p
 same_channels t c p = λ j. none_if_ended (same_ended t j) c (same_theirs t c p j)
 
+same_last_row : (t : List Entry) → last_row t ≡ last_row (untaken t)
+same_last_row [] = refl
+same_last_row (Did s ∷ t) = same_last_row t
+same_last_row (Out d i ∷ t) = same_last_row t
+same_last_row (Took d n ∷ t) = same_last_row t
+same_last_row (Bound b ∷ t) = ap (last_with b) (same_last_row t)
+same_last_row (Booked acts full ∷ t) = same_last_row t
+same_last_row (Began g ∷ t) = refl
+
+same_rank_in : (t : List Entry) (b : Binding) → rank_in t b ≡ rank_in (untaken t) b
+same_rank_in t b = λ j. rank_of (same_name_in t b j) (same_last_row t j)
+
 pub same_delivery : (t : List Entry) (n : ℕ) → delivery t n ≡ delivery (untaken t) n
 same_delivery [] n = refl
 same_delivery (Did s ∷ t) n =
     λ j. option_and_then (λ d. unless_over (after_event s.event (λ c p. same_channels t c p j) (λ c o id. same_named t c o id j) (same_acts_found t j) n d)) (same_delivery t n j)
 same_delivery (Out c i ∷ t) n = λ j. option_and_then (λ d. unless_over (after_put (λ name. same_numbers t name j) i c n (λ o h. same_sending t c o h j) d)) (same_delivery t n j)
 same_delivery (Took c k ∷ t) n = same_delivery t n
-same_delivery (Bound b ∷ t) n = λ j. with_binding (joins_standing b.kind) (same_name_in t b j) b (same_bindings t j + 1 == n) (same_delivery t n j)
+same_delivery (Bound b ∷ t) n = λ j. with_binding (joins_standing b.kind) (same_name_in t b j) (same_rank_in t b j) b (same_bindings t j + 1 == n) (same_delivery t n j)
 same_delivery (Booked acts full ∷ t) n = same_delivery t n
 same_delivery (Began g ∷ t) n = refl
+
+same_ranks : (t : List Entry) (n : ℕ) → rank_at t n ≡ rank_at (untaken t) n
+same_ranks t n = ap ranked (same_delivery t n)
 
 pub same_called : (t : List Entry) (name : DeliveryName) → called t name ≡ called (untaken t) name
 same_called t name = λ j. option_and_then (λ n. same_delivery t n j) (same_numbers t name j)
@@ -144,8 +159,8 @@ same_tells_of t (Some n) = ap tell (same_delivery t n)
 
 pub same_tells : (t : List Entry) → tells t ≡ tells (untaken t)
 same_tells t =
-    (λ j. tells_of t (first_below (same_bindings t j + 1) (λ n. passes n j)))
-    ∙ same_tells_of t (first_below (bindings (untaken t) + 1) (λ n. is_to_be_told (untaken t) (delivery (untaken t) n)))
+    (λ j. tells_of t (first_ranked (λ n. same_ranks t n j) (same_bindings t j + 1) (λ n. passes n j)))
+    ∙ same_tells_of t (first_ranked (rank_at (untaken t)) (bindings (untaken t) + 1) (λ n. is_to_be_told (untaken t) (delivery (untaken t) n)))
   where
     passes : (n : ℕ) → is_to_be_told t (delivery t n) ≡ is_to_be_told (untaken t) (delivery (untaken t) n)
     passes n = ap (is_to_be_told t) (same_delivery t n) ∙ same_to_tell t (delivery (untaken t) n)
@@ -205,8 +220,8 @@ same_send_of t (Some p) = ap (send t) (same_delivery t p.number) ∙ same_send t
 
 pub same_sends : (t : List Entry) → sends_due t ≡ sends_due (untaken t)
 same_sends t =
-    (λ j. send_of t (first_placed (same_bindings t j + 1) (λ n. places n j)))
-    ∙ same_send_of t (first_placed (bindings (untaken t) + 1) (λ n. place_to_go (untaken t) n (delivery (untaken t) n)))
+    (λ j. send_of t (first_placed (λ n. same_ranks t n j) (same_bindings t j + 1) (λ n. places n j)))
+    ∙ same_send_of t (first_placed (rank_at (untaken t)) (bindings (untaken t) + 1) (λ n. place_to_go (untaken t) n (delivery (untaken t) n)))
   where
     places : (n : ℕ) → place_to_go t n (delivery t n) ≡ place_to_go (untaken t) n (delivery (untaken t) n)
     places n = ap (place_to_go t n) (same_delivery t n) ∙ same_place_to_go t n (delivery (untaken t) n)
@@ -226,8 +241,8 @@ same_drain_by t (Some p) =
 
 pub same_drains : (t : List Entry) → drains_due t ≡ drains_due (untaken t)
 same_drains t =
-    (λ j. drain_by t (first_placed (same_attachments t j + 1) (λ n. places n j)))
-    ∙ same_drain_by t (first_placed (attachments (untaken t) + 1) (λ n. place_drained (untaken t) n (numbered (untaken t) n)))
+    (λ j. drain_by t (first_placed no_rank (same_attachments t j + 1) (λ n. places n j)))
+    ∙ same_drain_by t (first_placed no_rank (attachments (untaken t) + 1) (λ n. place_drained (untaken t) n (numbered (untaken t) n)))
   where
     places : (n : ℕ) → place_drained t n (numbered t n) ≡ place_drained (untaken t) n (numbered (untaken t) n)
     places n = ap (place_drained t n) (same_numbered t n) ∙ same_place_drained t n (numbered (untaken t) n)

@@ -29,10 +29,10 @@ use Rattle.router_trace.specs.declared.handle.Attachment.{Attachment}
 use Rattle.router_trace.specs.declared.event.Event.TheVariants as event
 use Rattle.router_trace.specs.Connection.{Connection, conn, standing, found, live, due, live_of}
 use Rattle.router_trace.specs.Frames.{closing, told_of}
-use Rattle.router_trace.specs.Deliveries.{Delivery, has_row, delivery}
+use Rattle.router_trace.specs.Deliveries.{Delivery, has_row, delivery, rank_at}
 use Rattle.router_trace.specs.DeliveryFrames.{outcome_item}
 use Rattle.router_trace.specs.Settling.{unbound}
-use Rattle.router_trace.specs.Numbers.{Placed, first_placed}
+use Rattle.router_trace.specs.Numbers.{Placed, first_placed, first_ranked, no_rank}
 use Rattle.router_trace.specs.Following.{link_of, first_delivery, is_to_be_told, outcome_to, tell, tells_of, tells, is_wide, sends_due, drain_of, drain_on, drain_by, place_drained, drains_due}
 use Rattle.router_trace.specs.Durable.{is_durable}
 use Rattle.router_trace.specs.LinkFrames.{attach_item, detach_item, answer_to, refusal_of, fits}
@@ -287,10 +287,10 @@ none_grants t [] all = tt
 none_grants t (p ∷ ps) all = (ap is_transfer all.0.flow, none_grants t ps all.1)
 
 pub none_tells : (t : List Entry) → NonePut (tells t)
-none_tells t = none_told t (first_delivery t (is_to_be_told t))
+none_tells t = none_told t (first_ranked (rank_at t) (bindings t + 1) (λ n. is_to_be_told t (delivery t n)))
 
 pub none_drains : (t : List Entry) → NonePut (drains_due t)
-none_drains t = none_drain_by t (first_placed (attachments t + 1) (λ n. place_drained t n (numbered t n)))
+none_drains t = none_drain_by t (first_placed no_rank (attachments t + 1) (λ n. place_drained t n (numbered t n)))
 
 pub none_granted : (t : List Entry) → NonePut (grants_due t)
 none_granted t = none_grants t (grants_due t) (all_grants t)

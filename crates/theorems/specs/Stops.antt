@@ -13,7 +13,7 @@ use Rattle.router_core.specs.declared.driving.Driven.{Driven}
 use Rattle.router_core.specs.declared.driving.Sent.{Sent}
 use Rattle.router_core.specs.declared.router.Core.{Core}
 use Rattle.router_core.specs.Handling.{Fits, id_of, store_of}
-use Rattle.router_core.specs.Leaving.{IsLeftAfter, LeftBy, book_behind_next}
+use Rattle.router_core.specs.Leaving.{IsLeftAfter, LeftBy, book_after_next_turn}
 use Rattle.router_core.specs.Runs.{Run}
 use Rattle.theorems.specs.Lives.{Life, Lives, CutOff}
 
@@ -54,7 +54,7 @@ TheEndLeavesAll d old events new driven =
     × ((t : Trace) → Fits old t → (u : Trace) × Run (id_of old) 0 t events driven.taken.items u × AllOpenTo d new u)
 
 -- Where a fault was answered, two files that a stop leaves at the end open to the book after the events that were handled,
--- or to that book after the acts of the one that met the fault; and to that one behind it if an item was taken after it.
+-- or to that book after the acts of the one that met the fault; and to the latter if an item was taken after it.
 -- So, whatever was answered, the events of which an item was taken are in the book that is left.
 abbrev pub AFaultLeavesAllAnswered : {T : Type 0} → Stopping T → Core T → List Event → Core T → Driven → Type 0
 AFaultLeavesAllAnswered d old events new driven =
@@ -96,12 +96,12 @@ EndsALife d old events new =
     → LeavesOnly d.moment d.left_since (twin_of (store_of old)) (twin_of (store_of new)) (EndsLife (id_of old) life lives t events)
 
 -- So they do at the end of the call, after which these items had been taken. An item that isn't of the events before the
--- one that met a fault was put out by that one, or before all of them; then the book is the one behind it.
+-- one that met a fault was put out by that one, or before all of them; then the book is the one after it.
 pub record EndsAnswered (id : List ℕ) (life : Life) (lives : List Life) (t : Trace) (events : List Event) (xs : List Sent) (contents : Contents) : Type 0 where
   pub ends : EndsLife id life lives t events contents
   pub last : List Sent
   pub items : xs ≡ ends.taken ++ last
-  pub answered : last ≢ [] → book_in ends.trace ≡ book_behind_next ends.mid ends.rest
+  pub answered : last ≢ [] → book_in ends.trace ≡ book_after_next_turn ends.mid ends.rest
 
 abbrev pub EndsALifeAnswered : {T : Type 0} → Stopping T → Core T → List Event → Core T → Driven → Type 0
 EndsALifeAnswered d old events new driven =

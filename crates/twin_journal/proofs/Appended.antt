@@ -1,5 +1,5 @@
 -- A batch after a checkpoint that was due, or wasn't.
-use Rattle.std.proofs.Common.{◌≡◌, ◌⊎◌, inl, inr, ⊎_elim, ℕ, Bool, true, false, List, [], ◌∷◌, ◌++◌, None, Result, Ok, Err, refl, sym, ap, ◌∙◌, subst}
+use Rattle.std.proofs.Common.{◌≡◌, ◌⊎◌, inl, inr, ⊎_elim, ℕ, Bool, true, false, List, [], ◌∷◌, ◌++◌, ◌+◌, length, length-append, None, Result, Ok, Err, refl, sym, ap, ◌∙◌, subst, arith}
 use Rattle.std.specs.Prelude.{IfOk}
 use Rattle.disk_core.specs.Twin.{Contents}
 use Rattle.book_model.specs.declared.act.Act.{Act}
@@ -8,8 +8,8 @@ use Rattle.journal_codec.specs.Batches.{book_after}
 use Rattle.gate_journal.proofs.Fronts.{book_more}
 use Rattle.twin_journal.specs.declared.figures.Figures.{Figures}
 use Rattle.twin_journal.specs.Figures.{IsAt, StartsAt, IsAdded}
-use Rattle.twin_journal.specs.Holding.{TwinHolds, OpensTo}
-use Rattle.twin_journal.proofs.Kept.{after_none, opens}
+use Rattle.twin_journal.specs.Holding.{TwinHolds, BeforeOrBehind, last_of}
+use Rattle.twin_journal.proofs.Kept.{after_none, holds_at}
 
 -- of what an Ok has, what follows
 pub if_ok : {A E : Type 0} {P Q : A → Type 0} (r : Result A E) → ((x : A) → P x → Q x) → IfOk r P → IfOk r Q
@@ -43,9 +43,23 @@ module _ (figures : Figures) (seen : Contents) (may_leave : Contents → Type 0)
 pub applies_there : (start book : BookView) (bs : List (List Act)) (acts : List Act) → book_after start bs ≡ book → first_fault book acts ≡ None → first_fault (book_after start bs) acts ≡ None
 applies_there start book bs acts leaves applies = subst (λ (b : BookView). first_fault b acts ≡ None) (sym leaves) applies
 
--- what a crash leaves of the batch opens to the book before it or after it
-pub opens_both : (c : Contents) (base : ℕ) (start book : BookView) (bs : List (List Act)) (acts : List Act) → book_after start bs ≡ book
-    → TwinHolds c base start bs ⊎ TwinHolds c base start (bs ++ acts ∷ []) → OpensTo c book ⊎ OpensTo c (effects book acts)
-opens_both c base start book bs acts leaves either =
-    ⊎_elim (λ before. inl (opens c base start book bs before leaves))
-    (λ after. inr (opens c base start (effects book acts) (bs ++ acts ∷ []) after (book_more start bs acts ∙ ap (λ (b : BookView). effects b acts) leaves))) either
+-- the last batch is the one behind the others
+pub last_behind : (bs : List (List Act)) (acts : List Act) → last_of (bs ++ acts ∷ []) ≡ acts
+last_behind [] acts = refl
+last_behind (b ∷ []) acts = refl
+last_behind (b ∷ more ∷ bs) acts = last_behind (more ∷ bs) acts
+
+-- what a crash leaves of the batch is the journal before it, or the one with it
+pub holds_both : (c : Contents) (base count : ℕ) (start book : BookView) (bs : List (List Act)) (acts : List Act) → book_after start bs ≡ book → count ≡ base + length bs
+    → TwinHolds c base start bs ⊎ TwinHolds c base start (bs ++ acts ∷ []) → BeforeOrBehind book count acts c
+holds_both c base count start book bs acts leaves counted either =
+    ⊎_elim (λ before. inl (holds_at c base count start book bs before leaves counted))
+    (λ after. inr (record {
+      base = base;
+      start = start;
+      batches = bs ++ acts ∷ [];
+      holds = after;
+      leaves = sym (book_more start bs acts ∙ ap (λ (b : BookView). effects b acts) leaves);
+      counted = let more : count + 1 ≡ base + length (bs ++ acts ∷ []) = omega (arith, counted, length-append bs (acts ∷ [])) in more;
+      last_is = sym (last_behind bs acts);
+    })) either

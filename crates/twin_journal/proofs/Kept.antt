@@ -1,10 +1,10 @@
 -- Two files that hold batches open to the book that they leave.
-use Rattle.std.proofs.Common.{◌≡◌, ◌⊎◌, ⊎_elim, ℕ, List, [], refl, sym}
+use Rattle.std.proofs.Common.{◌≡◌, ◌⊎◌, inl, inr, ⊎_elim, ℕ, ◌+◌, List, [], length, refl, sym, arith}
 use Rattle.disk_core.specs.Twin.{Contents}
 use Rattle.book_model.specs.declared.act.Act.{Act}
-use Rattle.book_model.specs.Book.{BookView}
+use Rattle.book_model.specs.Book.{BookView, effects}
 use Rattle.journal_codec.specs.Batches.{book_after}
-use Rattle.twin_journal.specs.Holding.{TwinHolds, OpensTo}
+use Rattle.twin_journal.specs.Holding.{TwinHolds, OpensTo, HoldsAt, HoldsUpTo, BeforeOrBehind, last_of}
 
 pub after_none : (b : BookView) → book_after b [] ≡ b
 unfolding book_after
@@ -16,3 +16,22 @@ opens c base start book bs holds leaves = record { base = base; start = start; b
 pub opens_either : (c : Contents) (base last : ℕ) (start book : BookView) (bs : List (List Act)) → book_after start bs ≡ book → TwinHolds c base start bs ⊎ TwinHolds c last book [] → OpensTo c book
 opens_either c base last start book bs leaves either =
     ⊎_elim (λ before. opens c base start book bs before leaves) (λ renewed. opens c last book book [] renewed (after_none book)) either
+
+-- with the number of them
+pub holds_at : (c : Contents) (base count : ℕ) (start book : BookView) (bs : List (List Act)) → TwinHolds c base start bs → book_after start bs ≡ book → count ≡ base + length bs → HoldsAt c book count
+holds_at c base count start book bs holds leaves counted =
+    (last_of bs, record { base = base; start = start; batches = bs; holds = holds; leaves = sym leaves; counted = counted; last_is = refl })
+
+pub holds_either : (c : Contents) (base last : ℕ) (start book : BookView) (bs : List (List Act)) → book_after start bs ≡ book → last ≡ base + length bs → TwinHolds c base start bs ⊎ TwinHolds c last book []
+    → HoldsAt c book last
+holds_either c base last start book bs leaves counted either =
+    ⊎_elim (λ before. holds_at c base last start book bs before leaves counted)
+    (λ renewed. holds_at c last last book book [] renewed (after_none book) (let same : last ≡ last + 0 = omega arith in same)) either
+
+-- what is counted opens too
+pub counted_opens : (c : Contents) (book : BookView) (count : ℕ) (last : List Act) → HoldsUpTo c book count last → OpensTo c book
+counted_opens c book count last h = record { base = h.base; start = h.start; batches = h.batches; holds = h.holds; leaves = h.leaves }
+
+pub counted_both : (c : Contents) (book : BookView) (count : ℕ) (acts : List Act) → BeforeOrBehind book count acts c → OpensTo c book ⊎ OpensTo c (effects book acts)
+counted_both c book count acts either =
+    ⊎_elim (λ before. inl (counted_opens c book count before.0 before.1)) (λ behind. inr (counted_opens c (effects book acts) (count + 1) acts behind)) either

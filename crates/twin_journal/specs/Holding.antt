@@ -1,9 +1,9 @@
 -- What two files hold, and the book to which they open.
-use Rattle.std.specs.Prelude.{◌≡◌, ℕ, List, ◌∷◌, ◌++◌}
+use Rattle.std.specs.Prelude.{◌≡◌, ◌⊎◌, ◌+◌, ℕ, List, [], ◌∷◌, ◌++◌, length}
 use Rattle.disk_core.specs.declared.side.Side.{Side}
 use Rattle.disk_core.specs.Twin.{other, Contents}
 use Rattle.book_model.specs.declared.act.Act.{Act}
-use Rattle.book_model.specs.Book.{BookView}
+use Rattle.book_model.specs.Book.{BookView, effects}
 use Rattle.journal_codec.specs.Batches.{HoldsFrom, book_after}
 use Rattle.twin_journal.specs.Format.{magic}
 use Rattle.twin_journal.specs.Sides.{IsIdle}
@@ -30,3 +30,26 @@ pub record OpensTo (contents : Contents) (book : BookView) : Type 0 where
   pub batches : List (List Act)
   pub holds : TwinHolds contents base start batches
   pub leaves : book ≡ book_after start batches
+
+-- the last of some batches; no acts where there are none
+abbrev pub last_of : List (List Act) → List Act
+last_of [] = []
+last_of (acts ∷ []) = acts
+last_of (acts ∷ more ∷ bs) = last_of (more ∷ bs)
+
+-- Two files are a journal that leaves this book after so many batches, the last of them of these acts; none where the checkpoint has them all.
+pub record HoldsUpTo (contents : Contents) (book : BookView) (count : ℕ) (last : List Act) : Type 0 where
+  pub base : ℕ
+  pub start : BookView
+  pub batches : List (List Act)
+  pub holds : TwinHolds contents base start batches
+  pub leaves : book ≡ book_after start batches
+  pub counted : count ≡ base + length batches
+  pub last_is : last ≡ last_of batches
+
+-- The same before a batch, whatever the last one is then, and after it.
+abbrev pub HoldsAt : Contents → BookView → ℕ → Type 0
+HoldsAt contents book count = (last : List Act) × HoldsUpTo contents book count last
+
+abbrev pub BeforeOrBehind : BookView → ℕ → List Act → Contents → Type 0
+BeforeOrBehind book count acts contents = HoldsAt contents book count ⊎ HoldsUpTo contents (effects book acts) (count + 1) acts

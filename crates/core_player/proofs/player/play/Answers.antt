@@ -1,6 +1,7 @@
 use Rattle.std.proofs.Common.{◌∙◌, sym, ap, subst, List, ◌++◌}
 use Rattle.core_player.specs.declared.line.Line.{Line}
 use Rattle.core_player.specs.Telling.{TellsOf}
+use Rattle.core_player.proofs.Recording.{shown}
 use Rattle.core_player.proofs.Telling.{tells_after}
 use Rattle.core_player.proofs.player.play.Goals as goal
 
@@ -18,5 +19,11 @@ returns-clause-told g c =
 pub returns-clause-more : goal.returns-clause-more
 returns-clause-more g c = (c.run-played.new.self.lines.items, c.in_ok-append.ensures)
 
-pub returns-clause-lived : goal.returns-clause-lived
-returns-clause-lived g c = (c.in_ok-played.ensures.tells c.args.core (c.new-player.ensures.tells c.requires.works)).lived
+pub returns-clause-shown : goal.returns-clause-shown
+returns-clause-shown g c =
+    let m = g.M.Machine.meaning in
+    let told = c.in_ok-played.ensures.tells c.args.core (c.new-player.ensures.tells c.requires.works) in (
+      c.run-played.new.self.recorder.entries.items,
+      c.in_ok-cut.ensures.entries,
+      shown m c.args.core c.run-played.new.self.core c.run-played.new.self.recorder c.in_ok-cut.cut c.in_ok-cut.ensures.cut told.recorded,
+    )

@@ -2,9 +2,9 @@ use Rattle.std.proofs.Common.{◌≡◌, ℕ, Bool, true, sym, subst, Option, So
 use Rattle.std.specs.Prelude.{◌==◌, ◌&&◌, is_none}
 use Rattle.std.proofs.lemmas.Bool.{and_from, and_parts}
 use Rattle.router_trace.specs.declared.handle.Attachment.{Attachment}
-use Rattle.router_trace.specs.Deliveries.{Delivery, delivery}
+use Rattle.router_trace.specs.Deliveries.{Delivery, delivery, rank_at}
 use Rattle.router_trace.specs.Following.{is_unsent_on}
-use Rattle.state_deliveries.specs.Finding.{IsFirst, is_above}
+use Rattle.state_deliveries.specs.Finding.{IsFirstBy, is_beyond}
 use Rattle.router_after.specs.Starting.{is_same, waits_at}
 use Rattle.router_after.proofs.Scanning.{onward}
 use Rattle.router_after.proofs.waiting.first_waiting.Goals as goal
@@ -22,6 +22,6 @@ pub loop-turn-preserved : goal.loop-turn-preserved
 loop-turn-preserved c = λ t fit.
     let passes : ℕ → Bool = λ n. waits_at c.args.place (delivery t n) in
     let wide : ℕ → Bool = λ n. is_unsent_on c.args.place.number (delivery t n) in
-    onward wide passes c.loop-turn.last c.in-Some.number (λ m e. unsent c.args.place (delivery t m) e) (c.loop-turn.invariant t fit)
-    (subst (IsFirst (λ m. is_above c.loop-turn.last m && wide m)) c.in-Some.is (c.unsent_after.ensures t fit))
+    onward (rank_at t) wide passes c.loop-turn.last c.in-Some.number (λ m e. unsent c.args.place (delivery t m) e) (c.loop-turn.invariant t fit)
+    (subst (IsFirstBy (rank_at t) (λ m. is_beyond (rank_at t) c.loop-turn.last m && wide m)) c.in-Some.is (c.unsent_after.ensures t fit))
     (sym (c.if-is_waiting.ensures t fit))

@@ -1,10 +1,10 @@
 use Rattle.std.proofs.Common.{List}
 use Rattle.router_trace.specs.Trace.{Entry}
-use Rattle.router_trace.specs.Deliveries.{delivery}
+use Rattle.router_trace.specs.Deliveries.{delivery, rank_at}
 use Rattle.router_state.specs.Tables.{TablesFit}
 use Rattle.router_after.specs.Starting.{waits_at}
 use Rattle.router_after.proofs.Scanning.{NoneUpTo}
 use Rattle.router_after.proofs.waiting.first_waiting.Given as goal
 
 abbrev pub invariant-loop-turn : goal.invariant-loop-turn
-invariant-loop-turn l = (t : List Entry) → TablesFit l.state t → NoneUpTo (λ n. waits_at l.place (delivery t n)) l.last
+invariant-loop-turn l = (t : List Entry) → TablesFit l.state t → NoneUpTo (rank_at t) (λ n. waits_at l.place (delivery t n)) l.last

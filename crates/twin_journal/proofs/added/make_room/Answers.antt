@@ -1,9 +1,9 @@
-use Rattle.std.proofs.Common.{◌⊎◌, []}
-use Rattle.disk_core.specs.DiskLaws.{widened}
+use Rattle.std.proofs.Common.{◌≡◌, ◌⊎◌, [], subst, sym}
+use Rattle.disk_core.specs.DiskLaws.{started, widened}
 use Rattle.disk_core.specs.Twin.{Contents}
-use Rattle.twin_journal.specs.Holding.{TwinHolds, OpensTo}
+use Rattle.twin_journal.specs.Holding.{TwinHolds, HoldsAt, HoldsOn}
 use Rattle.twin_journal.proofs.Appended.{if_ok}
-use Rattle.twin_journal.proofs.Kept.{opens_either}
+use Rattle.twin_journal.proofs.Kept.{holds_at, holds_either}
 use Rattle.twin_journal.proofs.added.make_room.Goals as goal
 
 pub returns-clause-renewed : goal.returns-clause-renewed
@@ -14,5 +14,22 @@ returns-clause-any_moment g c stamp start bs at leaves =
     let T = g.T.Twin in
     let figures = c.args.figures in
     let book = c.args.book.now in
-    widened T.moment T.left_since c.args.twin.now c.renew.new.twin (λ (d : Contents). TwinHolds d figures.base start bs ⊎ TwinHolds d figures.last book []) (λ (d : Contents). OpensTo d book)
-    (c.renew.ensures.any_moment stamp start bs at leaves) (λ d either. opens_either d figures.base figures.last start book bs leaves either)
+    widened T.moment T.left_since c.args.twin.now c.renew.new.twin (λ (d : Contents). TwinHolds d figures.base start bs ⊎ TwinHolds d figures.last book []) (λ (d : Contents). HoldsAt d book figures.last)
+    (c.renew.ensures.any_moment stamp start bs at leaves) (λ d either. holds_either d figures.base figures.last start book bs leaves at.fits.last either)
+
+pub returns-then-not-due-clause-any_moment : goal.returns-then-not-due-clause-any_moment
+returns-then-not-due-clause-any_moment g c stamp start bs at leaves =
+    let T = g.T.Twin in
+    let figures = c.args.figures in
+    let book = c.args.book.now in
+    started T.moment T.left_since c.args.twin.now (λ (d : Contents). HoldsAt d book figures.last)
+    (λ d left.
+    let same : d ≡ T.seen c.args.twin.now = at.durable d (g.met.T.Twin.only_now c.args.twin.now d left) in
+    let holds : TwinHolds d figures.base start bs = record {
+      side = figures.side;
+      epoch = figures.epoch;
+      size = figures.size;
+      stamp = stamp;
+      on = subst (λ (e : Contents). HoldsOn figures.side e figures.epoch figures.base figures.size stamp start bs) (sym same) at.fits.on;
+    } in
+    holds_at d figures.base figures.last start book bs holds leaves at.fits.last)

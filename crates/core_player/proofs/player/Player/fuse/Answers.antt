@@ -1,7 +1,7 @@
 use Rattle.std.proofs.Common.{refl, ◌∙◌, sym}
-use Rattle.core_machine.proofs.Histories.{still}
 use Rattle.core_player.proofs.Handing.{fused_follows}
-use Rattle.core_player.proofs.Telling.{lives_on, works_tells}
+use Rattle.core_player.proofs.Recording.{fused_recorded}
+use Rattle.core_player.proofs.Telling.{works_tells}
 use Rattle.core_player.proofs.player.Player.fuse.Goals as goal
 
 pub returns-clause-follows : goal.returns-clause-follows
@@ -17,4 +17,4 @@ returns-clause-tells g c = λ first h.
     let e = c.fuse.ensures in
     let works = sym c.is_failed.ensures ∙ c.if-is_failed.false in
     works_tells m first c.args.self.now _ (e.works ∙ works) refl refl
-    (lives_on m first c.args.self.now.core c.fuse.new.self e.named (λ from lived. still m from c.args.self.now.core c.fuse.new.self lived works e.works e.fits e.keeps e.counts e.named)) h
+    (fused_recorded m first c.args.self.now.core c.fuse.new.self c.args.self.now.recorder works (e.works ∙ works) e.named e.fits e.keeps) h

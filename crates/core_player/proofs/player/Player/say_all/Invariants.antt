@@ -8,6 +8,7 @@ abbrev pub invariant-loop-item : goal.invariant-loop-item
 invariant-loop-item g l = record {
   lines : l.self.lines.items ++ map (out_line l.conn) (drop l.item-index l.items) ≡ l.fn.self.lines.items ++ map (out_line l.conn) l.fn.items;
   core : l.self.core ≡ l.fn.self.core;
+  recorder : l.self.recorder ≡ l.fn.self.recorder;
   config : l.self.config ≡ l.fn.self.config;
   sockets : l.self.sockets ≡ l.fn.self.sockets;
   last : l.self.newest ≡ l.fn.self.newest;

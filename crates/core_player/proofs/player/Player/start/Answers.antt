@@ -1,18 +1,29 @@
 use Rattle.std.proofs.Common.{refl}
 use Rattle.std.proofs.lemmas.Result.{on_ok_weaker}
 use Rattle.router_trace.specs.declared.event.Event.TheVariants as event
-use Rattle.core_machine.proofs.Histories.{handled}
+use Rattle.core_player.specs.declared.entry.Came.TheVariants as came
 use Rattle.core_player.proofs.Handing.{start_follows, start_fails}
-use Rattle.core_player.proofs.Telling.{lives_on, works_tells, fault_tells}
+use Rattle.core_player.proofs.Recording.{fault_recorded, handled_recorded, told_acts, works_before}
+use Rattle.core_player.proofs.Telling.{fault_tells, on_ok_all, on_ok_two, works_tells}
 use Rattle.core_player.proofs.player.Player.start.Goals as goal
 
 pub returns-in-Ok-clause-follows : goal.returns-in-Ok-clause-follows
-returns-in-Ok-clause-follows g c = λ works config from b. start_follows g.M.Machine.meaning c.args.self.now _ config from c.in-Ok.ensures.fits c.in-Ok.ensures.keeps c.in-Ok.ensures.taken c.in-Ok.ensures.started c.in-Ok.ensures.named refl refl refl refl b
+returns-in-Ok-clause-follows g c = on_ok_all c.handled.result
+    (λ works config from b. start_follows g.M.Machine.meaning c.args.self.now _ config from c.in-Ok.ensures.fits c.in-Ok.ensures.keeps c.in-Ok.ensures.taken c.in-Ok.ensures.started c.in-Ok.ensures.named refl refl refl refl b)
 
 pub returns-in-Ok-clause-tells : goal.returns-in-Ok-clause-tells
-returns-in-Ok-clause-tells g c = λ first h. let e = c.handle.ensures in works_tells g.M.Machine.meaning first c.args.self.now _ c.in-Ok.ensures.works refl refl
-    (lives_on g.M.Machine.meaning first c.args.self.now.core c.handle.new.self e.named (λ from lived. handled g.M.Machine.meaning from c.args.self.now.core c.handle.new.self event.Start c.handle.result lived
-    e.fits e.taken e.works e.keeps e.leaves e.counted e.uncounted e.named e.failed e.refused e.refuses e.unchanged e.memory e.disk)) h
+returns-in-Ok-clause-tells g c = on_ok_two c.handled.result
+    (λ entries lengths first h.
+    let m = g.M.Machine.meaning in
+    let old = c.args.self.now.core in
+    let new = c.handle.new.self in
+    let working = works_before c.handle.result c.in-Ok.done (m.is_failed old) c.in-Ok.is c.handle.ensures.failed in
+    works_tells m first c.args.self.now _ c.in-Ok.ensures.works refl refl
+    (handled_recorded m old new c.args.self.now.recorder _ event.Start came.Start refl c.acts_of.result working c.in-Ok.ensures.works c.handle.ensures.named
+    c.in-Ok.ensures.fits c.in-Ok.ensures.taken c.in-Ok.ensures.keeps
+    (λ t f. told_acts c.in-Ok.done.journal (λ b. b.1.items) c.acts_of.result (m.acts t event.Start) c.acts_of.ensures.some c.acts_of.ensures.none (c.in-Ok.ensures.written t f) (c.in-Ok.ensures.silent t f))
+    entries lengths c.handled.ensures.cut first) h)
+    c.handled.ensures.entries c.handled.ensures.lengths
 
 pub returns-in-Err-clause-follows : goal.returns-in-Err-clause-follows
 returns-in-Err-clause-follows g c = on_ok_weaker c.fail.result
@@ -22,8 +33,11 @@ returns-in-Err-clause-follows g c = on_ok_weaker c.fail.result
 
 pub returns-in-Err-clause-tells : goal.returns-in-Err-clause-tells
 returns-in-Err-clause-tells g c = on_ok_weaker c.fail.result
-    (λ said first h. let e = c.handle.ensures in fault_tells g.M.Machine.meaning first c.args.self.now _ c.fail.new.self c.in-Err.fault (λ is. (c.in-Err.ensures.refused is).0) (λ is. (c.in-Err.ensures.unchanged is).0) refl refl
-    (lives_on g.M.Machine.meaning first c.args.self.now.core c.handle.new.self e.named (λ from lived. handled g.M.Machine.meaning from c.args.self.now.core c.handle.new.self event.Start c.handle.result lived
-    e.fits e.taken e.works e.keeps e.leaves e.counted e.uncounted e.named e.failed e.refused e.refuses e.unchanged e.memory e.disk))
+    (λ said first h.
+    let m = g.M.Machine.meaning in
+    let e = c.handle.ensures in
+    fault_tells m first c.args.self.now _ c.fail.new.self c.in-Err.fault (λ is. (c.in-Err.ensures.refused is).0) (λ is. (c.in-Err.ensures.unchanged is).0) refl refl
+    (fault_recorded m first c.args.self.now.core c.handle.new.self c.args.self.now.recorder c.failed.new.self event.Start came.Start c.batch-batches.result c.handle.result refl c.batch-batches.ensures e.named
+    e.journal e.failed e.refuses c.failed.ensures.entries c.failed.ensures.lengths c.in-Err.fault c.in-Err.is c.in-Err.ensures.refused c.in-Err.ensures.unchanged c.in-Err.ensures.memory c.in-Err.ensures.disk c.failed.ensures.cut)
     c.fail.ensures.kept said h)
     c.fail.ensures.said

@@ -2,7 +2,7 @@ use Rattle.std.proofs.Common.{◌≡◌, ◌∙◌, subst, Err, IsErrOf}
 use Rattle.std.proofs.lemmas.Result.{err_from_is_err_and}
 use Rattle.gate_journal.specs.declared.fault.JournalFault.TheVariants.{Full}
 use Rattle.twin_journal.proofs.Fulls.{full_tested, test_full, not_full_tested}
-use Rattle.journal_store.proofs.Given.{moments, stands_after, suits_after, base_after_it, full_of, room_of, untouched_by}
+use Rattle.journal_store.proofs.Given.{moments, journal_moments, stands_after, suits_after, base_after_it, full_of, room_of, untouched_by}
 use Rattle.journal_store.proofs.Writing.{base_of_some}
 use Rattle.journal_store.proofs.store.Store.write.Goals as goal
 
@@ -50,3 +50,18 @@ returns-in-Ok-clause-untouched g c suits full = untouched_by _ _ c.args.acts.now
 
 pub returns-in-Err-clause-untouched : goal.returns-in-Err-clause-untouched
 returns-in-Err-clause-untouched g c suits full = untouched_by _ _ c.args.acts.now c.book.ensures.same c.args.self.now.journal _ _ c.append.ensures.untouched suits (test_full _ _ full)
+
+pub returns-in_err-number-clause-journal_moment : goal.returns-in_err-number-clause-journal_moment
+returns-in_err-number-clause-journal_moment g c stands =
+    let T = g.T.Twin in
+    journal_moments _ _ _ c.book.ensures.same T.moment T.left_since T.seen T.may_leave _ _ _ _ c.append.ensures.journal_moment stands
+
+pub returns-in-Ok-clause-journal_moment : goal.returns-in-Ok-clause-journal_moment
+returns-in-Ok-clause-journal_moment g c stands =
+    let T = g.T.Twin in
+    journal_moments _ _ _ c.book.ensures.same T.moment T.left_since T.seen T.may_leave _ _ _ _ c.append.ensures.journal_moment stands
+
+pub returns-in-Err-clause-journal_moment : goal.returns-in-Err-clause-journal_moment
+returns-in-Err-clause-journal_moment g c stands =
+    let T = g.T.Twin in
+    journal_moments _ _ _ c.book.ensures.same T.moment T.left_since T.seen T.may_leave _ _ _ _ c.append.ensures.journal_moment stands

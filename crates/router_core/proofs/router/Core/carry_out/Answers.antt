@@ -6,18 +6,19 @@ use Rattle.book_model.specs.declared.act.Act.{Act}
 use Rattle.book_model.specs.Book.{effects}
 use Rattle.twin_journal.specs.Journal.{batch_count}
 use Rattle.journal_store.specs.declared.store.Store.{Store}
-use Rattle.journal_store.specs.Store.{OpensTo, Stands, twin_of, journal_of, book_of}
+use Rattle.twin_journal.specs.Holding.{BeforeOrBehind}
+use Rattle.journal_store.specs.Store.{OpensTo, Stands, twin_of, journal_of, book_of, count_of}
 use Rattle.router_trace.specs.Trace.{step_of}
 use Rattle.router_state.specs.declared.tables.State.{State}
 use Rattle.router_state.specs.Tables.{TablesFit}
-use Rattle.router_reply.specs.Acts.{acts_of, booked}
+use Rattle.router_reply.specs.Acts.{acts_of, book_in, booked}
 use Rattle.router_reply.specs.Admitting.{row_in}
 use Rattle.router_reply.specs.Replies.{row_found}
 use Rattle.router_core.specs.Handling.{IsReady, Journals, BeforeOrAfterEvent, id_of, state_of, store_of}
 use Rattle.router_core.specs.Replies.{answered, handled}
 use Rattle.router_core.proofs.Books.{journals_after, journals_stored, fits_handled}
 use Rattle.router_core.proofs.Committing.{some_weaker}
-use Rattle.router_core.proofs.Moments.{known_moment}
+use Rattle.router_core.proofs.Moments.{known_journal, known_moment}
 use Rattle.router_core.proofs.router.Core.carry_out.Goals as goal
 
 pub returns-clause-fits : goal.returns-clause-fits
@@ -90,3 +91,35 @@ pub returns-in-Err-clause-no_other : goal.returns-in-Err-clause-no_other
 returns-in-Err-clause-no_other g c = λ other.
     c.write.ensures.no_other (λ is. other (ap (λ (f : CoreFault). Err f) (ap (fault_of c.in-Err.fault) (sym c.in-Err.is ∙ is))))
     ∙ ap (λ (s : Store _). g.T.Twin.failures (twin_of s)) (ap store_of c.prepare.ensures.rest)
+
+pub returns-clause-journal_moment : goal.returns-clause-journal_moment
+returns-clause-journal_moment g c = λ t f taken stands.
+    let core = c.args.self.now in
+    let e = c.args.event in
+    let acts = c.in-Ok.field-0.acts.items in
+    let same = ap store_of c.prepare.ensures.rest in
+    let run = subst (λ (s : Store _). Stands g.T.Twin.seen g.T.Twin.may_leave s
+    → LeavesOnly g.T.Twin.moment g.T.Twin.left_since (twin_of s) (twin_of (store_of c.write.new.self)) (BeforeOrBehind (book_of s) (count_of s) acts)) same c.write.ensures.journal_moment stands in
+    subst (λ (s : Store _). LeavesOnly g.T.Twin.moment g.T.Twin.left_since (twin_of (store_of core)) (twin_of s) (BeforeOrBehind (book_in t) (count_of (store_of core)) (acts_of t e))) (sym c.answer.ensures.store)
+    (known_journal g.T.Twin.seen g.T.Twin.may_leave g.T.Twin.moment g.T.Twin.left_since core (twin_of (store_of c.write.new.self)) t e acts f (c.in-Ok.ensures.acts t f taken) run)
+
+pub returns-in_default-answer-clause-journal_moment : goal.returns-in_default-answer-clause-journal_moment
+returns-in_default-answer-clause-journal_moment g c = λ t f taken stands.
+    let core = c.args.self.now in
+    let e = c.args.event in
+    let acts = c.in-Ok.field-0.acts.items in
+    let same = ap store_of c.prepare.ensures.rest in
+    let run = subst (λ (s : Store _). Stands g.T.Twin.seen g.T.Twin.may_leave s
+    → LeavesOnly g.T.Twin.moment g.T.Twin.left_since (twin_of s) (twin_of (store_of c.write.new.self)) (BeforeOrBehind (book_of s) (count_of s) acts)) same c.write.ensures.journal_moment stands in
+    subst (λ (s : Store _). LeavesOnly g.T.Twin.moment g.T.Twin.left_since (twin_of (store_of core)) (twin_of s) (BeforeOrBehind (book_in t) (count_of (store_of core)) (acts_of t e))) (sym c.answer.ensures.store)
+    (known_journal g.T.Twin.seen g.T.Twin.may_leave g.T.Twin.moment g.T.Twin.left_since core (twin_of (store_of c.write.new.self)) t e acts f (c.in-Ok.ensures.acts t f taken) run)
+
+pub returns-in-Err-clause-journal_moment : goal.returns-in-Err-clause-journal_moment
+returns-in-Err-clause-journal_moment g c = λ t f taken stands.
+    let core = c.args.self.now in
+    let e = c.args.event in
+    let acts = c.in-Ok.field-0.acts.items in
+    let same = ap store_of c.prepare.ensures.rest in
+    let run = subst (λ (s : Store _). Stands g.T.Twin.seen g.T.Twin.may_leave s
+    → LeavesOnly g.T.Twin.moment g.T.Twin.left_since (twin_of s) (twin_of (store_of c.write.new.self)) (BeforeOrBehind (book_of s) (count_of s) acts)) same c.write.ensures.journal_moment stands in
+    known_journal g.T.Twin.seen g.T.Twin.may_leave g.T.Twin.moment g.T.Twin.left_since core (twin_of (store_of c.write.new.self)) t e acts f (c.in-Ok.ensures.acts t f taken) run

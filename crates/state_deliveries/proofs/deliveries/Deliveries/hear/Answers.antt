@@ -38,6 +38,7 @@ returns-clause-fits c = λ t channel gives fit.
     record {
       bindings = fit.bindings;
       counters = fit.counters;
+      last_row = fit.last_row;
       store = store;
       sending = record { numbers = λ d o h. still_known hears t (at c.args.self.now.sending.numbers d o h) (sending t d o h) (low_sending t d o h) (fit.sending.numbers d o h) };
       next_ids = record { ids = λ d o. fit.next_ids.ids d o };

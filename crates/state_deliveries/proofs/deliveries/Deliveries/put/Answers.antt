@@ -18,6 +18,7 @@ returns-clause-fits c = λ t fit.
     record {
       bindings = fit.bindings;
       counters = fit.counters;
+      last_row = fit.last_row;
       store = store;
       sending = c.in_ok-put-3.ensures t (numbers_of _ (Out conn c.args.item.now ∷ t) store) fit.sending;
       names = c.in_ok-settle_put.ensures (Out conn c.args.item.now ∷ t) store.deliveries (c.in_ok-put-2.ensures t store fit.names);

@@ -11,7 +11,7 @@ use Rattle.state_deliveries.proofs.store.Store.bind.Goals as goal
 pub returns-clause-deliveries : goal.returns-clause-deliveries
 returns-clause-deliveries c = on_ok c.add.result
     (λ added before n. added n
-    ∙ ap (λ (v : Option Delivery). if c.args.number == n then Some (bound c.args.name c.args.binding) else v) (c.in_ok-remove_called.ensures.deliveries before n))
+    ∙ ap (λ (v : Option Delivery). if c.args.number == n then Some (bound c.args.name c.args.rank c.args.binding) else v) (c.in_ok-remove_called.ensures.deliveries before n))
     c.add.ensures.deliveries
 
 pub returns-clause-touches : goal.returns-clause-touches

@@ -1,6 +1,8 @@
 use Rattle.std.proofs.Common.{rules, refl, sym, subst, ◌∙◌}
+use Rattle.disk_core.specs.DiskLaws.{widened}
 use Rattle.twin_journal.specs.Room.{Suits}
 use Rattle.twin_journal.proofs.Keeping.{keeps_batch}
+use Rattle.twin_journal.proofs.Kept.{counted_both}
 use Rattle.twin_journal.proofs.journal.Journal.append.Goals as goal
 
 pub returns-in-Ok-clause-done : goal.returns-in-Ok-clause-done
@@ -11,7 +13,12 @@ returns-in-Ok-clause-done g c base start bs keeps leaves =
     keeps_batch T.seen T.may_leave _ base c.args.self.now.figures.last keeps.stamp start c.args.book.now bs c.args.acts.now x.due x.added (x.base ∙ rw keeps.base_is refl) suits leaves
 
 pub returns-in-Ok-clause-any_moment : goal.returns-in-Ok-clause-any_moment
-returns-in-Ok-clause-any_moment g c k = c.append_batch.ensures.any_moment k.keeps.stamp k.start k.batches k.keeps.at (sym k.leaves)
+returns-in-Ok-clause-any_moment g c k =
+    let T = g.T.Twin in
+    widened T.moment T.left_since _ _ _ _ (c.append_batch.ensures.any_moment k.keeps.stamp k.start k.batches k.keeps.at (sym k.leaves)) (λ d either. counted_both d _ _ _ either)
+
+pub returns-in-Ok-clause-journal_moment : goal.returns-in-Ok-clause-journal_moment
+returns-in-Ok-clause-journal_moment g c k = c.append_batch.ensures.any_moment k.keeps.stamp k.start k.batches k.keeps.at (sym k.leaves)
 
 pub returns-in-Err : goal.returns-in-Err
 returns-in-Err g c = record {
@@ -20,7 +27,8 @@ returns-in-Err g c = record {
   count = tt;
   base = tt;
   suits = tt;
-  any_moment = λ k. c.append_batch.ensures.any_moment k.keeps.stamp k.start k.batches k.keeps.at (sym k.leaves);
+  any_moment = λ k. widened g.T.Twin.moment g.T.Twin.left_since _ _ _ _ (c.append_batch.ensures.any_moment k.keeps.stamp k.start k.batches k.keeps.at (sym k.leaves)) (λ d either. counted_both d _ _ _ either);
+  journal_moment = λ k. c.append_batch.ensures.any_moment k.keeps.stamp k.start k.batches k.keeps.at (sym k.leaves);
   full = search rules;
   room = tt;
   room_at_fault = search rules;
