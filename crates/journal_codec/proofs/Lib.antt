@@ -3,6 +3,7 @@ pub mod Spelled
 pub mod Texts
 pub mod Tools
 pub mod Back
+pub mod Counted
 pub mod Forth
 pub mod Terminal
 pub mod Kept

@@ -18,7 +18,7 @@ unfolding in_8
 length-in_8 n = refl
 
 -- one more act of a list
-one_more : (acts : List Act) (i : ℕ) (item : Act) → i < length acts → item ≡ get_or acts i item → take (i + 1) acts ≡ take i acts ++ item ∷ []
+pub one_more : (acts : List Act) (i : ℕ) (item : Act) → i < length acts → item ≡ get_or acts i item → take (i + 1) acts ≡ take i acts ++ item ∷ []
 one_more acts i item l e = take_more acts i item l ∙ ap (λ a. take i acts ++ a ∷ []) (sym e)
 
 pub acts_more : (o out new : List ℕ) (acts : List Act) (i : ℕ) (item : Act) → i < length acts → item ≡ get_or acts i item

@@ -1,5 +1,5 @@
 //! Encoding acts.
-ghost use Rattle.std.specs.Prelude.{◌≡◌, ◌+◌, ◌++◌, [], ◌∷◌, ◌<◌, ◌≤◌, ◌^◌, drop, length, vec_len, OnOk, OnErr, IfOk};
+ghost use Rattle.std.specs.Prelude.{◌≡◌, ◌+◌, ◌++◌, [], ◌∷◌, ◌<◌, ◌≤◌, ◌^◌, drop, length, vec_len, sum, OnOk, OnErr, IfOk, IfSome};
 ghost use Rattle.std.specs.List.{flat_map};
 ghost use Rattle.amqp_model.specs.PerfSpelling.{state_spelling};
 ghost use Rattle.journal_codec.specs.Batches.{IsMake, IsAdmission, IsAboveZero, HasOutcome, HasTerminus, IsWritable, HaveOutcomes, HaveTermini, AreWritable};
@@ -190,15 +190,78 @@ pub fn block_of(alloc: Global, acts: &[Act]) -> Result<Vec<u8>, AllocError>
     Ok(block)
 }
 
-/// How many bytes the acts of a batch take in the file. A batch that can be appended has at most 4,194,304.
+/// How many bytes a terminus takes besides its texts: its kind, its number, its role, and the lengths of four texts.
+const MAKE_LEN: usize = 18;
+
+/// How many bytes an admission takes besides its tag and its payload.
+const ADMIT_LEN: usize = 34;
+
+/// How many bytes a decision takes besides its outcome.
+const DECIDE_LEN: usize = 11;
+
+/// How many bytes an act takes that is a kind and a number.
+const NUMBER_LEN: usize = 9;
+
+/// A sum; none where it is too large for its type.
+fn total(parts: &[usize]) -> Option<usize>
+    ensures { IfSome result (λ n. n ≡ sum parts.now) }
+{
+    let mut total = 0usize;
+    for part in parts {
+        total = total.checked_add(*part)?;
+    }
+    Some(total)
+}
+
+fn make_len(terminus: &Terminus) -> Option<usize>
+    ensures { IfSome result (λ n. n ≡ length (make_bytes terminus.now)) }
+{
+    let user = terminus.key.user.as_str().len();
+    let container = terminus.key.container.as_str().len();
+    let name = terminus.key.name.as_str().len();
+    let address = terminus.address.as_str().len();
+    total(&[MAKE_LEN, user, container, name, address])
+}
+
+fn admit_len(admission: &Admission) -> Option<usize>
+    ensures { IfSome result (λ n. n ≡ length (admit_bytes admission.now)) }
+{
+    total(&[ADMIT_LEN, admission.tag.len(), admission.payload.len()])
+}
+
+fn decide_len(alloc: Global, decision: &Decision) -> Result<usize, AllocError>
+    ensures { IfOk result (λ n. n ≡ length (decide_bytes decision.now.row.0 (state_spelling decision.now.outcome))) }
+{
+    let outcome = spelling_of(alloc, &decision.outcome)?;
+    total(&[DECIDE_LEN, outcome.len()]).ok_or(AllocError)
+}
+
+/// How many bytes an act takes.
+#[tactic(auto, unfolding(crate::specs::Format::act_bytes))]
+fn act_len(alloc: Global, act: &Act) -> Result<usize, AllocError>
+    ensures { IfOk result (λ n. n ≡ length (act_bytes act.now)) }
+{
+    match act {
+        Act::Make(terminus) => make_len(terminus).ok_or(AllocError),
+        Act::Admit(admission) => admit_len(admission).ok_or(AllocError),
+        Act::Decide(decision) => decide_len(alloc, decision),
+        Act::Forget(_) | Act::Drop(_) => Ok(NUMBER_LEN),
+    }
+}
+
+/// How many bytes the acts of a batch take in the file. A batch that can be appended has at most 4,194,304. No payload is
+/// encoded for it.
 ///
 /// # Errors
 ///
-/// `AllocError` where memory is refused, or an act can't be encoded.
+/// `AllocError` where memory is refused, or the number is too large for its type.
 pub fn acts_len(alloc: Global, acts: &[Act]) -> Result<usize, AllocError>
     ensures { IfOk result (λ len. len ≡ length (acts_bytes acts.now)) }
 {
-    let mut bytes = Vec::new(alloc);
-    put_acts(alloc, &mut bytes, acts)?;
-    Ok(bytes.len())
+    let mut len = 0usize;
+    for act in acts {
+        let more = act_len(alloc, act)?;
+        len = len.checked_add(more).ok_or(AllocError)?;
+    }
+    Ok(len)
 }

@@ -7,6 +7,7 @@ use Rattle.gate_journal.specs.Reserve.{journal_limit, reserve, growth, release, 
 use Rattle.twin_journal.specs.declared.figures.Figures.{Figures}
 use Rattle.twin_journal.specs.declared.figures.Needs.{Needs}
 use Rattle.twin_journal.specs.declared.room.Batch.{Batch}
+use Rattle.twin_journal.specs.declared.room.Cost.{Cost}
 use Rattle.journal_codec.specs.Format.{batch}
 use Rattle.twin_journal.specs.Format.{checkpoint_size}
 
@@ -43,12 +44,17 @@ pub record Suits (needs : Needs) (b : BookView) : Type 0 where
   pub reserve_is : needs.reserve ≡ reserve b
   pub within : checkpoint_size b ≤ needs.size
 
+-- this is what a batch of these acts costs
+pub record IsCost (cost : Cost) (acts : List Act) : Type 0 where
+  pub bytes_are : cost.bytes ≡ batch_bytes acts
+  pub growth_is : cost.growth ≡ sum_by growth acts
+  pub release_is : cost.release ≡ sum_by release acts
+
 -- a batch as it is written is that of these acts
 pub record Spells (b : Batch) (acts : List Act) : Type 0 where
   pub block : b.block.items ≡ batch acts ++ 0 ∷ []
   pub len : vec_len b.block ≡ batch_bytes acts
-  pub growth_is : b.growth ≡ sum_by growth acts
-  pub release_is : b.release ≡ sum_by release acts
+  pub costs : IsCost b.cost acts
 
 -- A checkpoint is due before a batch: where the batches behind the last one have 1,048,576 bytes or more, and no fewer
 -- than that has; or where the batch, and what the book after it needs, go beyond the limit.

@@ -14,9 +14,9 @@ ghost use Rattle.twin_journal.specs.Room.{IsFull, room};
 use crate::added::append_batch;
 use crate::figures::{Figures, Needs};
 use crate::opened::scan;
-use crate::plan::plan_batch;
+use crate::plan::needs_after;
 use crate::renew::renew;
-use crate::room::{JOURNAL_LIMIT, needs_of};
+use crate::room::{JOURNAL_LIMIT, cost_of, needs_of};
 use crate::whole::read_active;
 use book_core::Book;
 use book_model::Act;
@@ -195,16 +195,17 @@ impl<T: Twin> Journal<T> {
     }
 
     /// Whether `append` answers `Full` to a batch: it costs more than nothing, and more than the room. This is told of
-    /// acts that apply to the journal's book.
+    /// acts that apply to the journal's book. The batch isn't encoded for it.
     ///
     /// # Errors
     ///
-    /// `AllocError` where memory was refused, or an act can't be encoded.
+    /// `AllocError` where memory was refused, or a number is too large for its type.
     pub fn is_full(&self, book: &Book, acts: &[Act]) -> Result<bool, AllocError>
         ensures { IfOk result (λ full. first_fault book.now acts.now ≡ None → SuitsBook self.now book.now → IsTrue full ↔ IsFull book.now acts.now) }
     {
-        match plan_batch(self.alloc, self.figures, self.needs, book, acts) {
-            Ok(_plan) => Ok(false),
+        let cost = cost_of(self.alloc, acts)?;
+        match needs_after(self.alloc, self.needs, book, cost) {
+            Ok(_) => Ok(false),
             Err(JournalFault::Full) => Ok(true),
             Err(_) => Err(AllocError),
         }

@@ -7,10 +7,10 @@ ghost use Rattle.journal_codec.specs.Batches.{HaveOutcomes, HaveTermini, AreWrit
 ghost use Rattle.gate_journal.specs.Ordered.{IsOrdered};
 ghost use Rattle.gate_journal.specs.Reserve.{reserve};
 ghost use Rattle.twin_journal.specs.Format.{checkpoint_size};
-ghost use Rattle.twin_journal.specs.Room.{IsFull, Suits, Spells, is_due};
+ghost use Rattle.twin_journal.specs.Room.{IsCost, IsFull, Suits, Spells, is_due};
 
 use crate::figures::{Figures, Needs};
-use crate::room::{Batch, batch_of, is_due, is_full};
+use crate::room::{Batch, Cost, batch_of, is_due, is_full};
 use book_core::Book;
 use book_model::Act;
 use gate_journal::JournalFault;
@@ -25,6 +25,35 @@ pub(crate) struct Plan {
     pub(crate) after: Needs,
     /// Whether a checkpoint is to be made before it.
     pub(crate) due: bool,
+}
+
+/// What the book needs after a batch with this cost, if there is room for it.
+///
+/// # Errors
+///
+/// `Full`, exactly if the batch costs more than nothing and more than the room; `Memory`.
+pub(crate) fn needs_after(
+    alloc: Global,
+    needs: Needs,
+    book: &Book,
+    cost: Cost,
+) -> Result<Needs, JournalFault>
+    ensures suits { IfOk result (λ after. (acts : List AnAct) → IsCost cost acts → first_fault book.now acts ≡ None → Suits needs book.now
+        → Suits after (effects book.now acts)) }
+    ensures full { IsErrOf result JournalFault.Full → (acts : List AnAct) → IsCost cost acts → first_fault book.now acts ≡ None
+        → Suits needs book.now → IsFull book.now acts }
+    ensures room { OnOk result ((acts : List AnAct) → IsCost cost acts → first_fault book.now acts ≡ None → Suits needs book.now
+        → IsFull book.now acts → ⊥) }
+    ensures fault { IfErr result (λ f. (f ≡ JournalFault.Full) ⊎ (f ≡ JournalFault.Memory)) }
+{
+    book.is_sound();
+    let Some(after) = needs.after(cost) else {
+        return Err(JournalFault::Memory);
+    };
+    if is_full(alloc, needs, after, cost.bytes, book)? {
+        return Err(JournalFault::Full);
+    }
+    Ok(after)
 }
 
 /// Plans an append to a journal with these figures.
@@ -47,16 +76,9 @@ pub(crate) fn plan_batch(
     ensures room { OnOk result (first_fault book.now acts.now ≡ None → Suits needs book.now → IsFull book.now acts.now → ⊥) }
     ensures fault { IfErr result (λ f. (f ≡ JournalFault.Full) ⊎ (f ≡ JournalFault.Memory)) }
 {
-    book.is_sound();
     let batch = batch_of(alloc, acts)?;
-    let Some(after) = needs.after(&batch) else {
-        return Err(JournalFault::Memory);
-    };
-    let len = batch.block.len() as u64;
-    if is_full(alloc, needs, after, len, book)? {
-        return Err(JournalFault::Full);
-    }
-    let Some(due) = is_due(figures, len, after.reserve) else {
+    let after = needs_after(alloc, needs, book, batch.cost)?;
+    let Some(due) = is_due(figures, batch.cost.bytes, after.reserve) else {
         return Err(JournalFault::Memory);
     };
     Ok(Plan { batch, after, due })
@@ -75,7 +97,7 @@ impl Plan {
         }
         Some(Needs {
             reserve: self.after.reserve,
-            size: (size as u64).checked_add(self.batch.block.len() as u64)?,
+            size: (size as u64).checked_add(self.batch.cost.bytes)?,
         })
     }
 }

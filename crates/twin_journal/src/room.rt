@@ -7,7 +7,7 @@ ghost use Rattle.journal_codec.specs.Format.{batch};
 ghost use Rattle.gate_journal.specs.Ordered.{IsOrdered};
 ghost use Rattle.gate_journal.specs.Reserve.{growth, release, batch_bytes};
 ghost use Rattle.twin_journal.specs.Format.{checkpoint_size};
-ghost use Rattle.twin_journal.specs.Room.{IsFull, Suits, Spells, is_due};
+ghost use Rattle.twin_journal.specs.Room.{IsCost, IsFull, Suits, Spells, is_due};
 
 use crate::figures::{Figures, Needs};
 use book_core::Book;
@@ -46,15 +46,52 @@ pub(crate) fn needs_of(alloc: Global, book: &Book) -> Result<Needs, AllocError>
     Ok(Needs { reserve, size })
 }
 
+/// What a batch costs.
+#[derive(Clone, Copy)]
+pub(crate) struct Cost {
+    /// How many bytes it has, with the gate after it.
+    pub(crate) bytes: u64,
+    /// By how much it makes the reserve larger.
+    pub(crate) growth: u64,
+    /// By how much it makes the reserve smaller.
+    pub(crate) release: u64,
+}
+
 /// A batch as it is written.
 #[derive(Drop)]
 pub(crate) struct Batch {
     /// Its bytes, and a closed gate.
     pub(crate) block: Vec<u8>,
-    /// By how much it makes the reserve larger.
-    pub(crate) growth: u64,
-    /// By how much it makes the reserve smaller.
-    pub(crate) release: u64,
+    /// What it costs.
+    pub(crate) cost: Cost,
+}
+
+/// What a batch of acts costs that has so many bytes, with the gate after it.
+fn cost_with(bytes: u64, acts: &[Act]) -> Result<Cost, AllocError>
+    ensures { IfOk result (λ cost. bytes ≡ batch_bytes acts.now → IsCost cost acts.now) }
+{
+    let Some(growth) = growth_by(acts) else {
+        return Err(AllocError);
+    };
+    let Some(release) = release_by(acts) else {
+        return Err(AllocError);
+    };
+    Ok(Cost {
+        bytes,
+        growth,
+        release,
+    })
+}
+
+/// What a batch of acts costs. No payload is encoded for it.
+pub(crate) fn cost_of(alloc: Global, acts: &[Act]) -> Result<Cost, AllocError>
+    ensures { IfOk result (λ cost. IsCost cost acts.now) }
+{
+    let len = acts_len(alloc, acts)?;
+    match (len as u64).checked_add(5) {
+        Some(bytes) => cost_with(bytes, acts),
+        None => Err(AllocError),
+    }
 }
 
 /// A batch of acts.
@@ -63,31 +100,22 @@ pub(crate) fn batch_of(alloc: Global, acts: &[Act]) -> Result<Batch, AllocError>
     ensures writable { OnOk result (HaveOutcomes acts.now → HaveTermini acts.now → AreWritable acts.now) }
 {
     let block = block_of(alloc, acts)?;
-    let Some(growth) = growth_by(acts) else {
-        return Err(AllocError);
-    };
-    let Some(release) = release_by(acts) else {
-        return Err(AllocError);
-    };
-    Ok(Batch {
-        block,
-        growth,
-        release,
-    })
+    let cost = cost_with(block.len() as u64, acts)?;
+    Ok(Batch { block, cost })
 }
 
 impl Needs {
-    /// What the book needs after a batch; none where a number is too large for its type.
-    pub(crate) fn after(self, batch: &Batch) -> Option<Needs>
-        ensures { IfSome result (λ new. (b : BookView) (acts : List AnAct) → Spells batch.now acts → Suits self b → IsOrdered b
+    /// What the book needs after a batch with this cost; none where a number is too large for its type.
+    pub(crate) fn after(self, cost: Cost) -> Option<Needs>
+        ensures { IfSome result (λ new. (b : BookView) (acts : List AnAct) → IsCost cost acts → Suits self b → IsOrdered b
             → first_fault b acts ≡ None → Suits new (effects b acts)) }
     {
         Some(Needs {
             reserve: self
                 .reserve
-                .checked_add(batch.growth)?
-                .saturating_sub(batch.release),
-            size: self.size.checked_add(batch.block.len() as u64)?,
+                .checked_add(cost.growth)?
+                .saturating_sub(cost.release),
+            size: self.size.checked_add(cost.bytes)?,
         })
     }
 }
