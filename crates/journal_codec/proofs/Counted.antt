@@ -1,8 +1,10 @@
 -- How many bytes an act takes.
 use Rattle.std.proofs.Common.{◌≡◌, ℕ, ◌+◌, List, [], ◌∷◌, ◌++◌, length, take, get_or, ap, ◌∙◌, ◌<◌, sym, arith, length-append}
 use Rattle.std.proofs.lemmas.List.{flat_map_more}
-use Rattle.amqp_model.specs.PerfSpelling.{state_spelling}
 use Rattle.book_model.specs.declared.act.Act.{Act}
+use Rattle.book_model.specs.declared.act.Act.TheVariants.{Forget, Drop}
+use Rattle.book_model.specs.declared.row.RowNumber.{RowNumber}
+use Rattle.book_model.specs.declared.terminus.TerminusNumber.{TerminusNumber}
 use Rattle.book_model.specs.declared.act.Admission.{Admission}
 use Rattle.book_model.specs.declared.terminus.Terminus.{Terminus}
 use Rattle.journal_codec.specs.Format.{in_2, in_4, in_8, text_bytes, role_byte, or_zero, make_bytes, admit_bytes, decide_bytes, act_bytes, acts_bytes}
@@ -52,8 +54,16 @@ pub decide_counted : (row : ℕ) (outcome : List ℕ) → length (decide_bytes r
 decide_counted row outcome =
     omega (arith, counted_4 (3 ∷ []) (in_8 row) (in_2 (length outcome)) outcome, length-in_8 row, length-in_2 (length outcome))
 
-pub number_counted : (kind number : ℕ) → length ((kind ∷ []) ++ in_8 number) ≡ 9
+number_counted : (kind number : ℕ) → length ((kind ∷ []) ++ in_8 number) ≡ 9
 number_counted kind number = omega (arith, length-append (kind ∷ []) (in_8 number), length-in_8 number)
+
+pub forget_counted : (row : RowNumber) → 9 ≡ length (act_bytes (Forget row))
+unfolding act_bytes
+forget_counted row = sym (number_counted 4 row.0)
+
+pub drop_counted : (terminus : TerminusNumber) → 9 ≡ length (act_bytes (Drop terminus))
+unfolding act_bytes
+drop_counted terminus = sym (number_counted 5 terminus.0)
 
 -- one act more of a list
 pub counted_more : (acts : List Act) (i n more len : ℕ) (act : Act) → i < length acts → act ≡ get_or acts i act

@@ -233,7 +233,10 @@ fn decide_len(alloc: Global, decision: &Decision) -> Result<usize, AllocError>
     ensures { IfOk result (λ n. n ≡ length (decide_bytes decision.now.row.0 (state_spelling decision.now.outcome))) }
 {
     let outcome = spelling_of(alloc, &decision.outcome)?;
-    total(&[DECIDE_LEN, outcome.len()]).ok_or(AllocError)
+    match total(&[DECIDE_LEN, outcome.len()]) {
+        Some(len) => Ok(len),
+        None => Err(AllocError),
+    }
 }
 
 /// How many bytes an act takes.
@@ -245,7 +248,8 @@ fn act_len(alloc: Global, act: &Act) -> Result<usize, AllocError>
         Act::Make(terminus) => make_len(terminus).ok_or(AllocError),
         Act::Admit(admission) => admit_len(admission).ok_or(AllocError),
         Act::Decide(decision) => decide_len(alloc, decision),
-        Act::Forget(_) | Act::Drop(_) => Ok(NUMBER_LEN),
+        Act::Forget(_) => Ok(NUMBER_LEN),
+        Act::Drop(_) => Ok(NUMBER_LEN),
     }
 }
 
@@ -261,7 +265,10 @@ pub fn acts_len(alloc: Global, acts: &[Act]) -> Result<usize, AllocError>
     let mut len = 0usize;
     for act in acts {
         let more = act_len(alloc, act)?;
-        len = len.checked_add(more).ok_or(AllocError)?;
+        let Some(sum) = len.checked_add(more) else {
+            return Err(AllocError);
+        };
+        len = sum;
     }
     Ok(len)
 }
