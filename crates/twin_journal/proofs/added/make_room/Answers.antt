@@ -1,9 +1,9 @@
-use Rattle.std.proofs.Common.{◌≡◌, ◌⊎◌, [], subst, sym}
+use Rattle.std.proofs.Common.{◌⊎◌, []}
 use Rattle.disk_core.specs.DiskLaws.{started, widened}
 use Rattle.disk_core.specs.Twin.{Contents}
-use Rattle.twin_journal.specs.Holding.{TwinHolds, HoldsAt, HoldsOn}
+use Rattle.twin_journal.specs.Holding.{TwinHolds, HoldsAt}
 use Rattle.twin_journal.proofs.Appended.{if_ok}
-use Rattle.twin_journal.proofs.Kept.{holds_at, holds_either}
+use Rattle.twin_journal.proofs.Kept.{left_at, holds_either}
 use Rattle.twin_journal.proofs.added.make_room.Goals as goal
 
 pub returns-clause-renewed : goal.returns-clause-renewed
@@ -23,13 +23,4 @@ returns-then-not-due-clause-any_moment g c stamp start bs at leaves =
     let figures = c.args.figures in
     let book = c.args.book.now in
     started T.moment T.left_since c.args.twin.now (λ (d : Contents). HoldsAt d book figures.last)
-    (λ d left.
-    let same : d ≡ T.seen c.args.twin.now = at.durable d (g.met.T.Twin.only_now c.args.twin.now d left) in
-    let holds : TwinHolds d figures.base start bs = record {
-      side = figures.side;
-      epoch = figures.epoch;
-      size = figures.size;
-      stamp = stamp;
-      on = subst (λ (e : Contents). HoldsOn figures.side e figures.epoch figures.base figures.size stamp start bs) (sym same) at.fits.on;
-    } in
-    holds_at d figures.base figures.last start book bs holds leaves at.fits.last)
+    (λ d left. left_at d figures (T.seen c.args.twin.now) (T.may_leave c.args.twin.now) stamp start book bs at leaves (g.met.T.Twin.only_now c.args.twin.now d left))

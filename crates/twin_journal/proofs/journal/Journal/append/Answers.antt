@@ -1,8 +1,9 @@
-use Rattle.std.proofs.Common.{rules, refl, sym, subst, ◌∙◌}
-use Rattle.disk_core.specs.DiskLaws.{widened}
+use Rattle.std.proofs.Common.{rules, inl, refl, sym, subst, ◌∙◌}
+use Rattle.disk_core.specs.DiskLaws.{started, widened}
+use Rattle.twin_journal.specs.Holding.{BeforeOrBehind}
 use Rattle.twin_journal.specs.Room.{Suits}
 use Rattle.twin_journal.proofs.Keeping.{keeps_batch}
-use Rattle.twin_journal.proofs.Kept.{counted_both}
+use Rattle.twin_journal.proofs.Kept.{counted_both, left_at}
 use Rattle.twin_journal.proofs.journal.Journal.append.Goals as goal
 
 pub returns-in-Ok-clause-done : goal.returns-in-Ok-clause-done
@@ -43,3 +44,15 @@ returns-in-Err g c = record {
   fails_at_memory = λ e. refl;
   works = tt;
 }
+
+pub returns-then-self-clause-journal_moment : goal.returns-then-self-clause-journal_moment
+returns-then-self-clause-journal_moment g c k =
+    let T = g.T.Twin in
+    let twin = c.args.self.now.twin in
+    let figures = c.args.self.now.figures in
+    let book = c.args.book.now in
+    started T.moment T.left_since twin (BeforeOrBehind book figures.last c.args.acts.now)
+    (λ d left. inl (left_at d figures (T.seen twin) (T.may_leave twin) k.keeps.stamp k.start book k.batches k.keeps.at (sym k.leaves) (g.met.T.Twin.only_now twin d left)))
+
+pub returns-in-Err-Full-clause-journal_moment : goal.returns-in-Err-Full-clause-journal_moment
+returns-in-Err-Full-clause-journal_moment g c k = c.append_batch.ensures.any_moment k.keeps.stamp k.start k.batches k.keeps.at (sym k.leaves)
