@@ -22,6 +22,14 @@ returns-in-Ok-clause-any_moment g c stands =
     (λ (acts : List Act). LeavesOnly T.moment T.left_since (twin_of old) (twin_of c.write.new.self) (λ x. OpensTo x (book_of old) ⊎ OpensTo x (effects (book_of old) acts)))
     c.deref.ensures.value (c.write.ensures.any_moment stands)
 
+pub returns-in-Err-clause-any_moment : goal.returns-in-Err-clause-any_moment
+returns-in-Err-clause-any_moment g c stands =
+    let T = g.T.Twin in
+    let old = c.args.self.now in
+    subst
+    (λ (acts : List Act). LeavesOnly T.moment T.left_since (twin_of old) (twin_of c.write.new.self) (λ x. OpensTo x (book_of old) ⊎ OpensTo x (effects (book_of old) acts)))
+    c.deref.ensures.value (c.write.ensures.any_moment stands)
+
 pub returns-in-Ok-clause-journal_moment : goal.returns-in-Ok-clause-journal_moment
 returns-in-Ok-clause-journal_moment g c stands =
     let T = g.T.Twin in
