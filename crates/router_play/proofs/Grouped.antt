@@ -1,6 +1,6 @@
 -- The last batch of a journal's list.
 use Rattle.std.proofs.Common.{◌≡◌, ◌≢◌, ◌∙◌, sym, ap, refl, subst, ℕ, ◌+◌, ◌≤◌, Bool, true, false, List, [], ◌∷◌, ◌++◌, length, append_assoc, append-nil, arith}
-use Rattle.std.specs.Prelude.{◌==◌, nat_lt, if◌then◌else◌, Option, Some, None}
+use Rattle.std.specs.Prelude.{◌==◌, nat_lt, if◌then◌else◌, Option, Some, None, Result, Ok, Err, OnOk}
 use Rattle.disk_core.specs.Twin.{Contents}
 use Rattle.std.proofs.lemmas.Bool.{eqb-true, eq-eqb}
 use Rattle.book_model.specs.declared.act.Act.{Act}
@@ -17,7 +17,7 @@ use Rattle.core_machine.specs.Meaning.{Kept}
 use Rattle.core_player.specs.declared.entry.Entry.TheVariants as shown
 use Rattle.core_player.specs.declared.recorder.Cut.{Cut}
 use Rattle.router_core.specs.Machine.{HoldsKept}
-use Rattle.router_play.specs.Entries.{survivor}
+use Rattle.router_play.specs.Entries.{survivor, Survives}
 use Rattle.router_play.specs.Grouping.{is_at, grouped, Group}
 
 abbrev group_of : ℕ → List Act → Group
@@ -84,11 +84,29 @@ last_batch start n place bs entries valid is =
     ap (grouped n None []) is ∙ all_batches start n None [] place bs valid (λ p far. refl) ∙ ap (group_of (n + length bs)) (is_last bs)
 
 -- what a walk over all of them says of the last one
-pub group_told : (base number : ℕ) (gate : Option ℕ) (acts : List Act) (listed rest : List Entry) → rest ≡ [] → grouped number gate acts rest ≡ grouped base None [] listed
+pub group_told : (base number : ℕ) (gate : Option ℕ) (acts : List Act) (listed rest : List Entry) → length rest ≡ 0 → grouped number gate acts rest ≡ grouped base None [] listed
     → (place : ℕ) (start : BookView) (bs : List (List Act)) → AllApply start bs → listed ≡ entries_from place bs → (number ≡ base + length bs) × (acts ≡ last_of bs)
-group_told base number gate acts listed rest none walked place start bs valid is =
-    let all : group_of number acts ≡ group_of (base + length bs) (last_of bs) =
-    sym (ap (grouped number gate acts) none) ∙ walked ∙ last_batch start base place bs listed valid is in (ap (λ (g : Group). g.number) all, ap (λ (g : Group). g.acts) all)
+group_told base number gate acts listed (x ∷ rest) none walked place start bs valid is = absurd (omega (arith, none))
+group_told base number gate acts listed [] none walked place start bs valid is =
+    let all : group_of number acts ≡ group_of (base + length bs) (last_of bs) = walked ∙ last_batch start base place bs listed valid is in
+    (ap (λ (g : Group). g.number) all, ap (λ (g : Group). g.acts) all)
+
+-- one act more: of the same batch, or the first of the next one
+pub same_batch : {A E : Type 0} (r : Result A E) (n : ℕ) (gate : Option ℕ) (done new : List Act) (x : Entry) → is_at gate x.place ≡ true → OnOk r (new ≡ done ++ x.act ∷ [])
+    → OnOk r ((others : List Entry) → grouped n gate new others ≡ grouped n gate done (x ∷ others))
+same_batch (Err e) n gate done new x at added = tt
+same_batch (Ok v) n gate done new x at added = λ others.
+    ap (λ (ys : List Act). grouped n gate ys others) added
+    ∙ sym (ap (λ (b : Bool). if b then grouped n gate (done ++ x.act ∷ []) others else grouped (n + 1) (Some x.place) (x.act ∷ []) others) at)
+
+pub next_batch : {A E : Type 0} (r : Result A E) (n number : ℕ) (gate place : Option ℕ) (done begun new : List Act) (x : Entry) → is_at gate x.place ≡ false → number ≡ n + 1 → place ≡ Some x.place → begun ≡ []
+    → OnOk r (new ≡ begun ++ x.act ∷ []) → OnOk r ((others : List Entry) → grouped number place new others ≡ grouped n gate done (x ∷ others))
+next_batch (Err e) n number gate place done begun new x at counted there none added = tt
+next_batch (Ok v) n number gate place done begun new x at counted there none added = λ others.
+    ap (λ (k : ℕ). grouped k place new others) counted
+    ∙ ap (λ (p : Option ℕ). grouped (n + 1) p new others) there
+    ∙ ap (λ (ys : List Act). grouped (n + 1) (Some x.place) ys others) (added ∙ ap (λ (ys : List Act). ys ++ x.act ∷ []) none)
+    ∙ sym (ap (λ (b : Bool). if b then grouped n gate (done ++ x.act ∷ []) others else grouped (n + 1) (Some x.place) (x.act ∷ []) others) at)
 
 -- a journal's list tells what it keeps
 pub listed_keeps : (contents : Contents) (checkpoint : Checkpoint) (entries : List Entry) (place : ℕ) (book : BookView) (number : ℕ) (acts : List Act) → IsListed contents checkpoint entries place book
@@ -109,3 +127,10 @@ listed_keeps contents checkpoint entries place book number acts is told =
 -- whether the event survived
 pub survives_if : (cut : Cut) (k : Kept) (b : Bool) → nat_lt cut.batches k.batches ≡ b → survivor cut k ≡ (if b then shown.Event cut.came k.last ∷ [] else [])
 survives_if cut k b is = ap (λ (x : Bool). if x then shown.Event cut.came k.last ∷ [] else []) is
+
+pub left_over : (contents : Contents) (checkpoint : Checkpoint) (entries : List Entry) (place : ℕ) (book : BookView) (number : ℕ) (acts : List Act) → IsListed contents checkpoint entries place book
+    → ((at : ℕ) (start : BookView) (bs : List (List Act)) → AllApply start bs → entries ≡ entries_from at bs → (number ≡ checkpoint.base + length bs) × (acts ≡ last_of bs))
+    → (cut : Cut) (b : Bool) → nat_lt cut.batches number ≡ b → Survives (Some cut) contents (if b then shown.Event cut.came acts ∷ [] else [])
+left_over contents checkpoint entries place book number acts is told cut b later =
+    let k : Kept = record { book = book; batches = number; last = acts } in
+    (k, listed_keeps contents checkpoint entries place book number acts is told, sym (survives_if cut k b later))

@@ -61,16 +61,12 @@ fn add_survivor<T: Twin>(
 {
     let listing = list(alloc, twin)?;
     let last = last_of(alloc, listing.checkpoint.base, listing.entries)?;
-    if cut.batches < last.number {
-        let acts = Acts::new(last.acts);
-        add(
-            entries,
-            Entry::Event {
-                came: cut.came,
-                acts,
-            },
-        )?;
+    let Cut { came, batches } = cut;
+    if last.number <= batches {
+        return Ok(());
     }
+    let acts = Acts::new(last.acts);
+    add(entries, Entry::Event { came, acts })?;
     Ok(())
 }
 
