@@ -29,7 +29,7 @@ use Rattle.router_trace.specs.declared.handle.Attachment.{Attachment}
 use Rattle.router_trace.specs.declared.event.Event.TheVariants as event
 use Rattle.router_trace.specs.Connection.{Connection, conn, standing, found, live, due, live_of}
 use Rattle.router_trace.specs.Frames.{closing, told_of}
-use Rattle.router_trace.specs.Deliveries.{Delivery, has_row, delivery, rank_at}
+use Rattle.router_trace.specs.Deliveries.{Delivery, bindings, has_row, delivery, rank_at}
 use Rattle.router_trace.specs.DeliveryFrames.{outcome_item}
 use Rattle.router_trace.specs.Settling.{unbound}
 use Rattle.router_trace.specs.Numbers.{Placed, first_placed, first_ranked, no_rank}
