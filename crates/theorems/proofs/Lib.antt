@@ -67,6 +67,10 @@ pub mod Rowing
 pub mod Attaching
 pub mod Answering
 pub mod KeptFirst
+-- What the journal has of an outcome.
+pub mod Encoded
+pub mod EncodedStates
+pub mod AsTold
 -- Who accepted a row.
 pub mod Among
 pub mod Accepting

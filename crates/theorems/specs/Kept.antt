@@ -23,9 +23,9 @@ use Rattle.theorems.specs.Each.{EachOut}
 use Rattle.theorems.specs.Carried.{HasSmallNumbers}
 use Rattle.theorems.specs.Told.{TellsOutcome}
 
--- A row of the book that is decided, with the outcome that is told: as the journal keeps that (`journal_outcome`: itself, if it is within the limits of
--- its types); or the row was decided before it was bound, and its outcome is told as dispositions have it (`kept_outcome`). Of an outcome that a router
--- has decided both say the same.
+-- A row of the book that is decided, with the outcome that is told: as the journal keeps that (`journal_outcome`, which is the same if a peer can send
+-- the outcome: `OutcomesAreKeptAsTold`); or the row was decided before it was bound, and its outcome is told as dispositions have it (`kept_outcome`). Of
+-- an outcome that a router has decided both say the same.
 abbrev pub IsDecidedAs : Option ARow → Option DeliveryState → Type 0
 IsDecidedAs None told = ⊥
 IsDecidedAs (Some r) told = (r.outcome ≡ option_map journal_outcome told) ⊎ (told ≡ option_map kept_outcome r.outcome)

@@ -16,6 +16,7 @@ pub mod Came
 pub mod Decided
 pub mod Told
 pub mod Kept
+pub mod AsTold
 pub mod OwnRow
 pub mod Accepting
 pub mod Mapped

@@ -3,12 +3,14 @@
 -- A trace is what happened since the opening (docs/trace.md).
 -- `Always`: in every trace of the router, and over every list of runs; `InOneRun`: in one. `Each`: over the trace so far.
 use Rattle.std.specs.Prelude.{ℕ, List}
+use Rattle.amqp_model.specs.declared.state.DeliveryState.{DeliveryState}
 use Rattle.disk_core.specs.Twin.{Contents}
 use Rattle.router_trace.specs.declared.event.Event.{Event}
 use Rattle.router_trace.specs.Trace.{Beginning}
 use Rattle.router_core.specs.declared.driving.Driven.{Driven}
 use Rattle.router_core.specs.declared.router.Core.{Core}
 use Rattle.theorems.specs.Alike.{AnsweredAlone, SameWheneverTaken, SameHoweverCut}
+use Rattle.theorems.specs.AsTold.{IsSendable, IsKeptAsTold}
 use Rattle.theorems.specs.Always.{Always, AlwaysFrom, AlwaysInTurn, AlwaysOnSound, InOneRun, InScripts, OnSound}
 use Rattle.theorems.specs.Credit.{WithinCredit}
 use Rattle.theorems.specs.Durable.{IsKeptFirst, RowIsAdmitted, EachRowIsBoundOnce, EachNewRowIsBound, OutcomeIsKept, EachOutcomeIsKept, EachRowIsDecidedOnce, RowsAreDecidedOnce, RowsAreAcceptedByConsumers, AcceptedIsTrue, MapIsOfBook, MapIsTrue, GoesToOwnConsumer, NumbersAreGivenOnce, TellsItsOwnRow}
@@ -64,6 +66,10 @@ abbrev pub DurableOutcomesAreKeptFirst : Type 0
 DurableOutcomesAreKeptFirst =
     AlwaysInTurn (OnSound EachOutcomeIsKept) × AlwaysFrom (OnSound EachRowIsDecidedOnce)
     × InSmallLives (EachOut OutcomeIsKept) × InLives RowsAreDecidedOnce × InSmallLives (EachOut TellsItsOwnRow)
+
+-- What the journal has of an outcome that a peer can send is the very state that the producer is told.
+abbrev pub OutcomesAreKeptAsTold : Type 0
+OutcomesAreKeptAsTold = (s : DeliveryState) → IsSendable s → IsKeptAsTold s
 
 -- What the book has as accepted its consumer accepted, in this run or an earlier one; no producer is told accepted
 -- before, by a disposition or by the map of an attach, which has what the book has.

@@ -9,6 +9,7 @@ ghost use Rattle.theorems.specs.Theorem.{TheHeadline, AStopLeavesAPrefix, ARoute
 ghost use Rattle.theorems.specs.Theorem.{NoDeliveryStartsBeyondCredit};
 ghost use Rattle.theorems.specs.Theorem.{ADeliveryHasOneConsumer, FramesCarryWhatWasBound, MessagesAreBoundOnce};
 ghost use Rattle.theorems.specs.Theorem.{OutcomesAreAsGiven, OutcomesAreToldOnce, DurableOutcomesAreKeptFirst};
+ghost use Rattle.theorems.specs.Theorem.{OutcomesAreKeptAsTold};
 ghost use Rattle.theorems.specs.Theorem.{AcceptedIsToldTruly, RowsStayWithConsumers, TheLockKeepsThem};
 ghost use Rattle.theorems.specs.Theorem.{DurableLinksAreKeptFirst, DurableMessagesAreKeptFirst};
 ghost use Rattle.theorems.specs.Theorem.{ConnectionsKeepOrder, WindowsAreKept};
@@ -125,6 +126,13 @@ pub fn outcomes_are_told_once()
 /// 3, section 3.4). Lists of events have such traces.
 pub fn durable_outcomes_are_kept_first()
     ensures { DurableOutcomesAreKeptFirst }
+{}
+
+/// What the journal has of an outcome is the very state that its producer is told, for each outcome that a peer can
+/// send: a terminal state that a disposition has, or an entry of an attach's unsettled map, where bytes encode that
+/// frame's body (AMQP 1.0 part 2, sections 2.7.3 and 2.7.6, and part 3, section 3.4).
+pub fn outcomes_are_kept_as_told()
+    ensures { OutcomesAreKeptAsTold }
 {}
 
 /// Over every list of runs, each ended by a stop anywhere: a row of the book that is decided as accepted was accepted by its consumer, with a

@@ -1,0 +1,5 @@
+use Rattle.theorems.proofs.AsTold.{sendable_kept}
+use Rattle.theorems.proofs.theorems.outcomes_are_kept_as_told.Goals as goal
+
+pub returns : goal.returns
+returns c = sendable_kept
