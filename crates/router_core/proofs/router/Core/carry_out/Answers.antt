@@ -18,7 +18,7 @@ use Rattle.router_core.specs.Handling.{IsReady, Journals, BeforeOrAfterEvent, id
 use Rattle.router_core.specs.Replies.{answered, handled}
 use Rattle.router_core.proofs.Books.{journals_after, journals_stored, fits_handled}
 use Rattle.router_core.proofs.Committing.{some_weaker}
-use Rattle.router_core.proofs.Moments.{known_journal, known_moment}
+use Rattle.router_core.proofs.Moments.{known_journal, known_moment, still_journal}
 use Rattle.router_core.proofs.router.Core.carry_out.Goals as goal
 
 pub returns-clause-fits : goal.returns-clause-fits
@@ -123,3 +123,8 @@ returns-in-Err-clause-journal_moment g c = λ t f taken stands.
     let run = subst (λ (s : Store _). Stands g.T.Twin.seen g.T.Twin.may_leave s
     → LeavesOnly g.T.Twin.moment g.T.Twin.left_since (twin_of s) (twin_of (store_of c.write.new.self)) (BeforeOrBehind (book_of s) (count_of s) acts)) same c.write.ensures.journal_moment stands in
     known_journal g.T.Twin.seen g.T.Twin.may_leave g.T.Twin.moment g.T.Twin.left_since core (twin_of (store_of c.write.new.self)) t e acts f (c.in-Ok.ensures.acts t f taken) run
+
+pub returns-in_default-clause-journal_moment : goal.returns-in_default-clause-journal_moment
+returns-in_default-clause-journal_moment g c = λ t f taken stands.
+    still_journal g.T.Twin.seen g.T.Twin.may_leave g.T.Twin.moment g.T.Twin.left_since (λ twin. g.met.T.Twin.only_now twin) c.args.self.now (twin_of (store_of c.prepare.new.self)) t c.args.event f stands
+    (ap (λ (s : Store _). twin_of s) (ap store_of c.prepare.ensures.rest))
