@@ -100,7 +100,7 @@ Was rows r = (old : ARow) × Stands ARow old rows × (old.number ≡ r.number) �
 same_row : (q r : RowNumber) → q.0 ≡ r.0 → q ≡ r
 same_row q r e = let number : ℕ → RowNumber = λ n. record { 0 = n } in ap number e
 
-with_one : (n : ℕ) (change : ARow → Option ARow) (rows : List ARow) (r : ARow) → Stands ARow r (with_row n change rows)
+pub with_one : (n : ℕ) (change : ARow → Option ARow) (rows : List ARow) (r : ARow) → Stands ARow r (with_row n change rows)
     → (old : ARow) × Stands ARow old rows × ((old ≡ r) ⊎ ((old.number.0 ≡ n) × (change old ≡ Some r)))
 with_one n change rows r is =
     let one = stands_in_filter_map ARow ARow (λ (x : ARow). if x.number.0 == n then change x else Some x) r rows is in (one.0, one.1, by one.0 (one.0.number.0 == n) refl one.2)
@@ -230,7 +230,7 @@ lives_accepted = λ id lives u all earlier later row is accepted.
 
 -- what producers are told
 
-row_there : (n : ℕ) (rows : List ARow) (r : ARow) → row_at n rows ≡ Some r → Stands ARow r rows × (r.number.0 ≡ n)
+pub row_there : (n : ℕ) (rows : List ARow) (r : ARow) → row_at n rows ≡ Some r → Stands ARow r rows × (r.number.0 ≡ n)
 row_there n [] r e = absurd (none_not_some e)
 row_there n (x ∷ rows) r e = by (x.number.0 == n) refl e (λ later. let rest = row_there n rows r later in (inr rest.0, rest.1))
   where

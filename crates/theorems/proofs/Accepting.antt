@@ -249,19 +249,19 @@ accepted_by_event t event.Start answer d none is = absurd (none_is_not d none (a
 
 -- a decision of a delivery's row
 
-record OfDelivery (t : Trace) (xs : List Change) (d : Decision) : Type 0 where
-  number : ℕ
-  of : Delivery
-  there : delivery t number ≡ Some of
-  undecided : is_undecided of ≡ true
-  name : of.name ≡ Row d.row
-  made : (changed_by xs of).outcome ≡ Some d.outcome
+pub record OfDelivery (t : Trace) (xs : List Change) (d : Decision) : Type 0 where
+  pub number : ℕ
+  pub of : Delivery
+  pub there : delivery t number ≡ Some of
+  pub undecided : is_undecided of ≡ true
+  pub name : of.name ≡ Row d.row
+  pub made : (changed_by xs of).outcome ≡ Some d.outcome
 
 named_row : (name : DeliveryName) (r : RowNumber) → row_of name ≡ Some r → name ≡ Row r
 named_row (Row q) r e = ap (λ (x : RowNumber). Row x) (some_same e)
 named_row (Counter k) r e = absurd (none_not_some e)
 
-of_delivery : (t : Trace) (xs : List Change) (d : Decision) → Stands Decision d (decided_rows t xs) → OfDelivery t xs d
+pub of_delivery : (t : Trace) (xs : List Change) (d : Decision) → Stands Decision d (decided_rows t xs) → OfDelivery t xs d
 of_delivery t xs d stands = by (delivery t one.0) refl one.1
   where
     one : (n : ℕ) × Stands Decision d (decision_of xs (delivery t n))
@@ -345,7 +345,7 @@ record OfMap (theirs : List UnsettledDelivery) (row : ARow) : Type 0 where
   told : told_of theirs row ≡ Some entry
   accepts : entry.state ≡ Some state.Accepted
 
-terminal_is : (o : Option DeliveryState) (s : DeliveryState) → terminal o ≡ Some s → IsTerminal s × (o ≡ Some s)
+pub terminal_is : (o : Option DeliveryState) (s : DeliveryState) → terminal o ≡ Some s → IsTerminal s × (o ≡ Some s)
 terminal_is None s e = absurd (none_not_some e)
 terminal_is (Some (state.Received r)) s e = absurd (none_not_some e)
 terminal_is (Some (state.Other v)) s e = absurd (none_not_some e)
@@ -509,16 +509,16 @@ no_admission b (Some x) d is = by (is_none (admit_refusal b x)) is
     by true (inr is) = is
     by false is = is
 
-no_admitted : (full : Bool) (b : BookView) (t : Trace) (e : Event) (d : Decision) → Stands Act (Decide d) (admitted_acts full b t e) → ⊥
+pub no_admitted : (full : Bool) (b : BookView) (t : Trace) (e : Event) (d : Decision) → Stands Act (Decide d) (admitted_acts full b t e) → ⊥
 no_admitted true b t e d is = is
 no_admitted false b t e d is = no_admission b (event_admission b t e (event_answer false b t e)) d is
 
 -- the decision that it writes
-record Asked (ds : List Decision) (d : Decision) : Type 0 where
-  of : Decision
-  asked : Stands Decision of ds
-  row : of.row.0 ≡ d.row.0
-  writes : d.outcome ≡ journal_outcome of.outcome
+pub record Asked (ds : List Decision) (d : Decision) : Type 0 where
+  pub of : Decision
+  pub asked : Stands Decision of ds
+  pub row : of.row.0 ≡ d.row.0
+  pub writes : d.outcome ≡ journal_outcome of.outcome
 
 asked_for : (ds : List Decision) (n : ℕ) (s : DeliveryState) → outcome_for n ds ≡ Some s → (d : Decision) × Stands Decision d ds × (d.row.0 ≡ n) × (d.outcome ≡ s)
 asked_for [] n s e = absurd (none_not_some e)
@@ -552,7 +552,7 @@ asked_row b ds d is =
     by_open r true h = by_outcome r (outcome_for r.number.0 ds) refl h
     by_open r false h = absurd (none_not_some h)
 
-asked_act : (b : BookView) (ds : List Decision) (numbers : List RowNumber) (x : Option TerminusAct) (d : Decision) → Stands Act (Decide d) (settled_acts b ds numbers x) → Asked ds d
+pub asked_act : (b : BookView) (ds : List Decision) (numbers : List RowNumber) (x : Option TerminusAct) (d : Decision) → Stands Act (Decide d) (settled_acts b ds numbers x) → Asked ds d
 asked_act b ds numbers x d is = by (stands_in_both Act (Decide d) (settles b ds numbers) (terminus_acts (effects b (settles b ds numbers)) x) is)
   where
     by_rows : Stands Act (Decide d) (decides b ds) ⊎ Stands Act (Decide d) (forgets b numbers) → Asked ds d

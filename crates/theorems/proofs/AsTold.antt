@@ -188,5 +188,5 @@ pub sendable_kept : (s : DeliveryState) → IsSendable s → IsKeptAsTold s
 sendable_kept s sent =
     let few = kept_len s (is_terminal s sent.terminal) in
     let ends = kept_ends s sent.terminal in
-    let parts = perf_fits sent.body s sent.bytes sent.terminal sent.spelled (all_bytes sent.bytes sent.are_bytes) sent.gives in
+    let parts = perf_fits sent.body s sent.encoded.bytes sent.terminal sent.encoded.spelled (all_bytes sent.encoded.bytes sent.encoded.are_bytes) sent.gives in
     kept_itself (kept_outcome s) ends (plain_fits (kept_outcome s) ends (kept_plain s parts) few) few

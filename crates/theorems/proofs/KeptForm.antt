@@ -256,14 +256,17 @@ still_undescribed s terminal = by (written_outcome (kept_outcome s)) refl
     by None e = refl
     by (Some o) e = described_same s o terminal (is_kept (kept_outcome s) o e).same
 
-long_kept : (s : DeliveryState) → length (state_spelling s) ≤ 400 → unless_long s ≡ s
+pub long_kept : (s : DeliveryState) → length (state_spelling s) ≤ 400 → unless_long s ≡ s
 long_kept s few = rw (not_over (length (state_spelling s)) 400 few) refl
 
+pub form_kept : (s : DeliveryState) → IsTerminal s → kept_outcome (kept_form s) ≡ kept_form s
+form_kept s terminal = ap unless_long (still_undescribed s terminal) ∙ long_kept (kept_form s) (written_is_short (kept_outcome s))
+
+pub form_itself : (s : DeliveryState) → journal_outcome (journal_outcome s) ≡ journal_outcome s
+form_itself s = ap (λ (v : Option DeliveryState). unwrap_or v failed) (keeps_itself (journal_outcome s) (written_is_outcome s) (written_is_short s))
+
 pub kept_twice : (s : DeliveryState) → IsTerminal s → kept_form (kept_form s) ≡ kept_form s
-kept_twice s terminal =
-    let y : DeliveryState = kept_form s in
-    let again : kept_outcome y ≡ y = ap unless_long (still_undescribed s terminal) ∙ long_kept y (written_is_short (kept_outcome s)) in
-    ap journal_outcome again ∙ ap (λ (v : Option DeliveryState). unwrap_or v failed) (keeps_itself y (written_is_outcome (kept_outcome s)) (written_is_short (kept_outcome s)))
+kept_twice s terminal = ap journal_outcome (form_kept s terminal) ∙ form_itself (kept_outcome s)
 
 -- Only accepted is kept as accepted.
 

@@ -77,6 +77,9 @@ pub mod Accepting
 -- Runs that end by stops.
 pub mod Lives
 pub mod AcceptedFirst
+-- The outcome that a row has is the one that is told.
+pub mod Forms
+pub mod ToldAsKept
 -- The consumer of a row.
 pub mod Origins
 pub mod OwnConsumer

@@ -10,7 +10,7 @@ use Rattle.router_trace.specs.Trace.{Beginning}
 use Rattle.router_core.specs.declared.driving.Driven.{Driven}
 use Rattle.router_core.specs.declared.router.Core.{Core}
 use Rattle.theorems.specs.Alike.{AnsweredAlone, SameWheneverTaken, SameHoweverCut}
-use Rattle.theorems.specs.AsTold.{IsSendable, IsKeptAsTold}
+use Rattle.theorems.specs.AsTold.{IsSendable, IsKeptAsTold, RowsHaveWhatIsTold}
 use Rattle.theorems.specs.Always.{Always, AlwaysFrom, AlwaysInTurn, AlwaysOnSound, InOneRun, InScripts, OnSound}
 use Rattle.theorems.specs.Credit.{WithinCredit}
 use Rattle.theorems.specs.Durable.{IsKeptFirst, RowIsAdmitted, EachRowIsBoundOnce, EachNewRowIsBound, OutcomeIsKept, EachOutcomeIsKept, EachRowIsDecidedOnce, RowsAreDecidedOnce, RowsAreAcceptedByConsumers, AcceptedIsTrue, MapIsOfBook, MapIsTrue, GoesToOwnConsumer, NumbersAreGivenOnce, TellsItsOwnRow}
@@ -67,9 +67,10 @@ DurableOutcomesAreKeptFirst =
     AlwaysInTurn (OnSound EachOutcomeIsKept) × AlwaysFrom (OnSound EachRowIsDecidedOnce)
     × InSmallLives (EachOut OutcomeIsKept) × InLives RowsAreDecidedOnce × InSmallLives (EachOut TellsItsOwnRow)
 
--- What the journal has of an outcome that a peer can send is the very state that the producer is told.
+-- What the journal has of an outcome that a peer can send is the very state that the producer is told; and so has a row, over all runs in which each
+-- frame that came was encoded.
 abbrev pub OutcomesAreKeptAsTold : Type 0
-OutcomesAreKeptAsTold = (s : DeliveryState) → IsSendable s → IsKeptAsTold s
+OutcomesAreKeptAsTold = ((s : DeliveryState) → IsSendable s → IsKeptAsTold s) × InSmallLives RowsHaveWhatIsTold
 
 -- What the book has as accepted its consumer accepted, in this run or an earlier one; no producer is told accepted
 -- before, by a disposition or by the map of an attach, which has what the book has.
