@@ -146,18 +146,19 @@ module _ {T : Type 0} (seen : T → Contents) (may_leave : T → Contents → Ty
   module _ (id : List ℕ) (g : Beginning) (past : List Life) (t : List Entry) (lived : Lives id past t) (book : g.book ≡ book_in t) where
     -- all that it did
     whole : (moves : List Move) (u : List Entry) (part : List AnEntry) (left : Contents) → GoesInTurnBy (handled id) moves (opened g t) u → Shows id moves (opened g t) part
-        → OpensTo left (book_in u) → EndsLives id past 1 left (part ++ shown.Stop ∷ [])
+        → OpensTo left (book_in u) → EndsLives id past 1 left (part ++ [] ++ shown.Stop ∷ [])
     whole moves u part left goes shows opens =
         let x : Life = record { opening = g; moves = moves; cut = [] } in
-        let life : ShowsLife id x t (part ++ shown.Stop ∷ []) = record { end = u; moved = part; goes = goes; shows = shows; entries_are = refl } in
-        (x ∷ [], u, refl, (t, u, lived, book, goes, refl), opens, (t, [], part ++ shown.Stop ∷ [], lived, refl, life, refl))
+        let es : List AnEntry = part ++ [] ++ shown.Stop ∷ [] in
+        let life : ShowsLife id x t es = record { end = u; moved = part; goes = goes; shows = shows; entries_are = refl } in
+        (x ∷ [], u, refl, (t, u, lived, book, goes, refl), opens, (t, [], es, lived, refl, life, refl))
 
     -- and the acts of an event that was cut off
     cut_off : (moves : List Move) (u : List Entry) (e : Event) (part : List AnEntry) (left : Contents) → GoesInTurnBy (handled id) moves (opened g t) u → Shows id moves (opened g t) part
-        → declines u e ≡ false → OpensTo left (book_in (did e ∷ booked u e)) → EndsLives id past 1 left (part ++ event_entry e (acts_of u e) ∷ shown.Stop ∷ [])
+        → declines u e ≡ false → OpensTo left (book_in (did e ∷ booked u e)) → EndsLives id past 1 left (part ++ (event_entry e (acts_of u e) ∷ []) ++ shown.Stop ∷ [])
     cut_off moves u e part left goes shows taken opens =
         let x : Life = record { opening = g; moves = moves; cut = e ∷ [] } in
-        let es : List AnEntry = part ++ event_entry e (acts_of u e) ∷ shown.Stop ∷ [] in
+        let es : List AnEntry = part ++ (event_entry e (acts_of u e) ∷ []) ++ shown.Stop ∷ [] in
         let life : ShowsLife id x t es = record { end = u; moved = part; goes = goes; shows = shows; entries_are = refl } in
         (x ∷ [], did e ∷ booked u e, refl, (t, u, lived, book, goes, (taken, refl)), opens, (t, [], es, lived, refl, life, refl))
 

@@ -49,9 +49,12 @@ returns-in-Ok-clause-lives g c =
     let config = c.args.config.now in
     let opened = c.in_ok-core.ensures in
     let shown = c.in-Ok.ensures.shown in
-    let end : List Entry = told.0 ++ entry.Stop ∷ [] in (
-      shown.0 ++ end,
-      told.2 ∙ ap (λ (es : List Entry). es ++ end) shown.1 ∙ append_assoc c.args.entries.now.items shown.0 end,
+    let stop : List Entry = entry.Stop ∷ [] in (
+      shown.0 ++ told.0 ++ stop,
+      told.2
+          ∙ ap (λ (es : List Entry). es ++ told.0 ++ stop) shown.1
+          ∙ ap (λ (es : List Entry). es ++ stop) (append_assoc c.args.entries.now.items shown.0 told.0)
+          ∙ append_assoc c.args.entries.now.items (shown.0 ++ told.0) stop,
       one_more twin.seen twin.may_leave twin.failures config.router_id (opening_of config c.in_ok-core.core) past t lives
           (opens_to_one (twin.seen c.args.twin) (kept_book c.in_ok-core.core) (book_in t) opened.book opens) c.in_ok-core.core c.in-Ok.played.core (twin.seen ended.twin) c.in-Ok.played.cut shown.0 told.0
           opened.named opened.opened shown.2 left told.1,
