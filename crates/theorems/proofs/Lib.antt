@@ -80,6 +80,9 @@ pub mod AcceptedFirst
 -- The outcome that a row has is the one that is told.
 pub mod Forms
 pub mod ToldAsKept
+pub mod EncodedItems
+pub mod EncodedScenes
+pub mod ToldInScripts
 -- The consumer of a row.
 pub mod Origins
 pub mod OwnConsumer

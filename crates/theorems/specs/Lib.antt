@@ -17,6 +17,7 @@ pub mod Decided
 pub mod Told
 pub mod Kept
 pub mod AsTold
+pub mod Scripts
 pub mod OwnRow
 pub mod Accepting
 pub mod Mapped

@@ -10,7 +10,7 @@ use Rattle.router_trace.specs.Trace.{Beginning}
 use Rattle.router_core.specs.declared.driving.Driven.{Driven}
 use Rattle.router_core.specs.declared.router.Core.{Core}
 use Rattle.theorems.specs.Alike.{AnsweredAlone, SameWheneverTaken, SameHoweverCut}
-use Rattle.theorems.specs.AsTold.{IsSendable, IsKeptAsTold, RowsHaveWhatIsTold}
+use Rattle.theorems.specs.AsTold.{IsSendable, IsKeptAsTold, OutcomeIsInRow, RowsHaveWhatIsTold}
 use Rattle.theorems.specs.Always.{Always, AlwaysFrom, AlwaysInTurn, AlwaysOnSound, InOneRun, InScripts, OnSound}
 use Rattle.theorems.specs.Credit.{WithinCredit}
 use Rattle.theorems.specs.Durable.{IsKeptFirst, RowIsAdmitted, EachRowIsBoundOnce, EachNewRowIsBound, OutcomeIsKept, EachOutcomeIsKept, EachRowIsDecidedOnce, RowsAreDecidedOnce, RowsAreAcceptedByConsumers, AcceptedIsTrue, MapIsOfBook, MapIsTrue, GoesToOwnConsumer, NumbersAreGivenOnce, TellsItsOwnRow}
@@ -19,6 +19,7 @@ use Rattle.theorems.specs.Lives.{InLives, InSmallLives}
 use Rattle.theorems.specs.Locked.{Kind, UnderTheLock, UnderTheLockIfSmall}
 use Rattle.theorems.specs.Messages.{BindsByKind, BringsItsOutcome, EachDeliveryCame, StaysWithConsumer, NeverComesBack, OfMessages, CarriesWhatWasBound, FramesJoin, OutcomesAreGiven, OutcomesAreOfConsumers, ToldAtMostOnce, ToldAnew, TellsAsGiven}
 use Rattle.theorems.specs.Order.{KeepsOrder, BeginsWithHeaders}
+use Rattle.theorems.specs.Scripts.{InSmallScripts, InSmallRuns}
 use Rattle.theorems.specs.Stops.{Stopping, AnyMomentLeavesAPrefix, TheEndLeavesAll, AFaultLeavesAllAnswered, EndsALife, EndsALifeAnswered, GoesOnFrom}
 use Rattle.theorems.specs.Windows.{WindowKept}
 
@@ -68,9 +69,11 @@ DurableOutcomesAreKeptFirst =
     × InSmallLives (EachOut OutcomeIsKept) × InLives RowsAreDecidedOnce × InSmallLives (EachOut TellsItsOwnRow)
 
 -- What the journal has of an outcome that a peer can send is the very state that the producer is told; and so has a row, over all runs in which each
--- frame that came was encoded.
+-- frame that came was encoded; and so in every script of bytes, and over all runs of such scripts.
 abbrev pub OutcomesAreKeptAsTold : Type 0
-OutcomesAreKeptAsTold = ((s : DeliveryState) → IsSendable s → IsKeptAsTold s) × InSmallLives RowsHaveWhatIsTold
+OutcomesAreKeptAsTold =
+    ((s : DeliveryState) → IsSendable s → IsKeptAsTold s) × InSmallLives RowsHaveWhatIsTold
+    × InSmallScripts (EachOut OutcomeIsInRow) × InSmallRuns (EachOut OutcomeIsInRow)
 
 -- What the book has as accepted its consumer accepted, in this run or an earlier one; no producer is told accepted
 -- before, by a disposition or by the map of an attach, which has what the book has.

@@ -131,7 +131,8 @@ pub fn durable_outcomes_are_kept_first()
 /// What the journal has of an outcome is the very state that its producer is told, for each outcome that a peer can
 /// send: a terminal state that a disposition has, or an entry of an attach's unsettled map, where bytes encode that
 /// frame's body. So over every list of runs in which each frame that came was encoded: where a producer is told the
-/// outcome of a delivery with a row, the book has that row, with the very state that it is told (AMQP 1.0 part 2,
+/// outcome of a delivery with a row, the book has that row, with the very state that it is told. In every script of
+/// bytes it is so, and over every list of runs of such scripts: what is read of bytes is encoded (AMQP 1.0 part 2,
 /// sections 2.6.12, 2.7.3 and 2.7.6, and part 3, section 3.4).
 pub fn outcomes_are_kept_as_told()
     ensures { OutcomesAreKeptAsTold }
