@@ -9,7 +9,7 @@ use Rattle.journal_codec.specs.Batches.{book_after}
 use Rattle.gate_journal.proofs.Fronts.{book_more}
 use Rattle.gate_journal.specs.Reserve.{reserve}
 use Rattle.twin_journal.specs.declared.journal.Journal.{Journal}
-use Rattle.twin_journal.specs.Holding.{BeforeOrBehind}
+use Rattle.twin_journal.specs.Holding.{BeforeOrAfter}
 use Rattle.twin_journal.specs.Journal.{Keeps, KeepsBook, SuitsBook, is_due_in}
 use Rattle.twin_journal.specs.Room.{IsFull}
 use Rattle.twin_journal.proofs.Fulls.{tested_by}
@@ -29,10 +29,10 @@ module _ (given b : BookView) (acts : List Act) (same : given ≡ b) where
       subst (λ (x : BookView). KeepsBook seen may_leave j x → LeavesOnly moment left_since old new (λ c. OpensTo c x ⊎ OpensTo c (effects x acts))) same said
 
   pub journal_moments : {T : Type 0} (moment : T → ℕ) (left_since : T → ℕ → Contents → Type 0) (seen : T → Contents) (may_leave : T → Contents → Type 0) (j : Journal T) (count : ℕ) (old new : T)
-      → (KeepsBook seen may_leave j given → LeavesOnly moment left_since old new (BeforeOrBehind given count acts))
-      → KeepsBook seen may_leave j b → LeavesOnly moment left_since old new (BeforeOrBehind b count acts)
+      → (KeepsBook seen may_leave j given → LeavesOnly moment left_since old new (BeforeOrAfter given count acts))
+      → KeepsBook seen may_leave j b → LeavesOnly moment left_since old new (BeforeOrAfter b count acts)
   journal_moments moment left_since seen may_leave j count old new said =
-      subst (λ (x : BookView). KeepsBook seen may_leave j x → LeavesOnly moment left_since old new (BeforeOrBehind x count acts)) same said
+      subst (λ (x : BookView). KeepsBook seen may_leave j x → LeavesOnly moment left_since old new (BeforeOrAfter x count acts)) same said
 
   -- after it: the batch is behind the others, or alone behind a checkpoint
   pub stands_after : {T : Type 0} (seen : T → Contents) (may_leave : T → Contents → Type 0) (j new : Journal T) (last : ℕ) (after : BookView) → after ≡ effects b acts

@@ -5,7 +5,7 @@ use Rattle.disk_core.specs.Disk.{LeavesOnly}
 use Rattle.disk_core.specs.DiskLaws.{started}
 use Rattle.disk_core.specs.Twin.{Contents}
 use Rattle.journal_store.specs.declared.store.Store.{Store}
-use Rattle.twin_journal.specs.Holding.{BeforeOrBehind, HoldsAt}
+use Rattle.twin_journal.specs.Holding.{BeforeOrAfter, HoldsAt}
 use Rattle.twin_journal.proofs.Kept.{holds_at}
 use Rattle.journal_store.specs.Store.{OpensTo, Stands, twin_of, book_of, count_of}
 use Rattle.journal_store.proofs.Opened.{kept_opens}
@@ -33,6 +33,6 @@ left_holds seen may_leave s c stands left =
 
 pub still_held : {T : Type 0} (seen : T → Contents) (may_leave : T → Contents → Type 0) (moment : T → ℕ) (left_since : T → ℕ → Contents → Type 0)
     → ((twin : T) (c : Contents) → left_since twin (moment twin) c → may_leave twin c) → (s : Store T) (acts : List Act) → Stands seen may_leave s
-    → LeavesOnly moment left_since (twin_of s) (twin_of s) (BeforeOrBehind (book_of s) (count_of s) acts)
+    → LeavesOnly moment left_since (twin_of s) (twin_of s) (BeforeOrAfter (book_of s) (count_of s) acts)
 still_held seen may_leave moment left_since only_now s acts stands =
-    started moment left_since (twin_of s) (BeforeOrBehind (book_of s) (count_of s) acts) (λ c left. inl (left_holds seen may_leave s c stands (only_now (twin_of s) c left)))
+    started moment left_since (twin_of s) (BeforeOrAfter (book_of s) (count_of s) acts) (λ c left. inl (left_holds seen may_leave s c stands (only_now (twin_of s) c left)))

@@ -5,7 +5,7 @@ ghost use Rattle.book_model.specs.declared.act.Act.{Act as AnAct};
 ghost use Rattle.book_model.specs.Book.{first_fault, effects};
 ghost use Rattle.journal_codec.specs.Batches.{HaveOutcomes};
 ghost use Rattle.journal_codec.specs.Format.{acts_bytes};
-ghost use Rattle.twin_journal.specs.Holding.{BeforeOrBehind};
+ghost use Rattle.twin_journal.specs.Holding.{BeforeOrAfter};
 ghost use Rattle.twin_journal.specs.Journal.{batch_count, has_failed};
 ghost use Rattle.twin_journal.specs.Judging.{Explains};
 ghost use Rattle.twin_journal.specs.Room.{is_full, room};
@@ -75,7 +75,7 @@ impl<T: Twin> Store<T> {
         ensures any_moment { Stands T.seen T.may_leave self.old → LeavesOnly T.moment T.left_since (twin_of self.old) (twin_of self.new)
             (λ c. OpensTo c (book_of self.old) ⊎ OpensTo c (effects (book_of self.old) acts.now)) }
         ensures journal_moment { Stands T.seen T.may_leave self.old → LeavesOnly T.moment T.left_since (twin_of self.old) (twin_of self.new)
-            (BeforeOrBehind (book_of self.old) (count_of self.old) acts.now) }
+            (BeforeOrAfter (book_of self.old) (count_of self.old) acts.now) }
 
         // The journal goes on to know what the book needs; and which of its batches are in its checkpoint.
         ensures suits { OnOk result (IsSuited self.old → IsSuited self.new) }
@@ -121,7 +121,7 @@ impl<T: Twin> Store<T> {
         ensures any_moment { Stands T.seen T.may_leave self.old → LeavesOnly T.moment T.left_since (twin_of self.old) (twin_of self.new)
             (λ c. OpensTo c (book_of self.old) ⊎ OpensTo c (effects (book_of self.old) acts.items)) }
         ensures journal_moment { Stands T.seen T.may_leave self.old → LeavesOnly T.moment T.left_since (twin_of self.old) (twin_of self.new)
-            (BeforeOrBehind (book_of self.old) (count_of self.old) acts.items) }
+            (BeforeOrAfter (book_of self.old) (count_of self.old) acts.items) }
 
         ensures suits { OnOk result (IsSuited self.old → IsSuited self.new) }
         ensures base { OnOk result (IsSuited self.old → base_of self.new ≡ base_after self.old acts.items) }

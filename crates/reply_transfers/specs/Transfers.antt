@@ -19,6 +19,7 @@ use Rattle.router_trace.specs.declared.condition.Condition.TheVariants.{Resource
 use Rattle.router_trace.specs.Trace.{Trace, puts}
 use Rattle.router_trace.specs.Connection.{conn}
 use Rattle.router_trace.specs.declared.binding.Binding.{Binding}
+use Rattle.router_trace.specs.declared.binding.Holding.TheVariants as holding
 use Rattle.router_trace.specs.declared.binding.Origin.{Origin}
 use Rattle.router_trace.specs.declared.handle.Attachment.{Attachment}
 use Rattle.router_trace.specs.Deliveries.{joined_by}
@@ -82,7 +83,7 @@ row_resumed b after c own None = None
 row_resumed b after c own (Some id) = row_under b after c own id
 
 abbrev pub join_from : Trace → Attachment → ℕ → Row → Binding
-join_from after from id r = joined_by after (origin_of from id) r.number r.outcome
+join_from after from id r = joined_by after (holding.Resumed (origin_of from id)) r.number r.outcome
 
 abbrev pub joined_on : Trace → ℕ → ℕ → ℕ → ℕ → Row → Option Link → Option Binding
 joined_on after c own handle id r None = None

@@ -19,7 +19,7 @@ use book_model::{Row, RowNumber};
 use bytes::Bytes;
 use reply_frames::outcome_item;
 use router_state::State;
-use router_trace::{Attachment, Condition, Origin, RouterId};
+use router_trace::{Attachment, Condition, Holding, Origin, RouterId};
 use std::alloc::AllocError;
 
 /// The most unsettled deliveries of a link that came whole and are bound to no consumer.
@@ -260,8 +260,8 @@ fn join(
     match state.attachment(conn, own, handle) {
         None => Ok(()),
         Some(link) => {
-            let origin = Origin { link, id: delivery };
-            state.join(origin, row.number, row.outcome.as_ref())
+            let holding = Holding::Resumed(Origin { link, id: delivery });
+            state.join(holding, row.number, row.outcome.as_ref())
         }
     }
 }

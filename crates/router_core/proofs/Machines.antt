@@ -4,7 +4,7 @@ use Rattle.disk_core.specs.Disk.{LeavesOnly}
 use Rattle.disk_core.specs.Twin.{Contents}
 use Rattle.book_model.specs.declared.act.Act.{Act}
 use Rattle.book_model.specs.Book.{BookView}
-use Rattle.twin_journal.specs.Holding.{BeforeOrBehind}
+use Rattle.twin_journal.specs.Holding.{BeforeOrAfter}
 use Rattle.twin_journal.specs.Journal.{batch_count}
 use Rattle.journal_store.specs.Store.{Stands, batches_after, count_of, twin_of, journal_of}
 use Rattle.journal_store.specs.declared.store.Store.{Store}
@@ -78,7 +78,7 @@ module _ {T : Type 0} (seen : T → Contents) (may_leave : T → Contents → Ty
   -- a crash leaves the journal before the event, or the one with its batch
   pub journal_next : (moment : T → ℕ) (left_since : T → ℕ → Contents → Type 0) → ((twin : T) (t : ℕ) (c : Contents) → t ≤ moment twin → may_leave twin c → left_since twin t c)
       → (failures : T → ℕ) (old new : Core T) (t : List Entry) (e : Event)
-      → LeavesOnly moment left_since (twin_of (store_of old)) (twin_of (store_of new)) (BeforeOrBehind (book_in t) (count_of (store_of old)) (acts_of t e))
+      → LeavesOnly moment left_since (twin_of (store_of old)) (twin_of (store_of new)) (BeforeOrAfter (book_in t) (count_of (store_of old)) (acts_of t e))
       → LeavesKept may_leave new (KeptAt (core_meaning seen may_leave failures) (count_of (store_of old)) t e)
   journal_next moment left_since counts_now failures old new t e run contents left =
       ⊎_elim (λ before. (record { book = book_in t; batches = count_of (store_of old); last = before.0 }, before.1, inl (refl, refl)))

@@ -5,7 +5,7 @@ use Rattle.disk_core.specs.DiskLaws.{widened}
 use Rattle.disk_core.specs.Twin.{Contents}
 use Rattle.book_model.specs.declared.act.Act.{Act}
 use Rattle.book_model.specs.Book.{BookView, effects}
-use Rattle.twin_journal.specs.Holding.{BeforeOrBehind}
+use Rattle.twin_journal.specs.Holding.{BeforeOrAfter}
 use Rattle.journal_store.specs.Store.{OpensTo, Stands, count_of, twin_of}
 use Rattle.journal_store.proofs.Moments.{still_held, unmoved}
 use Rattle.router_trace.specs.declared.event.Event.{Event}
@@ -35,16 +35,16 @@ module _ {T : Type 0} (seen : T → Contents) (may_leave : T → Contents → Ty
 
   -- how many batches there are then, and which is the last one
   pub known_journal : (core : Core T) (twin : T) (t : List Entry) (e : Event) (acts : List Act) → Fits core t → acts ≡ acts_of t e
-      → LeavesOnly moment left_since (twin_of (store_of core)) twin (BeforeOrBehind (kept_book core) (count_of (store_of core)) acts)
-      → LeavesOnly moment left_since (twin_of (store_of core)) twin (BeforeOrBehind (book_in t) (count_of (store_of core)) (acts_of t e))
+      → LeavesOnly moment left_since (twin_of (store_of core)) twin (BeforeOrAfter (kept_book core) (count_of (store_of core)) acts)
+      → LeavesOnly moment left_since (twin_of (store_of core)) twin (BeforeOrAfter (book_in t) (count_of (store_of core)) (acts_of t e))
   known_journal core twin t e acts f are run =
-      subst (λ (b : BookView). LeavesOnly moment left_since (twin_of (store_of core)) twin (BeforeOrBehind b (count_of (store_of core)) (acts_of t e))) f.journal.book
-      (subst (λ (xs : List Act). LeavesOnly moment left_since (twin_of (store_of core)) twin (BeforeOrBehind (kept_book core) (count_of (store_of core)) xs)) are run)
+      subst (λ (b : BookView). LeavesOnly moment left_since (twin_of (store_of core)) twin (BeforeOrAfter b (count_of (store_of core)) (acts_of t e))) f.journal.book
+      (subst (λ (xs : List Act). LeavesOnly moment left_since (twin_of (store_of core)) twin (BeforeOrAfter (kept_book core) (count_of (store_of core)) xs)) are run)
 
   pub still_journal : ((twin : T) (c : Contents) → left_since twin (moment twin) c → may_leave twin c) → (core : Core T) (twin : T) (t : List Entry) (e : Event) → Fits core t
       → Stands seen may_leave (store_of core) → twin ≡ twin_of (store_of core)
-      → LeavesOnly moment left_since (twin_of (store_of core)) twin (BeforeOrBehind (book_in t) (count_of (store_of core)) (acts_of t e))
+      → LeavesOnly moment left_since (twin_of (store_of core)) twin (BeforeOrAfter (book_in t) (count_of (store_of core)) (acts_of t e))
   still_journal only_now core twin t e f stands same =
       known_journal core twin t e (acts_of t e) f refl
-      (subst (λ (d : T). LeavesOnly moment left_since (twin_of (store_of core)) d (BeforeOrBehind (kept_book core) (count_of (store_of core)) (acts_of t e))) (sym same)
+      (subst (λ (d : T). LeavesOnly moment left_since (twin_of (store_of core)) d (BeforeOrAfter (kept_book core) (count_of (store_of core)) (acts_of t e))) (sym same)
       (still_held seen may_leave moment left_since only_now (store_of core) (acts_of t e) stands))

@@ -1,7 +1,7 @@
 //! The router: one event or one take at a time.
 ghost use Rattle.std.specs.Prelude.{◌≡◌, ◌≢◌, ◌⊎◌, ◌+◌, ◌<◌, ◌≤◌, ◌∷◌, ◌&&◌, nat_lt, List, [], length, slice_get, true, false, Ok, Err, None, option_copied, option_map, is_some, OnOk, OnErr, IfOk, IfErr, IfSome, IfNone, IsErrOf};
 ghost use Rattle.disk_core.specs.Disk.{LeavesOnly, NoMore};
-ghost use Rattle.twin_journal.specs.Holding.{BeforeOrBehind};
+ghost use Rattle.twin_journal.specs.Holding.{BeforeOrAfter};
 ghost use Rattle.twin_journal.specs.Journal.{batch_count};
 ghost use Rattle.twin_journal.specs.Judging.{Explains};
 ghost use Rattle.journal_store.specs.Store.{OpensTo, Stands, Writable, IsSuited, journal_of, twin_of, count_of, base_of, batches_after, exceeds};
@@ -12,7 +12,7 @@ ghost use Rattle.state_connections.specs.Fits.{IsLeast};
 ghost use Rattle.state_connections.specs.Waiting.{waiting_of};
 ghost use Rattle.book_model.specs.Book.{effects};
 ghost use Rattle.twin_journal.specs.Room.{room};
-ghost use Rattle.router_reply.specs.Acts.{planned_acts, event_answer, acts_of, book_after_event, book_in, booked, finds_full, journaled};
+ghost use Rattle.router_reply.specs.Acts.{planned_acts, event_answer, acts_of, book_after_event, book_in, found_acts, booked, finds_full, journaled};
 ghost use Rattle.router_reply.specs.Admitting.{admits, event_admission, without_acts};
 ghost use Rattle.router_reply.specs.Heard.{IsHeard};
 ghost use Rattle.router_reply.specs.Replies.{row_found};
@@ -39,7 +39,8 @@ use reply_rows::Answer;
 use route_table::{Config, Table};
 use router_after::after;
 use router_reply::{
-    Heard, Plan, Resumption, admission_for, hear, make_plan, reply, row_in, take_up, told_map,
+    Heard, Plan, Resumption, admission_for, free_rows, hear, make_plan, reply, row_in, take_up,
+    told_map,
 };
 use router_state::State;
 use router_trace::{ConnectionId, Event, RouterId};
@@ -253,7 +254,7 @@ impl<T: Twin> Core<T> {
         ensures any_moment { (t : List Entry) → Fits self.old t → Stands T.seen T.may_leave (store_of self.old)
             → LeavesOnly T.moment T.left_since (twin_of (store_of self.old)) (twin_of (store_of self.new)) (BeforeOrAfterEvent t event) }
         ensures journal_moment { (t : List Entry) → Fits self.old t → Stands T.seen T.may_leave (store_of self.old)
-            → LeavesOnly T.moment T.left_since (twin_of (store_of self.old)) (twin_of (store_of self.new)) (BeforeOrBehind (book_in t) (count_of (store_of self.old)) (acts_of t event)) }
+            → LeavesOnly T.moment T.left_since (twin_of (store_of self.old)) (twin_of (store_of self.new)) (BeforeOrAfter (book_in t) (count_of (store_of self.old)) (acts_of t event)) }
         ensures given_up { OnErr result (is_failed self.old ≡ false → is_failed self.new ≡ true → NothingWaits (state_of self.new)) }
 
         // One more event is counted exactly if the call answers Ok.
@@ -326,7 +327,7 @@ impl<T: Twin> Core<T> {
         ensures any_moment { (t : List Entry) → Fits self.old t → IsTaken t event phase → Stands T.seen T.may_leave (store_of self.old)
             → LeavesOnly T.moment T.left_since (twin_of (store_of self.old)) (twin_of (store_of self.new)) (BeforeOrAfterEvent t event) }
         ensures journal_moment { (t : List Entry) → Fits self.old t → IsTaken t event phase → Stands T.seen T.may_leave (store_of self.old)
-            → LeavesOnly T.moment T.left_since (twin_of (store_of self.old)) (twin_of (store_of self.new)) (BeforeOrBehind (book_in t) (count_of (store_of self.old)) (acts_of t event)) }
+            → LeavesOnly T.moment T.left_since (twin_of (store_of self.old)) (twin_of (store_of self.new)) (BeforeOrAfter (book_in t) (count_of (store_of self.old)) (acts_of t event)) }
         ensures counted { OnOk result (counts_of self.new ≡ with_event event (counts_of self.old)) }
         ensures uncounted { OnErr result (counts_of self.new ≡ counts_of self.old) }
         ensures left { OnErr result ((t : List Entry) → Fits self.old t → IsTaken t event phase → LeftBook t event (kept_book self.new)) }
@@ -349,7 +350,7 @@ impl<T: Twin> Core<T> {
                 return Err(fault);
             }
         };
-        let Ok(()) = self.answer(event, &mut ready, row) else {
+        let Ok(()) = self.answer(event, &mut ready, row, acts_written(&journal)) else {
             drop(journal);
             return Err(CoreFault::Memory);
         };
@@ -544,7 +545,7 @@ impl<T: Twin> Core<T> {
         ensures any_moment { Stands T.seen T.may_leave (store_of self.old) → LeavesOnly T.moment T.left_since (twin_of (store_of self.old)) (twin_of (store_of self.new))
             (λ c. OpensTo c (kept_book self.old) ⊎ OpensTo c (effects (kept_book self.old) acts.items)) }
         ensures journal_moment { Stands T.seen T.may_leave (store_of self.old) → LeavesOnly T.moment T.left_since (twin_of (store_of self.old)) (twin_of (store_of self.new))
-            (BeforeOrBehind (kept_book self.old) (count_of (store_of self.old)) acts.items) }
+            (BeforeOrAfter (kept_book self.old) (count_of (store_of self.old)) acts.items) }
         ensures unwritten { OnErr result (kept_book self.new ≡ kept_book self.old) }
         ensures not_refused { IfErr result (λ f. f ≢ NoConnection) }
         ensures not_failed { IfErr result (λ f. f ≢ Failed) }
@@ -558,14 +559,15 @@ impl<T: Twin> Core<T> {
         }
     }
 
-    /// Answers an event that was handled, and counts it.
+    /// Answers an event that was handled, with these acts, and counts it.
     fn answer(
         &mut self,
         event: Event,
         ready: &mut Ready,
         row: Option<RowNumber>,
+        acts: &[Act],
     ) -> Result<(), AllocError>
-        ensures tables { OnOk result ((t : List Entry) → IsReady (state_of self.old) t event ready.old → kept_book self.old ≡ book_in t → row ≡ row_found t
+        ensures tables { OnOk result ((t : List Entry) → IsReady (state_of self.old) t event ready.old → kept_book self.old ≡ book_in t → row ≡ row_found t → acts.now ≡ found_acts t
             → TablesFit (state_of self.new) (answered (id_of self.old) t (step_of event))) }
         ensures started { OnOk result (self.new.started ≡ true) }
         ensures counted { OnOk result (counts_of self.new ≡ with_event event (counts_of self.old)) }
@@ -585,6 +587,7 @@ impl<T: Twin> Core<T> {
             event,
             ready,
             row,
+            acts,
         )?;
         self.counts = counts;
         self.started = true;
@@ -734,8 +737,19 @@ impl<T: CrashTwin> Core<T> {
     }
 }
 
-/// The reply to an event that was handled, by the book after its acts; then the rows that its attach takes up are bound,
-/// and last comes what follows.
+/// The acts of the batch that was written, if one was.
+fn acts_written(journal: &Written) -> &[Act]
+    ensures some { IfSome journal.now (λ batch. result.now ≡ batch.1.items) }
+    ensures none { IfNone journal.now (result.now ≡ []) }
+{
+    match journal {
+        None => &[],
+        Some((_number, acts)) => acts.as_slice(),
+    }
+}
+
+/// The reply to an event that was handled, by the book after its acts; then the rows that its attach takes up are bound, or joined to its link, and the
+/// rows are settled that its acts forget; and last comes what follows.
 fn reply_to(
     state: &mut State,
     id: &RouterId,
@@ -743,8 +757,9 @@ fn reply_to(
     event: Event,
     ready: &mut Ready,
     row: Option<RowNumber>,
+    acts: &[Act],
 ) -> Result<(), AllocError>
-    ensures { OnOk result ((t : List Entry) → IsReady state.old t event ready.old → book.now ≡ book_in t → row ≡ row_found t → TablesFit state.new (answered id.now t (step_of event))) }
+    ensures { OnOk result ((t : List Entry) → IsReady state.old t event ready.old → book.now ≡ book_in t → row ≡ row_found t → acts.now ≡ found_acts t → TablesFit state.new (answered id.now t (step_of event))) }
 {
     let mut resumption = mem::replace(&mut ready.resumption, None);
     let ours = told_map(state.alloc(), &mut resumption);
@@ -762,6 +777,7 @@ fn reply_to(
         drop(resumption);
         return Err(AllocError);
     };
-    take_up(state, resumption)?;
+    take_up(state, book, resumption)?;
+    free_rows(state, acts)?;
     after(state)
 }

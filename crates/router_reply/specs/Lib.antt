@@ -3,6 +3,7 @@ pub mod Admitting
 pub mod Asking
 pub mod Deciding
 pub mod Heard
+pub mod Holding
 pub mod Joining
 pub mod Replies
 pub mod Resuming

@@ -20,8 +20,9 @@ use Rattle.state_messages.specs.Messages.{taken_up_by}
 use Rattle.resume_core.specs.Resuming.{entries_of, producer_map, consumer_map, sendings}
 use Rattle.resume_core.specs.declared.consumer.Sending.{Sending}
 use Rattle.reply_rows.specs.declared.answer.Answer.{Answer}
-use Rattle.router_reply.specs.Acts.{book_found, answer_to_event}
+use Rattle.router_reply.specs.Acts.{book_found, book_in, found_acts, answer_to_event}
 pub use Rattle.router_reply.specs.Asking.{asked_key, key_taken, key_by, key_in, taken_key, attach_within, attach_in, receives, if_receives, resumed_key, rows_at, rows_with, decided_by, decided_for, map_decides, forgotten_of, all_rows, forgotten_with, forgotten_for, map_forgets}
+pub use Rattle.router_reply.specs.Holding.{if_sends, held_key, with_held, freed}
 use Rattle.router_reply.specs.declared.resuming.Resumption.{Resumption}
 use Rattle.router_reply.specs.declared.resuming.Resumption.TheVariants.{Producer, Consumer}
 
@@ -48,11 +49,16 @@ abbrev pub map_for : BookView → Option AnAttach → Option LinkKey → List Un
 map_for b a None = []
 map_for b a (Some k) = map_by a b (terminus_of k b.termini)
 
--- what is taken up: the key of a consumer's link, what the attach's map forgets and decides, the router's map, and the rows that are sent
+-- what is taken up: the key of a consumer's link, or that of a producer's, what the attach's map forgets and decides, the router's map, and the rows that are sent
 abbrev pub key_resumed : Option Resumption → Option LinkKey
 key_resumed None = None
 key_resumed (Some (Producer x)) = None
 key_resumed (Some (Consumer x)) = Some x.key
+
+abbrev pub key_held : Option Resumption → Option LinkKey
+key_held None = None
+key_held (Some (Producer x)) = Some x.key
+key_held (Some (Consumer x)) = None
 
 abbrev pub forgotten_resumed : Option Resumption → List RowNumber
 forgotten_resumed None = []
@@ -77,6 +83,7 @@ rows_resumed (Some (Consumer x)) = x.rows.items
 -- What an event with this answer takes up again, by the book that it finds.
 pub record Resumes (b : BookView) (t : Trace) (e : Event) (answer : Answer) (x : Option Resumption) : Type 0 where
   pub key : key_resumed x ≡ resumed_key t e answer
+  pub held : key_held x ≡ held_key t e answer
   pub map : map_resumed x ≡ map_for b (attach_in e) (taken_key t e answer)
   pub rows : rows_resumed x ≡ rows_for b (attach_in e) (resumed_key t e answer)
 
@@ -101,9 +108,13 @@ with_rows (Some k) rows u = bound_if (consumer_with u k) rows u
 abbrev pub rows_taken : Trace → Event → Answer → List Sending
 rows_taken t e answer = rows_for (book_found t) (attach_in e) (resumed_key t e answer)
 
--- the trace u after the replies to an event that found t, with the rows that its attach takes up
+-- The trace u after the replies to an event that found t, with the rows that its attach takes up, or those that it gives a producer's link, and with those
+-- settled that its acts forget.
+abbrev pub attached_by : Trace → Event → Answer → Trace → Trace
+attached_by t e answer u = with_held (book_in t) (held_key t e answer) (with_rows (resumed_key t e answer) (rows_taken t e answer) u)
+
 abbrev pub resumed_by : Trace → Event → Answer → Trace → Trace
-resumed_by t e answer u = with_rows (resumed_key t e answer) (rows_taken t e answer) u
+resumed_by t e answer u = freed (found_acts t) (attached_by t e answer u)
 
 abbrev pub resumed : Trace → Event → Trace → Trace
 resumed t e u = resumed_by t e (answer_to_event t e) u

@@ -7,8 +7,9 @@ ghost use Rattle.router_state.specs.Tables.{TablesFind, TablesFit};
 ghost use Rattle.state_messages.specs.Messages.{taken_up_by};
 ghost use Rattle.book_model.specs.Book.{terminus_of};
 ghost use Rattle.resume_core.specs.Resuming.{entries_of, forgotten_rows, producer_map, decisions, consumer_map, sendings};
-ghost use Rattle.router_reply.specs.Resuming.{asked_key, key_taken, key_by, key_in, taken_key, attach_within, attach_in, receives, if_receives, resumed_key, rows_with, decided_by, decided_for, map_decides, forgotten_with, forgotten_for, map_forgets, all_rows, sent_by, map_by, rows_for, map_for, bound_to, bound_if, with_rows, key_resumed, forgotten_resumed, decisions_resumed, map_resumed, rows_resumed};
+ghost use Rattle.router_reply.specs.Resuming.{asked_key, key_taken, key_by, key_in, taken_key, attach_within, attach_in, receives, if_receives, resumed_key, rows_with, decided_by, decided_for, map_decides, forgotten_with, forgotten_for, map_forgets, all_rows, sent_by, map_by, rows_for, map_for, bound_to, bound_if, with_rows, if_sends, held_key, with_held, key_resumed, key_held, forgotten_resumed, decisions_resumed, map_resumed, rows_resumed};
 
+use crate::holding::hold_rows;
 use amqp_model::{Attach, Item, Perf, Role, UnsettledDelivery};
 use book_core::Book;
 use book_model::{Decision, LinkKey, RowNumber};
@@ -31,6 +32,8 @@ pub enum Resumption {
 /// What a producer's durable link takes up again when it is attached.
 #[derive(Drop)]
 pub struct ProducerResumption {
+    /// The link's key.
+    pub key: LinkKey,
     /// The rows of its terminus that the map of the attach lacks, by number, until they are planned.
     pub forgotten: Vec<RowNumber>,
     /// The router's map in the answer to the attach, until it is told (AMQP 1.0 part 2, section 2.7.3).
@@ -140,37 +143,63 @@ fn attach_in(event: &Event) -> Option<&Attach>
 }
 
 /// What a producer's attach does to the rows of the terminus with this key; nothing if there is no terminus.
-fn producer_taken(
+fn producer_plan_for(
     alloc: Global,
     book: &Book,
     attach: &Attach,
     key: &LinkKey,
-) -> Result<ProducerResumption, AllocError>
-    ensures forgotten { IfOk result (λ taken. taken.forgotten.items ≡ forgotten_rows (not attach.now.incomplete_unsettled) (entries_of attach.now.unsettled) (all_rows book.now (terminus_of key.now book.now.termini))) }
-    ensures mapped { IfOk result (λ taken. taken.map.items ≡ producer_map (not attach.now.incomplete_unsettled) (entries_of attach.now.unsettled) (all_rows book.now (terminus_of key.now book.now.termini))) }
+) -> Result<ProducerPlan, AllocError>
+    ensures forgotten { IfOk result (λ plan. plan.forgotten.items ≡ forgotten_rows (not attach.now.incomplete_unsettled) (entries_of attach.now.unsettled) (all_rows book.now (terminus_of key.now book.now.termini))) }
+    ensures mapped { IfOk result (λ plan. plan.map.items ≡ producer_map (not attach.now.incomplete_unsettled) (entries_of attach.now.unsettled) (all_rows book.now (terminus_of key.now book.now.termini))) }
 {
     let Some(terminus) = book.terminus_of(key) else {
-        return Ok(ProducerResumption {
+        return Ok(ProducerPlan {
             forgotten: Vec::new(alloc),
             map: Vec::new(alloc),
+            due: Vec::new(alloc),
         });
     };
     let complete = !attach.incomplete_unsettled;
     let rows = book.rows_of(terminus.number);
-    let plan = producer_plan(
+    producer_plan(
         alloc,
         terminus.number,
         rows,
         attach.unsettled.as_ref(),
         complete,
-    )?;
-    let ProducerPlan {
-        forgotten,
-        map,
-        due,
-    } = plan;
-    drop(due);
-    Ok(ProducerResumption { forgotten, map })
+    )
+}
+
+/// What a producer's link with this key takes up again after an attach.
+fn producer_taken(
+    alloc: Global,
+    book: &Book,
+    attach: &Attach,
+    key: LinkKey,
+) -> Result<ProducerResumption, AllocError>
+    ensures key { IfOk result (λ taken. taken.key ≡ key) }
+    ensures forgotten { IfOk result (λ taken. taken.forgotten.items ≡ forgotten_rows (not attach.now.incomplete_unsettled) (entries_of attach.now.unsettled) (all_rows book.now (terminus_of key book.now.termini))) }
+    ensures mapped { IfOk result (λ taken. taken.map.items ≡ producer_map (not attach.now.incomplete_unsettled) (entries_of attach.now.unsettled) (all_rows book.now (terminus_of key book.now.termini))) }
+{
+    match producer_plan_for(alloc, book, attach, &key) {
+        Ok(plan) => {
+            let ProducerPlan {
+                forgotten,
+                map,
+                due,
+            } = plan;
+            drop(due);
+            Ok(ProducerResumption {
+                key,
+                forgotten,
+                map,
+            })
+        }
+        Err(error) => {
+            drop(key);
+            Err(error)
+        }
+    }
 }
 
 /// What a consumer's attach does to the rows of the terminus with this key; nothing if there is no terminus.
@@ -237,6 +266,7 @@ fn resumption_by(
     key: LinkKey,
 ) -> Result<Resumption, AllocError>
     ensures key { IfOk result (λ r. key_resumed (Some r) ≡ if_receives (Some attach.now) (Some key)) }
+    ensures held { IfOk result (λ r. key_held (Some r) ≡ if_sends (Some attach.now) (Some key)) }
     ensures forgotten { IfOk result (λ r. forgotten_resumed (Some r) ≡ forgotten_for book.now (Some attach.now) (Some key)) }
     ensures decisions { IfOk result (λ r. decisions_resumed (Some r) ≡ decided_for book.now (Some attach.now) (if_receives (Some attach.now) (Some key))) }
     ensures map { IfOk result (λ r. map_resumed (Some r) ≡ map_for book.now (Some attach.now) (Some key)) }
@@ -244,9 +274,8 @@ fn resumption_by(
 {
     match attach.role {
         Role::Sender => {
-            let taken = producer_taken(alloc, book, attach, &key);
-            drop(key);
-            Ok(Resumption::Producer(taken?))
+            let taken = producer_taken(alloc, book, attach, key)?;
+            Ok(Resumption::Producer(taken))
         }
         Role::Receiver => {
             let taken = consumer_taken(alloc, book, attach, key)?;
@@ -263,6 +292,7 @@ fn resumption_with(
     key: Option<LinkKey>,
 ) -> Result<Option<Resumption>, AllocError>
     ensures key { IfOk result (λ r. key_resumed r ≡ if_receives (option_copied attach.entry) key) }
+    ensures held { IfOk result (λ r. key_held r ≡ if_sends (option_copied attach.entry) key) }
     ensures forgotten { IfOk result (λ r. forgotten_resumed r ≡ forgotten_for book.now (option_copied attach.entry) key) }
     ensures decisions { IfOk result (λ r. decisions_resumed r ≡ decided_for book.now (option_copied attach.entry) (if_receives (option_copied attach.entry) key)) }
     ensures map { IfOk result (λ r. map_resumed r ≡ map_for book.now (option_copied attach.entry) key) }
@@ -293,6 +323,7 @@ pub(crate) fn resumption_of(
     answer: &Answer,
 ) -> Result<Option<Resumption>, AllocError>
     ensures key { IfOk result (λ resumption. (t : List Entry) → TablesFind state.now t → key_resumed resumption ≡ resumed_key t event.now answer.now) }
+    ensures held { IfOk result (λ resumption. (t : List Entry) → TablesFind state.now t → key_held resumption ≡ held_key t event.now answer.now) }
     ensures forgotten { IfOk result (λ resumption. (t : List Entry) → TablesFind state.now t → forgotten_resumed resumption ≡ map_forgets book.now t event.now answer.now) }
     ensures decisions { IfOk result (λ resumption. (t : List Entry) → TablesFind state.now t → decisions_resumed resumption ≡ map_decides book.now t event.now answer.now) }
     ensures map { IfOk result (λ resumption. (t : List Entry) → TablesFind state.now t → map_resumed resumption ≡ map_for book.now (attach_in event.now) (taken_key t event.now answer.now)) }
@@ -306,6 +337,7 @@ pub(crate) fn resumption_of(
 pub(crate) fn planned_decisions(alloc: Global, resumption: &mut Option<Resumption>) -> Vec<Decision>
     ensures decisions { result.items ≡ decisions_resumed resumption.old }
     ensures key { key_resumed resumption.new ≡ key_resumed resumption.old }
+    ensures held { key_held resumption.new ≡ key_held resumption.old }
     ensures forgotten { forgotten_resumed resumption.new ≡ forgotten_resumed resumption.old }
     ensures map { map_resumed resumption.new ≡ map_resumed resumption.old }
     ensures rows { rows_resumed resumption.new ≡ rows_resumed resumption.old }
@@ -324,6 +356,7 @@ pub(crate) fn planned_forgotten(
 ) -> Vec<RowNumber>
     ensures forgotten { result.items ≡ forgotten_resumed resumption.old }
     ensures key { key_resumed resumption.new ≡ key_resumed resumption.old }
+    ensures held { key_held resumption.new ≡ key_held resumption.old }
     ensures map { map_resumed resumption.new ≡ map_resumed resumption.old }
     ensures rows { rows_resumed resumption.new ≡ rows_resumed resumption.old }
 {
@@ -339,6 +372,7 @@ pub(crate) fn planned_forgotten(
 pub fn told_map(alloc: Global, resumption: &mut Option<Resumption>) -> Vec<UnsettledDelivery>
     ensures map { result.items ≡ map_resumed resumption.old }
     ensures key { key_resumed resumption.new ≡ key_resumed resumption.old }
+    ensures held { key_held resumption.new ≡ key_held resumption.old }
     ensures rows { rows_resumed resumption.new ≡ rows_resumed resumption.old }
 {
     match resumption {
@@ -401,21 +435,39 @@ fn take_up_rows(state: &mut State, taken: ConsumerResumption) -> Result<(), Allo
     bind_if(state, at, rows)
 }
 
-/// Binds the rows that an attach takes up again to the consumer's link with their key, in order, if it is attached; a producer's
-/// attach binds none. It is called after the reply to the attach.
+/// The producer's link with its key has the rows of its terminus from now on, if it is attached.
+fn hold_up(state: &mut State, book: &Book, taken: ProducerResumption) -> Result<(), AllocError>
+    ensures { OnOk result ((t : List Entry) → TablesFit state.old t → TablesFit state.new (with_held book.now (Some taken.key) t)) }
+{
+    let ProducerResumption {
+        key,
+        forgotten,
+        map,
+    } = taken;
+    drop(forgotten);
+    drop(map);
+    let held = hold_rows(state, book, &key);
+    drop(key);
+    held
+}
+
+/// Binds the rows that an attach takes up again to the consumer's link with their key, in order, if it is attached; or joins the rows of its
+/// terminus, in the book after the event's acts, to the producer's link with its key. It is called after the reply to the attach.
 ///
 /// # Errors
 ///
 /// `AllocError` if memory was refused; the tables' contents are unspecified then.
-pub fn take_up(state: &mut State, resumption: Option<Resumption>) -> Result<(), AllocError>
-    ensures { OnOk result ((t : List Entry) → TablesFit state.old t → TablesFit state.new (with_rows (key_resumed resumption) (rows_resumed resumption) t)) }
+pub fn take_up(
+    state: &mut State,
+    book: &Book,
+    resumption: Option<Resumption>,
+) -> Result<(), AllocError>
+    ensures { OnOk result ((t : List Entry) → TablesFit state.old t
+        → TablesFit state.new (with_held book.now (key_held resumption) (with_rows (key_resumed resumption) (rows_resumed resumption) t))) }
 {
     match resumption {
         Some(Resumption::Consumer(taken)) => take_up_rows(state, taken),
-        Some(Resumption::Producer(taken)) => {
-            drop(taken);
-            Ok(())
-        }
+        Some(Resumption::Producer(taken)) => hold_up(state, book, taken),
         None => Ok(()),
     }
 }

@@ -9,7 +9,8 @@ ghost use Rattle.router_trace.specs.Frames.{told_of};
 ghost use Rattle.router_trace.specs.Links.{link, place_of, is_attached, durable_key, holds_durable};
 ghost use Rattle.router_trace.specs.Claims.{claims};
 ghost use Rattle.router_trace.specs.Settling.{part_of, middle_on, is_claimed, is_claimed_on, ids_claimed, open_ids, unbound};
-ghost use Rattle.router_trace.specs.Deliveries.{joined_by, acts_found, delivery, rank_at, ended_first, giving, is_to_tell, sending, named, next_id};
+ghost use Rattle.router_trace.specs.Deliveries.{called, joined_by, owned_in, acts_found, delivery, rank_at, ended_first, giving, is_to_tell, sending, named, next_id};
+ghost use Rattle.router_trace.specs.declared.binding.DeliveryName.TheVariants.{Row};
 ghost use Rattle.router_trace.specs.Following.{link_of, first_delivery, is_unsent_on, is_wide, is_busy, is_used, takes_more};
 ghost use Rattle.state_deliveries.specs.Calling.{Knows};
 ghost use Rattle.state_deliveries.specs.Finding.{IsFirst, IsFirstBy, is_above, is_beyond};
@@ -44,8 +45,8 @@ use book_model::{Act, LinkKey, RowNumber};
 use bytes::Bytes;
 use route_table::Table;
 use router_trace::{
-    Attachment, ConnectionId, Event, LinkAt, LinkState, Origin, Outgoing, Peer, Resumed,
-    SESSION_WINDOW, beat_item, link_flow_item,
+    Attachment, ConnectionId, DeliveryName, Event, Holding, LinkAt, LinkState, Origin, Outgoing,
+    Peer, Resumed, SESSION_WINDOW, beat_item, link_flow_item,
 };
 use state_connections::{Clocks, Connections, Peers, Ready, Refused, Taken};
 use state_deliveries::Delivery as Bound;
@@ -486,18 +487,26 @@ impl State {
         Ok(())
     }
 
-    /// Joins a producer's resumed delivery, which came whole, to a row that isn't forgotten, and has this outcome if it is decided: from now on the
-    /// row's outcome is reported to this delivery.
+    /// A producer's link has a row like this from now on, which has this outcome if it is decided. If its producer resumed it, the row's outcome is
+    /// reported to the producer's delivery.
     pub fn join(
         &mut self,
-        origin: Origin,
+        holding: Holding,
         row: RowNumber,
         outcome: Option<&DeliveryState>,
     ) -> Result<(), AllocError>
-        ensures { OnOk result ((t : List Entry) → TablesFit self.old t → TablesFit self.new (BoundTo (joined_by t origin row (option_copied outcome.entry)) ∷ t)) }
+        ensures { OnOk result ((t : List Entry) → TablesFit self.old t → TablesFit self.new (BoundTo (joined_by t holding row (option_copied outcome.entry)) ∷ t)) }
     {
-        self.messages.join(origin, row, outcome)?;
+        self.messages.join(holding, row, outcome)?;
         Ok(())
+    }
+
+    /// The producer's link, attached again, that has a row which its producer has neither resumed nor settled since.
+    pub fn owner_of(&self, row: RowNumber) -> Option<Origin>
+        ensures { (t : List Entry) → TablesFit self.now t → result ≡ owned_in (called t (Row row)) }
+    {
+        let deliveries = self.messages.deliveries();
+        deliveries.producers_of(DeliveryName::Row(row)).owned
     }
 
     /// The first delivery, in the order of binding, behind that with a number or of all, that is decided and whose outcome must be reported to its

@@ -20,6 +20,8 @@ use Rattle.router_trace.specs.declared.binding.BindingKind.{BindingKind}
 use Rattle.router_trace.specs.declared.binding.BindingKind.TheVariants as kind
 use Rattle.router_trace.specs.declared.binding.DeliveryName.{DeliveryName}
 use Rattle.router_trace.specs.declared.binding.DeliveryName.TheVariants.{Row, Counter}
+use Rattle.router_trace.specs.declared.binding.Holding.{Holding}
+use Rattle.router_trace.specs.declared.binding.Holding.TheVariants as holding
 use Rattle.router_trace.specs.declared.binding.JoinedTo.{JoinedTo}
 use Rattle.router_trace.specs.declared.binding.JoinedTo.TheVariants.{Standing, New}
 use Rattle.router_trace.specs.declared.binding.Origin.{Origin}
@@ -36,21 +38,46 @@ use Rattle.router_trace.specs.Connection.{has}
 use Rattle.router_trace.specs.Links.{ends_handle, ends_handle_in, is_lost}
 use Rattle.router_trace.specs.Sessions.{maps, theirs}
 
+-- How a producer's link has a row: by a delivery that resumed it, or without one. The link alone stands for its delivery then, with no id that means
+-- anything.
+abbrev pub link_alone : Attachment → Origin
+link_alone a = record { link = a; id = 0 }
+
+abbrev pub link_held : Holding → Attachment
+link_held (holding.Resumed p) = p.link
+link_held (holding.Unresumed a) = a
+link_held (holding.Settled a) = a
+
+abbrev pub resumed_held : Holding → Option Origin
+resumed_held (holding.Resumed p) = Some p
+resumed_held _ = None
+
+abbrev pub unresumed_held : Holding → Option Origin
+unresumed_held (holding.Unresumed a) = Some (link_alone a)
+unresumed_held _ = None
+
+abbrev pub settled_held : Holding → Option Origin
+settled_held (holding.Settled a) = Some (link_alone a)
+settled_held _ = None
+
 -- the producer's delivery of what is bound
 abbrev pub origin_of : BindingKind → Option Origin
 origin_of (kind.Message origin) = origin
 origin_of (kind.TakenUp u) = u.origin
-origin_of (kind.Joined p to) = Some p
+origin_of (kind.Joined q to) = resumed_held q
 
 -- a message that came, and not a row that is bound again
 abbrev pub is_message : BindingKind → Bool
 is_message (kind.Message origin) = true
 is_message _ = false
 
--- the producer's delivery that is joined to the delivery which has the row
+-- how a producer's link has the delivery which has the row, from now on; and the producer's delivery that is joined to it, if it resumes the row
+abbrev pub holds_standing : BindingKind → Option Holding
+holds_standing (kind.Joined q Standing) = Some q
+holds_standing _ = None
+
 abbrev pub joins_standing : BindingKind → Option Origin
-joins_standing (kind.Joined p Standing) = Some p
-joins_standing _ = None
+joins_standing k = option_and_then resumed_held (holds_standing k)
 
 -- how many deliveries were bound
 abbrev pub bindings : Trace → ℕ
@@ -58,7 +85,7 @@ bindings [] = 0
 bindings (Did s ∷ t) = bindings t
 bindings (Out d i ∷ t) = bindings t
 bindings (Took d n ∷ t) = bindings t
-bindings (Bound b ∷ t) = if is_none (joins_standing b.kind) then bindings t + 1 else bindings t
+bindings (Bound b ∷ t) = if is_none (holds_standing b.kind) then bindings t + 1 else bindings t
 bindings (Booked acts full ∷ t) = bindings t
 bindings (Began g ∷ t) = 0
 
@@ -120,7 +147,7 @@ number_named [] name = None
 number_named (Did s ∷ t) name = number_named t name
 number_named (Out d i ∷ t) name = number_named t name
 number_named (Took d n ∷ t) name = number_named t name
-number_named (Bound b ∷ t) name = if is_none (joins_standing b.kind) && same_name (name_in t b) name then Some (bindings t + 1) else number_named t name
+number_named (Bound b ∷ t) name = if is_none (holds_standing b.kind) && same_name (name_in t b) name then Some (bindings t + 1) else number_named t name
 number_named (Booked acts full ∷ t) name = number_named t name
 number_named (Began g ∷ t) name = None
 
@@ -145,6 +172,8 @@ pub record Delivery : Type 0 where
   pub told : Option Origin
   -- the producer's delivery, if that has a row and the producer settled it before it was decided
   pub early : Option Origin
+  -- the producer's link, if it has a row, and that was attached again, and its producer hasn't resumed or settled the row since
+  pub owned : Option Origin
   -- it has a row, and its consumer's link is durable; that link was suspended before it was decided
   pub lasting : Bool
   pub suspended : Bool
@@ -163,14 +192,18 @@ either_origin None told = told
 abbrev pub source : Delivery → Option Origin
 source d = either_origin d.origin d.told
 
--- the producer's delivery, settled by the producer or not
-abbrev pub sender : Delivery → Option Origin
-sender d = either_origin (source d) d.early
+-- the same, or the link alone that was attached again: the producer hasn't settled it
+abbrev pub unforgotten : Delivery → Option Origin
+unforgotten d = either_origin (source d) d.owned
 
--- The producer's delivery, as long as it counts for the producer's link: until the producer has settled it, and, if it has a row, until it
--- is decided too.
+-- the same, settled by the producer or not
+abbrev pub sender : Delivery → Option Origin
+sender d = either_origin (unforgotten d) d.early
+
+-- The producer's delivery, or its link alone, as long as it counts for the producer's link: until the producer has settled it, and, if it has a row, until
+-- it is decided too.
 abbrev pub holder : Delivery → Option Origin
-holder d = if is_none d.outcome then sender d else source d
+holder d = if is_none d.outcome then sender d else unforgotten d
 
 -- A row that is taken up again may be decided: it is sent only to settle it then. One that its consumer has is sent as resumed. One of which an incomplete
 -- map says nothing is kept on the link and not sent.
@@ -191,30 +224,44 @@ abbrev pub resumes : BindingKind → Bool
 resumes (kind.TakenUp u) = is_resumed u.how
 resumes _ = false
 
--- the producer's delivery that a row brings along if it is taken up again
-abbrev pub brought : (TakenUp → Option Origin) → BindingKind → Option Origin
-brought field (kind.TakenUp u) = field u
-brought field _ = None
+-- the producer's delivery that a row brings along if it is taken up again, and what it has of its producer if it is joined to that
+abbrev pub brought : (TakenUp → Option Origin) → (Holding → Option Origin) → BindingKind → Option Origin
+brought field held (kind.Message origin) = None
+brought field held (kind.TakenUp u) = field u
+brought field held (kind.Joined q to) = held q
 
--- The outcome that a row has already. Nothing is sent of a row to which its producer's delivery is joined: if it is undecided, it is suspended until
--- its consumer's link takes it up again.
+abbrev pub told_of : BindingKind → Option Origin
+told_of k = brought (λ u. u.told) (λ q. None) k
+
+abbrev pub early_of : BindingKind → Option Origin
+early_of k = brought (λ u. u.early) settled_held k
+
+abbrev pub owned_of : BindingKind → Option Origin
+owned_of k = brought (λ u. u.owned) unresumed_held k
+
+-- The outcome that a row has already; none if its producer has settled it. Nothing is sent of a row that is joined to its producer's link: if it is
+-- undecided, it is suspended until its consumer's link takes it up again.
 abbrev pub outcome_known : JoinedTo → Option DeliveryState
 outcome_known Standing = None
 outcome_known (New outcome) = outcome
 
+abbrev pub outcome_held : Holding → JoinedTo → Option DeliveryState
+outcome_held (holding.Settled a) to = None
+outcome_held _ to = outcome_known to
+
 abbrev pub outcome_in : BindingKind → Option DeliveryState
 outcome_in (kind.Message origin) = None
 outcome_in (kind.TakenUp u) = outcome_as u.how
-outcome_in (kind.Joined p to) = outcome_known to
+outcome_in (kind.Joined q to) = outcome_held q to
 
 abbrev pub is_sent : BindingKind → Bool
 is_sent (kind.Message origin) = true
 is_sent (kind.TakenUp u) = goes_out u.how
-is_sent (kind.Joined p to) = false
+is_sent (kind.Joined q to) = false
 
 -- it waits until its consumer's link takes it up
 abbrev pub is_put_off : BindingKind → Bool
-is_put_off (kind.Joined p to) = is_none (outcome_known to)
+is_put_off (kind.Joined q to) = is_none (outcome_held q to)
 is_put_off _ = false
 
 abbrev pub presettles : BindingKind → Bool
@@ -234,19 +281,23 @@ bound name rank b = record {
   sent = 0;
   going_on = is_sent b.kind;
   outcome = outcome_in b.kind;
-  told = brought (λ u. u.told) b.kind;
-  early = brought (λ u. u.early) b.kind;
+  told = told_of b.kind;
+  early = early_of b.kind;
+  owned = owned_of b.kind;
   lasting = has_row name && b.lasting;
   suspended = is_put_off b.kind;
   resumed = resumes b.kind;
 }
 
--- A producer's resumed delivery is joined to the one that has the row: from now on the outcome is reported to it, and nothing else changes.
+-- A producer's link has the delivery with the row. If the producer resumes it, the outcome is reported to its delivery from now on; if the link was only
+-- attached again, the delivery counts for it; if the producer settles it without resuming it, it counts no longer than it is undecided. Nothing else changes.
 abbrev pub with_origin : Origin → Delivery → Delivery
-with_origin p d = record d { origin = Some p; told = None; early = None }
+with_origin p d = record d { origin = Some p; told = None; early = None; owned = None }
 
-abbrev pub joined : DeliveryName → Origin → Delivery → Delivery
-joined name p d = if same_name d.name name then with_origin p d else d
+abbrev pub held_by : Holding → Delivery → Delivery
+held_by (holding.Resumed p) d = with_origin p d
+held_by (holding.Unresumed a) d = record d { owned = Some (link_alone a) }
+held_by (holding.Settled a) d = record d { early = Some (link_alone a); owned = None }
 
 -- it is sent only to settle it
 abbrev pub settles : Delivery → Bool
@@ -258,6 +309,11 @@ is_over d = not d.going_on && ((is_some d.outcome || d.suspended) && is_none (ho
 
 abbrev pub unless_over : Delivery → Option Delivery
 unless_over d = if is_over d then None else Some d
+
+-- the delivery with a name, which a producer's link has from now on
+abbrev pub joined : DeliveryName → Holding → Option Delivery → Option Delivery
+joined name q None = None
+joined name q (Some d) = if same_name d.name name then unless_over (held_by q d) else Some d
 
 -- The tag that the router gives a delivery: the row's number in 8 bytes, or the byte 76 (hexadecimal) and the counter in 8 bytes.
 abbrev pub byte_of : ℕ → ℕ → ℕ
@@ -416,7 +472,7 @@ is_gone_with gone None = false
 is_gone_with gone (Some p) = gone p.link
 
 abbrev pub forsaken : Delivery → Delivery
-forsaken d = record d { origin = None; told = None; early = None }
+forsaken d = record d { origin = None; told = None; early = None; owned = None }
 
 abbrev pub after_origin : (Attachment → Bool) → Delivery → Delivery
 after_origin gone d = if is_gone_with gone (sender d) then forsaken d else d
@@ -538,16 +594,16 @@ abbrev pub unless_called : DeliveryName → Option Delivery → Option Delivery
 unless_called name None = None
 unless_called name (Some d) = if same_name d.name name then None else Some d
 
-abbrev pub with_binding : Option Origin → DeliveryName → Rank → Binding → Bool → Option Delivery → Option Delivery
+abbrev pub with_binding : Option Holding → DeliveryName → Rank → Binding → Bool → Option Delivery → Option Delivery
 with_binding None name rank b new v = if new then Some (bound name rank b) else unless_called name v
-with_binding (Some p) name rank b new v = option_map (joined name p) v
+with_binding (Some q) name rank b new v = joined name q v
 
 abbrev pub delivery : Trace → ℕ → Option Delivery
 delivery [] n = None
 delivery (Did s ∷ t) n = option_and_then (λ d. unless_over (after_event s.event (channels_found t) (named t) (acts_found t) n d)) (delivery t n)
 delivery (Out c i ∷ t) n = option_and_then (λ d. unless_over (after_put (number_named t) i c n (sending t c) d)) (delivery t n)
 delivery (Took c k ∷ t) n = delivery t n
-delivery (Bound b ∷ t) n = with_binding (joins_standing b.kind) (name_in t b) (rank_in t b) b (bindings t + 1 == n) (delivery t n)
+delivery (Bound b ∷ t) n = with_binding (holds_standing b.kind) (name_in t b) (rank_in t b) b (bindings t + 1 == n) (delivery t n)
 delivery (Booked acts full ∷ t) n = delivery t n
 delivery (Began g ∷ t) n = None
 
@@ -567,17 +623,21 @@ abbrev pub early_in : Option Delivery → Option Origin
 early_in None = None
 early_in (Some d) = d.early
 
--- A producer's resumed delivery is joined to a row with this outcome, if it has one: to the delivery that has the row, or else to a new one. The
--- producer's link stands in the consumer's place there, and it has no message: a row that is taken up again has both from elsewhere.
+abbrev pub owned_in : Option Delivery → Option Origin
+owned_in None = None
+owned_in (Some d) = d.owned
+
+-- A row with this outcome, if it has one, is joined to its producer's link: the delivery that has the row, or else a new one. The producer's link stands
+-- in the consumer's place there, and it has no message: a row that is taken up again has both from elsewhere.
 abbrev pub joined_to : Option Delivery → Option DeliveryState → JoinedTo
 joined_to (Some d) outcome = Standing
 joined_to None outcome = New outcome
 
-abbrev pub joining : Origin → RowNumber → JoinedTo → Binding
-joining p row to = record { consumer = p.link; row = Some row; lasting = true; format = 0; payload = []; kind = kind.Joined p to }
+abbrev pub joining : Holding → RowNumber → JoinedTo → Binding
+joining q row to = record { consumer = link_held q; row = Some row; lasting = true; format = 0; payload = []; kind = kind.Joined q to }
 
-abbrev pub joined_by : Trace → Origin → RowNumber → Option DeliveryState → Binding
-joined_by t p row outcome = joining p row (joined_to (called t (Row row)) outcome)
+abbrev pub joined_by : Trace → Holding → RowNumber → Option DeliveryState → Binding
+joined_by t q row outcome = joining q row (joined_to (called t (Row row)) outcome)
 
 -- the place in the order of binding of the delivery with a number
 abbrev pub ranked : Option Delivery → Rank

@@ -1,6 +1,6 @@
 //! Messages bound to consumer links.
 ghost use Rattle.std.specs.Prelude.{◌≡◌};
-ghost use Rattle.router_trace.specs.Deliveries.{has_row, rank_of, is_earlier};
+ghost use Rattle.router_trace.specs.Deliveries.{has_row, link_held, resumed_held, rank_of, is_earlier};
 
 use crate::handle::Attachment;
 use amqp_model::DeliveryState;
@@ -95,14 +95,51 @@ pub struct TakenUp {
     pub told: Option<Origin>,
     /// The producer's delivery, if the producer settled it before the row was decided.
     pub early: Option<Origin>,
+    /// The producer's link, if that was attached again, and its producer hasn't resumed or settled the row since.
+    pub owned: Option<Origin>,
 }
 
-/// The delivery of a row that its producer joins with a resumed one (AMQP 1.0 part 2, section 2.6.13).
+/// How a producer's link has a row that it had at an earlier attachment (AMQP 1.0 part 2, section 2.6.13).
+#[derive(Clone, Copy, Debug, PartialEq, Eq)]
+pub enum Holding {
+    /// By this delivery, with which the producer resumed it: from now on the row's outcome is reported to that.
+    Resumed(Origin),
+    /// By itself: the producer has neither resumed nor settled the row since the link was attached. It counts for the link.
+    Unresumed(Attachment),
+    /// The producer has settled the row. It counts for the link until it is decided.
+    Settled(Attachment),
+}
+
+impl Holding {
+    /// The producer's link.
+    pub fn link(self) -> Attachment
+        ensures { result ≡ link_held self }
+    {
+        match self {
+            Holding::Resumed(origin) => origin.link,
+            Holding::Unresumed(link) => link,
+            Holding::Settled(link) => link,
+        }
+    }
+
+    /// The producer's delivery, if the producer resumed the row.
+    pub fn resumed(self) -> Option<Origin>
+        ensures { result ≡ resumed_held self }
+    {
+        match self {
+            Holding::Resumed(origin) => Some(origin),
+            _ => None,
+        }
+    }
+}
+
+/// The delivery of a row that a producer's link has.
 #[derive(Debug, Drop)]
 pub enum JoinedTo {
     /// The one that has the row now. It keeps its number, its link, its id, and what was sent of it.
     Standing,
-    /// A new one, since none has the row: it has the row's outcome, or else it is suspended. Nothing of it is sent.
+    /// A new one, since none has the row: it has the row's outcome, or else it is suspended. Nothing of it is sent. A row that its producer settled is
+    /// undecided.
     New(Option<DeliveryState>),
 }
 
@@ -113,14 +150,14 @@ pub enum BindingKind {
     Message(Option<Origin>),
     /// A row that was bound before, or in an earlier run, and that its consumer's link takes up again. No consumer is chosen.
     TakenUp(TakenUp),
-    /// A row, to which its producer's resumed delivery is joined: from now on the row's outcome is reported to that. No consumer is chosen.
-    Joined(Origin, JoinedTo),
+    /// A row that its producer's link has from now on like this. No consumer is chosen.
+    Joined(Holding, JoinedTo),
 }
 
 /// A message bound to a consumer's link.
 #[derive(Debug, Drop)]
 pub struct Binding {
-    /// The consumer's link; the producer's, if a producer's delivery is joined to a row.
+    /// The consumer's link; the producer's, if a row is joined to that.
     pub consumer: Attachment,
     /// Its row in the book, if it is durable.
     pub row: Option<RowNumber>,

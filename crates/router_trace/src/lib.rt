@@ -13,7 +13,9 @@ mod router_id;
 mod tags;
 mod terms;
 
-pub use binding::{Binding, BindingKind, DeliveryName, JoinedTo, Origin, Rank, Resumed, TakenUp};
+pub use binding::{
+    Binding, BindingKind, DeliveryName, Holding, JoinedTo, Origin, Rank, Resumed, TakenUp,
+};
 pub use channel::PeerChannel;
 pub use condition::Condition;
 pub use durable::is_durable;

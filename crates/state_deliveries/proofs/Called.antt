@@ -15,14 +15,14 @@ use Rattle.book_model.specs.declared.act.Act.{Act}
 use Rattle.router_trace.specs.declared.binding.Binding.{Binding}
 use Rattle.router_trace.specs.declared.binding.DeliveryName.{DeliveryName}
 use Rattle.router_trace.specs.declared.binding.DeliveryName.TheVariants.{Row, Counter}
-use Rattle.router_trace.specs.declared.binding.Origin.{Origin}
+use Rattle.router_trace.specs.declared.binding.Holding.{Holding}
 use Rattle.router_trace.specs.declared.binding.Rank.{Rank}
 use Rattle.router_trace.specs.declared.event.Event.{Event}
 use Rattle.router_trace.specs.declared.event.Event.TheVariants as event
 use Rattle.router_trace.specs.declared.channel.PeerChannel.{PeerChannel}
 use Rattle.router_trace.specs.declared.handle.Attachment.{Attachment}
 use Rattle.router_trace.specs.Trace.{Trace, Did, Out, Took, Bound, Booked, Began}
-use Rattle.router_trace.specs.Deliveries.{Delivery, called, source, delivery, bindings, bound, joins_standing, with_binding, same_name, name_in, number_named, unless_over, unless_called, is_over, untold, unsettled, ended, decided_at_end, suspended_at_end, closes, after_ends, is_gone_with, after_frame, put_in, after_put, told, decided, is_undecided, is_meant, is_named, is_number, carried, tag_in, disposed, is_on, is_settled_at, heard_in, heard, after_event, ended_by, lost_with, origin_id, sending, named, decision, terminal, sender, forsaken, channels_found, acts_found, rank_in}
+use Rattle.router_trace.specs.Deliveries.{Delivery, called, source, delivery, bindings, bound, holds_standing, with_binding, same_name, name_in, number_named, unless_over, unless_called, is_over, untold, unsettled, ended, decided_at_end, suspended_at_end, closes, after_ends, is_gone_with, after_frame, put_in, after_put, told, decided, is_undecided, is_meant, is_named, is_number, carried, tag_in, disposed, is_on, is_settled_at, heard_in, heard, after_event, ended_by, lost_with, origin_id, sending, named, decision, terminal, sender, forsaken, channels_found, acts_found, rank_in}
 use Rattle.state_deliveries.specs.declared.by_name.ByName.{ByName}
 use Rattle.state_deliveries.specs.declared.change.Change.{Change}
 use Rattle.state_deliveries.specs.declared.change.Change.TheVariants as change
@@ -159,7 +159,7 @@ there_named (Out c i ∷ t) n d e =
 there_named (Took c k ∷ t) n d e = there_named t n d e
 there_named (Booked acts full ∷ t) n d e = there_named t n d e
 there_named (Began g ∷ t) n d e = absurd cc
-there_named (Bound b ∷ t) n d e = by_kind (joins_standing b.kind) e (there_named t n)
+there_named (Bound b ∷ t) n d e = by_kind (holds_standing b.kind) e (there_named t n)
   where
     newest : DeliveryName
     newest = name_in t b
@@ -180,11 +180,11 @@ there_named (Bound b ∷ t) n d e = by_kind (joins_standing b.kind) e (there_nam
         let old = uncalled newest (delivery t n) d (sym (ap (λ (x : Bool). if x then Some (bound newest (rank_in t b) b) else unless_called newest (delivery t n)) q) ∙ f) in
         ap (λ x. if x then Some (bindings t + 1) else number_named t d.name) (same_back newest d.name ∙ old.1) ∙ rest old.0
 
-    by_kind : (j : Option Origin) → with_binding j newest (rank_in t b) b (bindings t + 1 == n) (delivery t n) ≡ Some d
+    by_kind : (j : Option Holding) → with_binding j newest (rank_in t b) b (bindings t + 1 == n) (delivery t n) ≡ Some d
         → ((x : Delivery) → delivery t n ≡ Some x → number_named t x.name ≡ Some n)
         → (if is_none j && same_name newest d.name then Some (bindings t + 1) else number_named t d.name) ≡ Some n
     by_kind None f rest = by_test (bindings t + 1 == n) refl f (rest d)
-    by_kind (Some p) f rest = let was = was_joined newest p (delivery t n) d f in ap (number_named t) was.2 ∙ rest was.0 was.1
+    by_kind (Some q) f rest = let was = was_joined newest q (delivery t n) d f in ap (number_named t) was.2 ∙ rest was.0 was.1
 
 -- no binding has two names
 abbrev number_of : Option ℕ → ℕ
@@ -198,7 +198,7 @@ one_name (Out c i ∷ t) a b n e f = one_name t a b n e f
 one_name (Took c k ∷ t) a b n e f = one_name t a b n e f
 one_name (Booked acts full ∷ t) a b n e f = one_name t a b n e f
 one_name (Began g ∷ t) a b n e f = absurd cc
-one_name (Bound x ∷ t) a b n e f = by_kind (is_none (joins_standing x.kind)) e f (one_name t a b n)
+one_name (Bound x ∷ t) a b n e f = by_kind (is_none (holds_standing x.kind)) e f (one_name t a b n)
   where
     high : (k n : ℕ) → Some (k + 1) ≡ Some n → n ≤ k → ⊥
     high k n is low = let same : k + 1 ≡ n = ap number_of is in omega (arith, same, low)

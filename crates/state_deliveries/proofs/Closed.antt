@@ -1,7 +1,7 @@
 -- A delivery that isn't undecided never becomes undecided again.
 use Rattle.std.proofs.Common.{◌≡◌, ◌≤◌, ◌+◌, ℕ, Bool, true, false, refl, arith, ◌∷◌, length, List, Option, Some, None}
 use Rattle.std.specs.Prelude.{◌&&◌, ◌||◌, ◌==◌, not, if◌then◌else◌, is_none}
-use Rattle.std.specs.Option.{option_and_then, option_map}
+use Rattle.std.specs.Option.{option_and_then}
 use Rattle.std.proofs.lemmas.Bool.{eqb-true}
 use Rattle.amqp_model.specs.declared.perf.Disposition.{Disposition}
 use Rattle.amqp_model.specs.declared.perf.Perf.{Perf}
@@ -14,13 +14,14 @@ use Rattle.amqp_model.specs.declared.item.Item.{Item}
 use Rattle.amqp_model.specs.declared.item.Item.TheVariants as item
 use Rattle.book_model.specs.declared.act.Act.{Act}
 use Rattle.router_trace.specs.declared.binding.DeliveryName.{DeliveryName}
-use Rattle.router_trace.specs.declared.binding.Origin.{Origin}
+use Rattle.router_trace.specs.declared.binding.Holding.{Holding}
+use Rattle.router_trace.specs.declared.binding.Holding.TheVariants as holding
 use Rattle.router_trace.specs.declared.event.Event.{Event}
 use Rattle.router_trace.specs.declared.event.Event.TheVariants as event
 use Rattle.router_trace.specs.declared.channel.PeerChannel.{PeerChannel}
 use Rattle.router_trace.specs.declared.handle.Attachment.{Attachment}
 use Rattle.router_trace.specs.Trace.{Entry, Trace, Did, Out, Took, Booked, Bound, Began}
-use Rattle.router_trace.specs.Deliveries.{Delivery, source, delivery, bindings, bound, joined, joins_standing, with_binding, with_origin, name_in, same_name, number_named, unless_called, unless_over, is_over, is_undecided, after_ends, is_gone_with, ended, decided_at_end, suspended_at_end, untold, unsettled, failed, closes, after_put, after_frame, after_event, put_in, is_number, carried, tag_in, told, is_meant, origin_id, heard, heard_in, given, outcome_named, outcome_or, disposed, decided, is_settled_at, is_on, ended_by, lost_with, named, sending, sender, forsaken, channels_found, acts_found, rank_in}
+use Rattle.router_trace.specs.Deliveries.{Delivery, source, delivery, bindings, bound, held_by, holds_standing, joined, with_binding, name_in, same_name, number_named, unless_called, unless_over, is_over, is_undecided, after_ends, is_gone_with, ended, decided_at_end, suspended_at_end, untold, unsettled, failed, closes, after_put, after_frame, after_event, put_in, is_number, carried, tag_in, told, is_meant, origin_id, heard, heard_in, given, outcome_named, outcome_or, disposed, decided, is_settled_at, is_on, ended_by, lost_with, named, sending, sender, forsaken, channels_found, acts_found, rank_in}
 use Rattle.amqp_model.specs.declared.state.DeliveryState.TheVariants as state
 use Rattle.state_deliveries.specs.Naming.{is_open}
 
@@ -132,7 +133,7 @@ stays_closed (Out c i) t n there closed = closed_after (after_put (number_named 
 stays_closed (Took c k) t n there closed = closed
 stays_closed (Began g) t n there closed = refl
 stays_closed (Booked acts full) t n there closed = closed
-stays_closed (Bound b) t n there closed = by_kind (joins_standing b.kind)
+stays_closed (Bound b) t n there closed = by_kind (holds_standing b.kind)
   where
     uncalled : (v : Option Delivery) → is_open v ≡ false → is_open (unless_called (name_in t b) v) ≡ false
     uncalled None e = e
@@ -146,14 +147,19 @@ stays_closed (Bound b) t n there closed = by_kind (joins_standing b.kind)
     fresh true e = let is : bindings t + 1 ≡ n = eqb-true (bindings t + 1) n e in absurd (omega (arith, is, there))
     fresh false e = uncalled (delivery t n) closed
 
-    rejoined : (p : Origin) (v : Option Delivery) → is_open v ≡ false → is_open (option_map (joined (name_in t b) p) v) ≡ false
-    rejoined p None e = e
-    rejoined p (Some d) e = by_test (same_name d.name (name_in t b))
+    held : (q : Holding) (d : Delivery) → is_undecided d ≡ false → is_undecided (held_by q d) ≡ false
+    held (holding.Resumed p) d e = e
+    held (holding.Unresumed a) d e = e
+    held (holding.Settled a) d e = e
+
+    rejoined : (q : Holding) (v : Option Delivery) → is_open v ≡ false → is_open (joined (name_in t b) q v) ≡ false
+    rejoined q None e = e
+    rejoined q (Some d) e = by_test (same_name d.name (name_in t b))
       where
-        by_test : (q : Bool) → is_undecided (if q then with_origin p d else d) ≡ false
-        by_test true = e
+        by_test : (is : Bool) → is_open (if is then unless_over (held_by q d) else Some d) ≡ false
+        by_test true = closed_after (held_by q) (held q) (Some d) e
         by_test false = e
 
-    by_kind : (j : Option Origin) → is_open (with_binding j (name_in t b) (rank_in t b) b (bindings t + 1 == n) (delivery t n)) ≡ false
+    by_kind : (j : Option Holding) → is_open (with_binding j (name_in t b) (rank_in t b) b (bindings t + 1 == n) (delivery t n)) ≡ false
     by_kind None = fresh (bindings t + 1 == n) refl
-    by_kind (Some p) = rejoined p (delivery t n) closed
+    by_kind (Some q) = rejoined q (delivery t n) closed

@@ -12,7 +12,7 @@ use Rattle.book_model.specs.declared.act.Decision.{Decision}
 use Rattle.router_trace.specs.declared.binding.DeliveryName.{DeliveryName}
 use Rattle.router_trace.specs.declared.binding.DeliveryName.TheVariants.{Row, Counter}
 use Rattle.router_trace.specs.declared.binding.Origin.{Origin}
-use Rattle.router_trace.specs.Deliveries.{Delivery, source, sender, either_origin, is_over, unless_over, given, giving, outcome_by, outcome_or, outcome_among, outcome_named, same_name}
+use Rattle.router_trace.specs.Deliveries.{Delivery, unforgotten, sender, either_origin, is_over, unless_over, given, giving, outcome_by, outcome_or, outcome_among, outcome_named, same_name}
 use Rattle.router_trace.proofs.Numbers.{equal_back}
 use Rattle.state_deliveries.specs.Calling.{is_called}
 use Rattle.state_deliveries.specs.Giving.{after_acts, attaches, with_outcome}
@@ -49,7 +49,7 @@ other_act act v other keeps = left (act ∷ []) v (λ name. none name) keeps
 
 -- a delivery that is over stays over when it is given an outcome
 abbrev over_with : Delivery → Option DeliveryState → Bool
-over_with d o = not d.going_on && ((is_some o || d.suspended) && is_none (if is_none o then sender d else source d))
+over_with d o = not d.going_on && ((is_some o || d.suspended) && is_none (if is_none o then sender d else unforgotten d))
 
 holder_gone : (g s : Bool) (p early : Option Origin) → (not g && ((false || s) && is_none (either_origin p early))) ≡ true → (not g && (true && is_none p)) ≡ true
 holder_gone true s p early e = e
@@ -60,7 +60,7 @@ holder_gone false true (Some q) early e = e
 over_given : (d : Delivery) (o made : Option DeliveryState) → over_with d o ≡ true → over_with d (outcome_or o made) ≡ true
 over_given d (Some s) made e = e
 over_given d None None e = e
-over_given d None (Some s) e = holder_gone d.going_on d.suspended (source d) d.early e
+over_given d None (Some s) e = holder_gone d.going_on d.suspended (unforgotten d) d.early e
 
 over_stays : (acts : List Act) (d : Delivery) → is_over d ≡ true → is_over (given acts d) ≡ true
 over_stays acts d e = over_given d d.outcome (outcome_named acts d.name) e

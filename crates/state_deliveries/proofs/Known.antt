@@ -1,7 +1,7 @@
 -- The numbers that a table keeps agreeing with the trace, but for deliveries that are gone.
 use Rattle.std.proofs.Common.{◌≡◌, ◌∙◌, ◌≤◌, ◌+◌, ℕ, Bool, true, false, refl, sym, ap, subst, arith, List, ◌∷◌, Option, Some, None}
 use Rattle.std.specs.Prelude.{◌==◌, ◌&&◌, if◌then◌else◌}
-use Rattle.std.specs.Option.{option_and_then, option_map}
+use Rattle.std.specs.Option.{option_and_then}
 use Rattle.std.proofs.lemmas.Bool.{eqb-true}
 use Rattle.std.proofs.lemmas.Bool.Decides.{nat_tests}
 use Rattle.amqp_model.specs.declared.perf.Perf.{Perf}
@@ -13,9 +13,9 @@ use Rattle.amqp_model.specs.declared.perf.Close.{Close}
 use Rattle.amqp_model.specs.declared.item.Item.{Item}
 use Rattle.amqp_model.specs.declared.item.Item.TheVariants as item
 use Rattle.router_trace.specs.declared.binding.DeliveryName.{DeliveryName}
-use Rattle.router_trace.specs.declared.binding.Origin.{Origin}
+use Rattle.router_trace.specs.declared.binding.Holding.{Holding}
 use Rattle.router_trace.specs.Trace.{Entry, Trace, Did, Out, Took, Bound, Booked, Began}
-use Rattle.router_trace.specs.Deliveries.{Delivery, delivery, bindings, bound, joined, joins_standing, with_binding, name_in, number_named, unless_over, unless_called, after_event, after_put, is_number, tagged, number_tagged, carried, tag_in, sending, sending_in, sending_by, named, channels_found, acts_found, rank_in}
+use Rattle.router_trace.specs.Deliveries.{Delivery, delivery, bindings, bound, holds_standing, joined, with_binding, name_in, number_named, unless_over, unless_called, after_event, after_put, is_number, tagged, number_tagged, carried, tag_in, sending, sending_in, sending_by, named, channels_found, acts_found, rank_in}
 use Rattle.state_deliveries.specs.Calling.{IsGone, Knows}
 use Rattle.state_deliveries.specs.Fits.{carried_in, carried_by}
 use Rattle.state_deliveries.proofs.Low.{IsLow}
@@ -30,15 +30,15 @@ gone_stays (Out c i) t n low gone = gone_after (λ d. unless_over (after_put (nu
 gone_stays (Took c k) t n low gone = gone
 gone_stays (Booked acts full) t n low gone = gone
 gone_stays (Began g) t n low gone = refl
-gone_stays (Bound b) t n low gone = by_kind (joins_standing b.kind)
+gone_stays (Bound b) t n low gone = by_kind (holds_standing b.kind)
   where
     apart : (k n : ℕ) → n ≤ k → (k + 1 == n) ≡ false
     apart k n low = grind (arith, nat_tests)
 
-    by_kind : (j : Option Origin) → with_binding j (name_in t b) (rank_in t b) b (bindings t + 1 == n) (delivery t n) ≡ None
+    by_kind : (j : Option Holding) → with_binding j (name_in t b) (rank_in t b) b (bindings t + 1 == n) (delivery t n) ≡ None
     by_kind None =
         ap (λ x. if x then Some (bound (name_in t b) (rank_in t b) b) else unless_called (name_in t b) (delivery t n)) (apart (bindings t) n low) ∙ ap (unless_called (name_in t b)) gone
-    by_kind (Some p) = ap (option_map (joined (name_in t b) p)) gone
+    by_kind (Some q) = ap (joined (name_in t b) q) gone
 
 pub still_known : (e : Entry) (t : Trace) (a b : Option ℕ) → IsLow (bindings t) b → Knows (delivery t) a b → Knows (delivery (e ∷ t)) a b
 still_known e t (Some n) b low x = x

@@ -9,7 +9,7 @@ use Rattle.amqp_model.specs.declared.item.Item.TheVariants as item
 use Rattle.router_trace.specs.declared.binding.DeliveryName.{DeliveryName}
 use Rattle.router_trace.specs.Trace.{Trace, Did, Out, Took, Bound, Booked, Began}
 use Rattle.router_trace.specs.Links.{ends_handle_in, is_lost}
-use Rattle.router_trace.specs.Deliveries.{bindings, joins_standing, same_name, name_in, number_named, tagged, number_tagged, carried, tag_in, sending, sending_in, sending_by, named, named_in, named_by, is_id}
+use Rattle.router_trace.specs.Deliveries.{bindings, holds_standing, same_name, name_in, number_named, tagged, number_tagged, carried, tag_in, sending, sending_in, sending_by, named, named_in, named_by, is_id}
 
 abbrev pub IsLow : ℕ → Option ℕ → Type 0
 IsLow k None = Unit {0}
@@ -39,7 +39,7 @@ low_number [] name = tt
 low_number (Did s ∷ t) name = low_number t name
 low_number (Out c i ∷ t) name = low_number t name
 low_number (Took c k ∷ t) name = low_number t name
-low_number (Bound b ∷ t) name = by_kind (is_none (joins_standing b.kind)) (low_number t name)
+low_number (Bound b ∷ t) name = by_kind (is_none (holds_standing b.kind)) (low_number t name)
   where
     by_kind : (new : Bool) → IsLow (bindings t) (number_named t name)
         → IsLow (if new then bindings t + 1 else bindings t) (if new && same_name (name_in t b) name then Some (bindings t + 1) else number_named t name)
@@ -87,7 +87,7 @@ low_sending (Out d i ∷ t) c o h =
     either (bindings t) (d == c) (sending_by (number_named t) i o h (sending t c o h)) (sending t c o h)
     (low_sending_by (bindings t) (number_named t) (low_number t) i o h (sending t c o h) (low_sending t c o h)) (low_sending t c o h)
 low_sending (Took d n ∷ t) c o h = low_sending t c o h
-low_sending (Bound b ∷ t) c o h = grown (is_none (joins_standing b.kind)) (bindings t) (sending t c o h) (low_sending t c o h)
+low_sending (Bound b ∷ t) c o h = grown (is_none (holds_standing b.kind)) (bindings t) (sending t c o h) (low_sending t c o h)
 low_sending (Booked acts full ∷ t) c o h = low_sending t c o h
 low_sending (Began g ∷ t) c o h = tt
 
@@ -112,6 +112,6 @@ low_named (Out d i ∷ t) c o id =
     either (bindings t) (d == c) (named_by (number_named t) i o id (named t c o id)) (named t c o id)
     (low_named_by (bindings t) (number_named t) (low_number t) i o id (named t c o id) (low_named t c o id)) (low_named t c o id)
 low_named (Took d n ∷ t) c o id = low_named t c o id
-low_named (Bound b ∷ t) c o id = grown (is_none (joins_standing b.kind)) (bindings t) (named t c o id) (low_named t c o id)
+low_named (Bound b ∷ t) c o id = grown (is_none (holds_standing b.kind)) (bindings t) (named t c o id) (low_named t c o id)
 low_named (Booked acts full ∷ t) c o id = low_named t c o id
 low_named (Began g ∷ t) c o id = tt

@@ -1,7 +1,7 @@
 -- How an entry changes a delivery, by how a table changes it.
 use Rattle.std.proofs.Common.{◌≡◌, ◌∙◌, ℕ, Bool, true, false, refl, sym, ap, List, [], ◌∷◌, length, ◌+◌, Option, Some, None, Result, Ok, Err}
 use Rattle.std.specs.Prelude.{◌&&◌, ◌==◌, if◌then◌else◌}
-use Rattle.std.specs.Option.{option_and_then, option_map}
+use Rattle.std.specs.Option.{option_and_then}
 use Rattle.std.specs.Result.{OnOk}
 use Rattle.amqp_session.specs.Ranges.{in_range}
 use Rattle.amqp_model.specs.declared.perf.Disposition.{Disposition}
@@ -13,10 +13,11 @@ use Rattle.amqp_model.specs.declared.perf.Transfer.{Transfer}
 use Rattle.amqp_model.specs.declared.item.Item.{Item}
 use Rattle.amqp_model.specs.declared.item.Item.TheVariants as item
 use Rattle.router_trace.specs.declared.binding.DeliveryName.{DeliveryName}
+use Rattle.router_trace.specs.declared.binding.Holding.{Holding}
 use Rattle.router_trace.specs.declared.binding.Origin.{Origin}
 use Rattle.router_trace.specs.declared.handle.Attachment.{Attachment}
 use Rattle.router_trace.specs.Trace.{Trace, Did, Out, Took, Bound, Booked, Began}
-use Rattle.router_trace.specs.Deliveries.{Delivery, source, delivery, named, after_event, bindings, bound, joined, joins_standing, with_binding, with_origin, name_in, same_name, number_named, unless_called, unless_over, is_over, after_ends, after_put, after_frame, put_in, ended_by, is_number, carried, tag_in, told, is_meant, origin_id, stands_on, untold, unsettled, last_of, sending, sender, channels_found, acts_found, rank_in}
+use Rattle.router_trace.specs.Deliveries.{Delivery, source, delivery, named, after_event, bindings, bound, held_by, holds_standing, joined, with_binding, name_in, same_name, number_named, unless_called, unless_over, is_over, after_ends, after_put, after_frame, put_in, ended_by, is_number, carried, tag_in, told, is_meant, origin_id, stands_on, untold, unsettled, last_of, sending, sender, channels_found, acts_found, rank_in}
 use Rattle.state_deliveries.specs.declared.change.Change.{Change}
 use Rattle.state_deliveries.specs.declared.change.Change.TheVariants as change
 use Rattle.state_deliveries.specs.declared.change.Gone.TheVariants as gone
@@ -24,7 +25,7 @@ use Rattle.state_deliveries.specs.declared.store.Store.{Store}
 use Rattle.state_deliveries.specs.Fits.{StoreFit}
 use Rattle.state_deliveries.specs.Indexing.{is_by_place, are_by_place}
 use Rattle.state_deliveries.specs.Stepping.{is_gone, comes_with_id, changed, after_change, after_any, put_change, put_by, IsKept}
-use Rattle.state_deliveries.proofs.Joined.{bound_kept, origin_kept}
+use Rattle.state_deliveries.proofs.Joined.{bound_kept}
 
 -- a delivery in a trace isn't over
 kept_once : (d : Delivery) → IsKept (unless_over d)
@@ -45,7 +46,7 @@ kept (Out c i ∷ t) n = kept_after (after_put (number_named t) i c n (sending t
 kept (Took c k ∷ t) n = kept t n
 kept (Began g ∷ t) n = refl
 kept (Booked acts full ∷ t) n = kept t n
-kept (Bound b ∷ t) n = by_kind (joins_standing b.kind) (kept t n)
+kept (Bound b ∷ t) n = by_kind (holds_standing b.kind) (kept t n)
   where
     uncalled : (v : Option Delivery) → IsKept v → IsKept (unless_called (name_in t b) v)
     uncalled None keeps = keeps
@@ -59,17 +60,17 @@ kept (Bound b ∷ t) n = by_kind (joins_standing b.kind) (kept t n)
     fresh true keeps = bound_kept (name_in t b) (rank_in t b) b
     fresh false keeps = uncalled (delivery t n) keeps
 
-    rejoined : (p : Origin) (v : Option Delivery) → IsKept v → IsKept (option_map (joined (name_in t b) p) v)
-    rejoined p None keeps = refl
-    rejoined p (Some d) keeps = by_test (same_name d.name (name_in t b))
+    rejoined : (q : Holding) (v : Option Delivery) → IsKept v → IsKept (joined (name_in t b) q v)
+    rejoined q None keeps = refl
+    rejoined q (Some d) keeps = by_test (same_name d.name (name_in t b))
       where
-        by_test : (q : Bool) → IsKept (Some (if q then with_origin p d else d))
-        by_test true = origin_kept p d
+        by_test : (is : Bool) → IsKept (if is then unless_over (held_by q d) else Some d)
+        by_test true = kept_once (held_by q d)
         by_test false = keeps
 
-    by_kind : (j : Option Origin) → IsKept (delivery t n) → IsKept (with_binding j (name_in t b) (rank_in t b) b (bindings t + 1 == n) (delivery t n))
+    by_kind : (j : Option Holding) → IsKept (delivery t n) → IsKept (with_binding j (name_in t b) (rank_in t b) b (bindings t + 1 == n) (delivery t n))
     by_kind None keeps = fresh (bindings t + 1 == n) keeps
-    by_kind (Some p) keeps = rejoined p (delivery t n) keeps
+    by_kind (Some q) keeps = rejoined q (delivery t n) keeps
 
 -- links that end, by an equal test
 pub same_ends : (closed : Bool) (p q : Attachment → Bool) → ((a : Attachment) → p a ≡ q a) → (d : Delivery) → after_ends closed p d ≡ after_ends closed q d

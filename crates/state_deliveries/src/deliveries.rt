@@ -7,7 +7,7 @@ ghost use Rattle.router_trace.specs.Configuration.{opened};
 ghost use Rattle.router_trace.specs.Trace.{Entry, Out, Bound, did};
 ghost use Rattle.router_trace.specs.declared.binding.JoinedTo.TheVariants.{New};
 ghost use Rattle.router_trace.specs.declared.event.Event.TheVariants as event;
-ghost use Rattle.router_trace.specs.Deliveries.{called, rank_at, last_with, row_or, joined_by, joining, joins_standing, origin_in, told_in, early_in, delivery, acts_found, channels_found, giving, name_of, next_id, sending, named, waits_on, undecided_on, held_from, is_to_tell};
+ghost use Rattle.router_trace.specs.Deliveries.{called, rank_at, last_with, row_or, joined_by, joining, holds_standing, origin_in, told_in, early_in, owned_in, delivery, acts_found, channels_found, giving, name_of, next_id, sending, named, waits_on, undecided_on, held_from, is_to_tell};
 ghost use Rattle.router_trace.specs.Sessions.{maps, is_channel};
 ghost use Rattle.router_trace.specs.Following.{first_delivery, is_unsent_on, is_used};
 ghost use Rattle.router_trace.specs.Settling.{open_ids};
@@ -32,7 +32,7 @@ use crate::store::Store;
 use amqp_model::{DeliveryState, Item, copy_state};
 use book_model::{Act, Decision, RowNumber};
 use bytes::Bytes;
-use router_trace::{Binding, BindingKind, ConnectionId, DeliveryName, JoinedTo, Origin};
+use router_trace::{Binding, BindingKind, ConnectionId, DeliveryName, Holding, JoinedTo};
 use std::alloc::{AllocError, Global};
 
 /// The deliveries that the router passes on. After an error the table's contents are unspecified.
@@ -218,6 +218,7 @@ impl Deliveries {
         ensures origin { (t : List Entry) → DeliveriesFit self.now t → result.origin ≡ origin_in (called t name) }
         ensures told { (t : List Entry) → DeliveriesFit self.now t → result.told ≡ told_in (called t name) }
         ensures early { (t : List Entry) → DeliveriesFit self.now t → result.early ≡ early_in (called t name) }
+        ensures owned { (t : List Entry) → DeliveriesFit self.now t → result.owned ≡ owned_in (called t name) }
     {
         Producers::of(self.store.called(name))
     }
@@ -225,7 +226,7 @@ impl Deliveries {
     /// Binds a message under a new number: one that came, a row that is taken up again, or one that no delivery has. Fails if memory is
     /// refused, and if no binding number is left.
     pub fn bind(&mut self, binding: Binding) -> Result<(), AllocError>
-        ensures fits { OnOk result ((t : List Entry) → is_none (joins_standing binding.kind) ≡ true → DeliveriesFit self.old t → DeliveriesFit self.new (Bound binding ∷ t)) }
+        ensures fits { OnOk result ((t : List Entry) → is_none (holds_standing binding.kind) ≡ true → DeliveriesFit self.old t → DeliveriesFit self.new (Bound binding ∷ t)) }
         ensures touches { OnOk result (Touches self.old self.new) }
     {
         let Some(number) = self.bindings.checked_add(1) else {
@@ -243,23 +244,23 @@ impl Deliveries {
         Ok(())
     }
 
-    /// Joins a producer's resumed delivery to a row, which has this outcome if it is decided: to the delivery that has the row, in its place, or
-    /// else to a new one. Fails if memory is refused, and if no binding number is left.
+    /// A producer's link has a row like this from now on, which has this outcome if it is decided: the delivery that has the row, in its place, or
+    /// else a new one. Fails if memory is refused, and if no binding number is left.
     pub fn join(
         &mut self,
-        origin: Origin,
+        holding: Holding,
         row: RowNumber,
         outcome: Option<&DeliveryState>,
     ) -> Result<(), AllocError>
-        ensures fits { OnOk result ((t : List Entry) → DeliveriesFit self.old t → DeliveriesFit self.new (Bound (joined_by t origin row (option_copied outcome.entry)) ∷ t)) }
+        ensures fits { OnOk result ((t : List Entry) → DeliveriesFit self.old t → DeliveriesFit self.new (Bound (joined_by t holding row (option_copied outcome.entry)) ∷ t)) }
         ensures touches { OnOk result (Touches self.old self.new) }
     {
-        let stands = self.store.join(DeliveryName::Row(row), origin)?;
+        let stands = self.store.join(DeliveryName::Row(row), holding)?;
         if stands {
             return Ok(());
         }
         let outcome = copied(outcome)?;
-        self.bind(joining(origin, row, outcome))
+        self.bind(joining(holding, row, outcome))
     }
 
     /// A connection is lost.
@@ -326,17 +327,17 @@ fn copied(outcome: Option<&DeliveryState>) -> Result<Option<DeliveryState>, Allo
     }
 }
 
-/// What is bound if a producer's delivery is joined to a row that no delivery has.
-fn joining(origin: Origin, row: RowNumber, outcome: Option<DeliveryState>) -> Binding
-    ensures { result ≡ joining origin row (New outcome) }
+/// What is bound if a producer's link has a row like this that no delivery has.
+fn joining(holding: Holding, row: RowNumber, outcome: Option<DeliveryState>) -> Binding
+    ensures { result ≡ joining holding row (New outcome) }
 {
     Binding {
-        consumer: origin.link,
+        consumer: holding.link(),
         row: Some(row),
         lasting: true,
         format: 0,
         payload: Bytes::new(),
-        kind: BindingKind::Joined(origin, JoinedTo::New(outcome)),
+        kind: BindingKind::Joined(holding, JoinedTo::New(outcome)),
     }
 }
 

@@ -1,7 +1,7 @@
 //! Deliveries as the table keeps them.
 ghost use Rattle.std.specs.Prelude.{◌≡◌, ◌&&◌, OnOk, Some, is_none, option_map, if◌then◌else◌};
 ghost use Rattle.router_trace.specs.Settling.{is_open_as};
-ghost use Rattle.router_trace.specs.Deliveries.{bound, brought, origin_in, told_in, early_in, origin_of, presettles, goes_out, is_sent, is_put_off, outcome_as, outcome_known, outcome_in, is_resumed, resumes, with_origin, source, sender, holder, is_over, is_undecided, after_frame, untold, unsettled, forsaken, ended, after_ends};
+ghost use Rattle.router_trace.specs.Deliveries.{bound, brought, origin_in, told_in, early_in, owned_in, origin_of, told_of, early_of, owned_of, link_alone, resumed_held, unresumed_held, settled_held, held_by, presettles, goes_out, is_sent, is_put_off, outcome_as, outcome_known, outcome_held, outcome_in, is_resumed, resumes, with_origin, source, unforgotten, sender, holder, is_over, is_undecided, after_frame, untold, unsettled, forsaken, ended, after_ends};
 ghost use Rattle.state_deliveries.specs.Deciding.{bare, changed_by};
 ghost use Rattle.state_deliveries.specs.Giving.{with_outcome};
 ghost use Rattle.state_deliveries.specs.Stepping.{is_gone, is_decided_by, comes_with_id, changed};
@@ -11,7 +11,7 @@ use crate::state::failed;
 use amqp_model::{DeliveryState, Transfer, copy_state};
 use bytes::Bytes;
 use router_trace::{
-    Attachment, Binding, BindingKind, DeliveryName, JoinedTo, Origin, Rank, Resumed,
+    Attachment, Binding, BindingKind, DeliveryName, Holding, JoinedTo, Origin, Rank, Resumed,
 };
 use std::alloc::AllocError;
 use std::marker::Model;
@@ -45,6 +45,8 @@ pub struct Delivery {
     pub told: Option<Origin>,
     /// The producer's delivery, if that has a row and the producer settled it before it was decided.
     pub early: Option<Origin>,
+    /// The producer's link, if it has a row, and that was attached again, and its producer hasn't resumed or settled the row since.
+    pub owned: Option<Origin>,
     /// Whether it has a row and its consumer's link is durable.
     pub lasting: bool,
     /// Whether that link was suspended before it was decided.
@@ -62,6 +64,8 @@ pub struct Producers {
     pub told: Option<Origin>,
     /// The one that the producer settled before the row was decided.
     pub early: Option<Origin>,
+    /// The producer's link, if it has the row without a delivery.
+    pub owned: Option<Origin>,
 }
 
 /// What comes with a binding, by what is bound.
@@ -94,6 +98,7 @@ impl Model for Delivery {
       outcome = d.outcome;
       told = d.told;
       early = d.early;
+      owned = d.owned;
       lasting = d.lasting;
       suspended = d.suspended;
       resumed = d.resumed;
@@ -106,41 +111,67 @@ impl Producers {
         ensures origin { result.origin ≡ origin_in (option_map (λ d. d.now) delivery.entry) }
         ensures told { result.told ≡ told_in (option_map (λ d. d.now) delivery.entry) }
         ensures early { result.early ≡ early_in (option_map (λ d. d.now) delivery.entry) }
+        ensures owned { result.owned ≡ owned_in (option_map (λ d. d.now) delivery.entry) }
     {
         match delivery {
-            None => Producers {
-                origin: None,
-                told: None,
-                early: None,
-            },
+            None => Producers::reporting(None),
             Some(delivery) => Producers {
                 origin: delivery.origin,
                 told: delivery.told,
                 early: delivery.early,
+                owned: delivery.owned,
             },
         }
     }
-}
 
-impl Producers {
     /// This one, to which the outcome is reported, or none.
     fn reporting(origin: Option<Origin>) -> Producers
-        ensures { result ≡ record { origin = origin; told = None; early = None } }
+        ensures { result ≡ record { origin = origin; told = None; early = None; owned = None } }
     {
         Producers {
             origin,
             told: None,
             early: None,
+            owned: None,
         }
     }
+
+    /// Those of a row that a producer's link has like this.
+    fn holding(holding: Holding) -> Producers
+        ensures { result ≡ record { origin = resumed_held holding; told = None; early = settled_held holding; owned = unresumed_held holding } }
+    {
+        match holding {
+            Holding::Resumed(origin) => Producers::reporting(Some(origin)),
+            Holding::Unresumed(link) => Producers {
+                origin: None,
+                told: None,
+                early: None,
+                owned: Some(link_alone(link)),
+            },
+            Holding::Settled(link) => Producers {
+                origin: None,
+                told: None,
+                early: Some(link_alone(link)),
+                owned: None,
+            },
+        }
+    }
+}
+
+/// A producer's link in place of its delivery, without an id that means anything.
+fn link_alone(link: Attachment) -> Origin
+    ensures { result ≡ link_alone link }
+{
+    Origin { link, id: 0 }
 }
 
 impl Brought {
     /// What comes with a binding of this kind.
     fn by(kind: BindingKind) -> Brought
         ensures origin { result.producers.origin ≡ origin_of kind }
-        ensures told { result.producers.told ≡ brought (λ u. u.told) kind }
-        ensures early { result.producers.early ≡ brought (λ u. u.early) kind }
+        ensures told { result.producers.told ≡ told_of kind }
+        ensures early { result.producers.early ≡ early_of kind }
+        ensures owned { result.producers.owned ≡ owned_of kind }
         ensures outcome { result.outcome ≡ outcome_in kind }
         ensures presettled { result.presettled ≡ presettles kind }
         ensures sent { result.sent ≡ is_sent kind }
@@ -161,6 +192,7 @@ impl Brought {
                     origin: taken.origin,
                     told: taken.told,
                     early: taken.early,
+                    owned: taken.owned,
                 },
                 presettled: false,
                 sent: goes_out(&taken.how),
@@ -168,13 +200,13 @@ impl Brought {
                 resumed: is_resumed(&taken.how),
                 outcome: outcome_as(taken.how),
             },
-            BindingKind::Joined(origin, to) => Brought {
-                producers: Producers::reporting(Some(origin)),
+            BindingKind::Joined(holding, to) => Brought {
+                producers: Producers::holding(holding),
                 presettled: false,
                 sent: false,
-                suspended: is_unknown(&to),
+                suspended: is_unknown(holding, &to),
                 resumed: false,
-                outcome: outcome_known(to),
+                outcome: outcome_held(holding, to),
             },
         }
     }
@@ -201,17 +233,33 @@ fn goes_out(how: &Resumed) -> bool
     }
 }
 
-/// Whether a row to which a producer's delivery is joined is known to have no outcome.
-fn is_unknown(to: &JoinedTo) -> bool
-    ensures { result ≡ is_none (outcome_known to.now) }
+/// Whether a row that a producer's link has like this is known to have no outcome.
+fn is_unknown(holding: Holding, to: &JoinedTo) -> bool
+    ensures { result ≡ is_none (outcome_held holding to.now) }
 {
-    match to {
-        JoinedTo::Standing => true,
-        JoinedTo::New(outcome) => outcome.is_none(),
+    match holding {
+        Holding::Settled(_) => true,
+        _ => match to {
+            JoinedTo::Standing => true,
+            JoinedTo::New(outcome) => outcome.is_none(),
+        },
     }
 }
 
-/// The outcome that a row has already, to which a producer's delivery is joined.
+/// The outcome that a row has already, which a producer's link has like this.
+fn outcome_held(holding: Holding, to: JoinedTo) -> Option<DeliveryState>
+    ensures { result ≡ outcome_held holding to }
+{
+    match holding {
+        Holding::Settled(_) => {
+            drop(to);
+            None
+        }
+        _ => outcome_known(to),
+    }
+}
+
+/// The outcome that a row has already.
 fn outcome_known(to: JoinedTo) -> Option<DeliveryState>
     ensures { result ≡ outcome_known to }
 {
@@ -251,6 +299,7 @@ impl Delivery {
             outcome: brought.outcome,
             told: brought.producers.told,
             early: brought.producers.early,
+            owned: brought.producers.owned,
             lasting: name.has_row() && binding.lasting,
             suspended: brought.suspended,
             resumed: brought.resumed,
@@ -274,25 +323,35 @@ impl Delivery {
         }
     }
 
-    /// The producer's delivery, settled by the producer or not.
+    /// The same, or the link alone that was attached again: the producer hasn't settled it.
+    fn unforgotten(&self) -> Option<Origin>
+        ensures { result ≡ unforgotten self.now }
+    {
+        match self.source() {
+            Some(origin) => Some(origin),
+            None => self.owned,
+        }
+    }
+
+    /// The same, settled by the producer or not.
     pub(crate) fn sender(&self) -> Option<Origin>
         ensures { result ≡ sender self.now }
     {
-        match self.source() {
+        match self.unforgotten() {
             Some(origin) => Some(origin),
             None => self.early,
         }
     }
 
-    /// The producer's delivery, as long as it counts for the producer's link: until the producer has settled it, and, if it has a row, until it
-    /// is decided too.
+    /// The producer's delivery, or its link alone, as long as it counts for the producer's link: until the producer has settled it, and, if it has a row,
+    /// until it is decided too.
     pub(crate) fn holder(&self) -> Option<Origin>
         ensures { result ≡ holder self.now }
     {
         if self.outcome.is_none() {
             self.sender()
         } else {
-            self.source()
+            self.unforgotten()
         }
     }
 
@@ -349,6 +408,7 @@ impl Delivery {
         self.origin = None;
         self.told = None;
         self.early = None;
+        self.owned = None;
     }
 
     /// Its outcome was told, and its producer has yet to settle it.
@@ -360,11 +420,25 @@ impl Delivery {
     }
 
     /// Its outcome is reported to this delivery of its producer from now on, and to none before.
-    pub(crate) fn join(&mut self, origin: Origin)
+    fn report_to(&mut self, origin: Origin)
         ensures { self.new ≡ with_origin origin self.old }
     {
         self.forsake();
         self.origin = Some(origin);
+    }
+
+    /// A producer's link has it like this from now on.
+    pub(crate) fn join(&mut self, holding: Holding)
+        ensures { self.new ≡ held_by holding self.old }
+    {
+        match holding {
+            Holding::Resumed(origin) => self.report_to(origin),
+            Holding::Unresumed(link) => self.owned = Some(link_alone(link)),
+            Holding::Settled(link) => {
+                self.early = Some(link_alone(link));
+                self.owned = None;
+            }
+        }
     }
 
     /// It gets an outcome, if it has none.
@@ -469,6 +543,7 @@ impl Delivery {
             outcome: None,
             told: self.told,
             early: self.early,
+            owned: self.owned,
             lasting: self.lasting,
             suspended: self.suspended,
             resumed: self.resumed,

@@ -1,7 +1,7 @@
 //! The table of deliveries that the router passes on (AMQP 1.0 part 2, sections 2.6.12 and 2.7.6).
 //!
-//! [`Deliveries`] follows the trace, one entry at a time: `bind` for a message that was bound, `join` for a producer's delivery that was
-//! joined to a row, `put` for an item that the router put out, `hear` for an item received, with the router's channel of its session and the event's acts, and `down` for a lost connection. Its state
+//! [`Deliveries`] follows the trace, one entry at a time: `bind` for a message that was bound, `join` for a row that a
+//! producer's link has, `put` for an item that the router put out, `hear` for an item received, with the router's channel of its session and the event's acts, and `down` for a lost connection. Its state
 //! is read by `delivery`, `waiting`, `undecided`, `held`, `to_tell_after`, `named`, `sending` and `next_id`.
 //!
 //! Before a change is made, `decided_rows` tells which rows it would decide, so that these decisions can be written down first; `rows_from`

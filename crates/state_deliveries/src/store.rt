@@ -7,7 +7,7 @@ ghost use Rattle.state_collections.specs.NumberMap.{at_number};
 ghost use Rattle.amqp_session.specs.Ranges.{has};
 ghost use Rattle.router_trace.specs.declared.binding.DeliveryName.{DeliveryName as Name};
 ghost use Rattle.router_trace.specs.declared.binding.DeliveryName.TheVariants.{Row};
-ghost use Rattle.router_trace.specs.Deliveries.{ranked, unless_over, unless_called, same_name, bound, joined, with_origin, after_frame, is_number, is_id, delivery, number_named, sending};
+ghost use Rattle.router_trace.specs.Deliveries.{ranked, unless_over, unless_called, same_name, bound, joined, held_by, after_frame, is_number, is_id, delivery, number_named, sending};
 ghost use Rattle.router_trace.specs.Settling.{is_open_as};
 ghost use Rattle.router_trace.specs.Trace.{Entry, Out, did};
 ghost use Rattle.amqp_model.specs.declared.item.Item.TheVariants as item;
@@ -38,7 +38,7 @@ use crate::touched::Touched;
 use amqp_model::{DeliveryState, Item, Perf, Transfer};
 use book_model::Decision;
 use bytes::Bytes;
-use router_trace::{Binding, ConnectionId, DeliveryName, Origin, Rank};
+use router_trace::{Binding, ConnectionId, DeliveryName, Holding, Rank};
 use state_collections::{Boxed, NumberMap};
 use std::alloc::{AllocError, Global};
 use std::collections::BTreeSet;
@@ -362,10 +362,10 @@ impl Store {
         Ok(entries.before.durable)
     }
 
-    /// Joins a delivery of a producer to the one with a name, in its place; whether there is one.
-    pub(crate) fn join(&mut self, name: DeliveryName, origin: Origin) -> Result<bool, AllocError>
+    /// A producer's link has the delivery with a name like this from now on; whether there is one. One that is over by this is removed.
+    pub(crate) fn join(&mut self, name: DeliveryName, holding: Holding) -> Result<bool, AllocError>
         ensures found { IfOk result (λ found. found ≡ is_some (option_and_then (at_number self.old.deliveries) (at_name self.old.by_name name))) }
-        ensures deliveries { OnOk result (Indexed self.old → (n : ℕ) → at_number self.new.deliveries n ≡ option_map (joined name origin) (at_number self.old.deliveries n)) }
+        ensures deliveries { OnOk result (Indexed self.old → (n : ℕ) → at_number self.new.deliveries n ≡ joined name holding (at_number self.old.deliveries n)) }
         ensures indexed { OnOk result (Indexed self.old → Indexed self.new) }
         ensures touches { OnOk result (StoreTouches self.old self.new) }
     {
@@ -373,7 +373,7 @@ impl Store {
             return Ok(false);
         };
         let mut entries = Moved::new();
-        if !join_in(&mut self.deliveries, number, origin, &mut entries) {
+        if !join_in(&mut self.deliveries, number, holding, &mut entries) {
             return Ok(false);
         }
         self.settle(number, &entries)?;
@@ -652,23 +652,23 @@ fn give_to(
     Ok(true)
 }
 
-/// Joins a delivery of a producer to the one with a number, in its place, and notes its entries; whether there is one.
+/// A producer's link has the delivery with a number like this from now on, which is changed in its place; notes its entries; whether there is one.
 fn join_in(
     deliveries: &mut NumberMap<Boxed<Delivery>>,
     number: u64,
-    origin: Origin,
+    holding: Holding,
     entries: &mut Moved,
 ) -> bool
     ensures deliveries { (n : ℕ) → at_number deliveries.new n
-        ≡ (if number == n then option_map (with_origin origin) (at_number deliveries.old n) else at_number deliveries.old n) }
-    ensures found { (if result then Some entries.new else None) ≡ option_map (λ d. moved (keys d) (with_origin origin d)) (at_number deliveries.old number) }
+        ≡ (if number == n then option_map (held_by holding) (at_number deliveries.old n) else at_number deliveries.old n) }
+    ensures found { (if result then Some entries.new else None) ≡ option_map (λ d. moved (keys d) (held_by holding d)) (at_number deliveries.old number) }
 {
     let Some(kept) = deliveries.get_mut(number) else {
         return false;
     };
     let delivery = kept.as_mut();
     entries.note_before(delivery);
-    delivery.join(origin);
+    delivery.join(holding);
     entries.note_after(delivery);
     true
 }

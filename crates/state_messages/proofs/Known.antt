@@ -19,7 +19,7 @@ use Rattle.router_trace.specs.declared.binding.Resumed.{Resumed}
 use Rattle.router_trace.specs.declared.binding.TakenUp.{TakenUp}
 use Rattle.router_trace.specs.Numbers.{count_below}
 use Rattle.router_trace.specs.Following.{link_of}
-use Rattle.router_trace.specs.Deliveries.{Delivery, called, is_message, joins_standing, origin_in, told_in, early_in, bindings, delivery, waits_on, undecided_on, held_from}
+use Rattle.router_trace.specs.Deliveries.{Delivery, called, is_message, holds_standing, origin_in, told_in, early_in, owned_in, bindings, delivery, waits_on, undecided_on, held_from}
 use Rattle.router_trace.specs.declared.binding.DeliveryName.TheVariants.{Row}
 use Rattle.state_deliveries.specs.declared.deliveries.Deliveries.{Deliveries}
 use Rattle.state_unsettled.specs.Incoming.{IncomingFit}
@@ -97,7 +97,7 @@ pub bound_counts : (b : Binding) (t : Trace) → IsStep t (Bound b ∷ t)
 bound_counts b t = record {
   counts = λ p none same.
       count_alike (bindings t + 1) (λ n. p (delivery t n)) (λ n. p (delivery (Bound b ∷ t) n)) same
-      ∙ one_more (is_none (joins_standing b.kind)) (λ n. p (delivery (Bound b ∷ t) n)) (sym (same (bindings t + 1)) ∙ ap p (none_beyond t (bindings t + 1) (omega arith)) ∙ none);
+      ∙ one_more (is_none (holds_standing b.kind)) (λ n. p (delivery (Bound b ∷ t) n)) (sym (same (bindings t + 1)) ∙ ap p (none_beyond t (bindings t + 1) (omega arith)) ∙ none);
   rises = entry_rises (Bound b) t;
   attached = entry_counts (Bound b) t refl;
 }
@@ -259,15 +259,21 @@ abbrev pub row_to : RowNumber → TakenUp → Bool → ℕ → List ℕ → Atta
 row_to row brought lasting format payload a =
     record { consumer = a; row = Some row; lasting = lasting; format = format; payload = payload; kind = kind.TakenUp brought }
 
-pub taken_up : (u : Messages) (t : Trace) (a : Attachment) (origin told early : Option Origin) (row : RowNumber) (how : Resumed) (lasting : Bool) (format : ℕ) (payload sent : List ℕ)
-    → origin ≡ origin_in (called t (Row row)) → told ≡ told_in (called t (Row row)) → early ≡ early_in (called t (Row row)) → lasting ≡ lasts t a → sent ≡ payload_as how payload
-    → MessagesFit u (Bound (row_to row (record { how = how; origin = origin; told = told; early = early }) lasting format sent a) ∷ t) → MessagesFit u (Bound (taken_up_by t row how format payload a) ∷ t)
-taken_up u t a origin told early row how lasting format payload sent from knew settled durable is fit =
-    let as_it_is : TakenUp = record { how = how; origin = origin; told = told; early = early } in
-    let first = subst (λ l. MessagesFit u (Bound (row_to row as_it_is l format sent a) ∷ t)) durable fit in
-    let second = subst (λ p. MessagesFit u (Bound (row_to row as_it_is (lasts t a) format p a) ∷ t)) is first in
+abbrev pub bringing : Resumed → Option Origin → Option Origin → Option Origin → Option Origin → TakenUp
+bringing how origin told early owned = record { how = how; origin = origin; told = told; early = early; owned = owned }
+
+pub taken_up : (u : Messages) (t : Trace) (a : Attachment) (origin told early owned : Option Origin) (row : RowNumber) (how : Resumed) (lasting : Bool) (format : ℕ) (payload sent : List ℕ)
+    → origin ≡ origin_in (called t (Row row)) → told ≡ told_in (called t (Row row)) → early ≡ early_in (called t (Row row)) → owned ≡ owned_in (called t (Row row))
+    → lasting ≡ lasts t a → sent ≡ payload_as how payload
+    → MessagesFit u (Bound (row_to row (bringing how origin told early owned) lasting format sent a) ∷ t) → MessagesFit u (Bound (taken_up_by t row how format payload a) ∷ t)
+taken_up u t a origin told early owned row how lasting format payload sent from knew settled has durable is fit =
+    let first = subst (λ l. MessagesFit u (Bound (row_to row (bringing how origin told early owned) l format sent a) ∷ t)) durable fit in
+    let second = subst (λ p. MessagesFit u (Bound (row_to row (bringing how origin told early owned) (lasts t a) format p a) ∷ t)) is first in
     let sent_as : List ℕ = payload_as how payload in
     let o : Option Origin = origin_in (called t (Row row)) in
-    let third = subst (λ (v : Option Origin). MessagesFit u (Bound (row_to row (record { how = how; origin = v; told = told; early = early }) (lasts t a) format sent_as a) ∷ t)) from second in
-    let fourth = subst (λ (v : Option Origin). MessagesFit u (Bound (row_to row (record { how = how; origin = o; told = v; early = early }) (lasts t a) format sent_as a) ∷ t)) knew third in
-    subst (λ (v : Option Origin). MessagesFit u (Bound (row_to row (record { how = how; origin = o; told = told_in (called t (Row row)); early = v }) (lasts t a) format sent_as a) ∷ t)) settled fourth
+    let old : Option Origin = told_in (called t (Row row)) in
+    let before : Option Origin = early_in (called t (Row row)) in
+    let third = subst (λ (v : Option Origin). MessagesFit u (Bound (row_to row (bringing how v told early owned) (lasts t a) format sent_as a) ∷ t)) from second in
+    let fourth = subst (λ (v : Option Origin). MessagesFit u (Bound (row_to row (bringing how o v early owned) (lasts t a) format sent_as a) ∷ t)) knew third in
+    let fifth = subst (λ (v : Option Origin). MessagesFit u (Bound (row_to row (bringing how o old v owned) (lasts t a) format sent_as a) ∷ t)) settled fourth in
+    subst (λ (v : Option Origin). MessagesFit u (Bound (row_to row (bringing how o old before v) (lasts t a) format sent_as a) ∷ t)) has fifth

@@ -25,13 +25,13 @@ use Rattle.router_trace.specs.LinkFrames.{link_flow_item}
 use Rattle.router_trace.specs.Links.{Link, Happened, sends, receives, link, numbered, attachments, durable_key}
 use Rattle.router_trace.specs.Sessions.{session}
 use Rattle.router_trace.specs.Following.{link_of}
-use Rattle.router_trace.specs.Deliveries.{called, is_message, origin_in, told_in, early_in}
+use Rattle.router_trace.specs.Deliveries.{called, is_message, origin_in, told_in, early_in, owned_in}
 use Rattle.state_links.specs.Looking.{numbered_link}
 use Rattle.state_messages.specs.declared.grant.LinkGrant.{LinkGrant}
 use Rattle.state_messages.specs.Figures.{figure}
 
 -- The consumer last chosen for an address, 0 before the first: that of the last message bound to a link of this address, but for the rows that a link takes up
--- again, and those to which a producer's delivery is joined.
+-- again, and those that are joined to a producer's link.
 abbrev pub is_of : List ℕ → Option Link → ℕ → Bool
 is_of address None number = false
 is_of address (Some l) number = (l.number == number) && bytes_eq l.address address
@@ -82,7 +82,7 @@ payload_as (Settled outcome) payload = []
 payload_as _ payload = payload
 
 abbrev pub brings : Trace → RowNumber → Resumed → TakenUp
-brings t row how = record { how = how; origin = origin_in (called t (Row row)); told = told_in (called t (Row row)); early = early_in (called t (Row row)) }
+brings t row how = record { how = how; origin = origin_in (called t (Row row)); told = told_in (called t (Row row)); early = early_in (called t (Row row)); owned = owned_in (called t (Row row)) }
 
 abbrev pub taken_up_by : Trace → RowNumber → Resumed → ℕ → List ℕ → Attachment → Binding
 taken_up_by t row how format payload at = record {

@@ -24,8 +24,8 @@ use book_model::RowNumber;
 use bytes::Bytes;
 use route_credit::ProducerId;
 use router_trace::{
-    Attachment, Binding, BindingKind, ConnectionId, DeliveryName, LinkState, Origin, Resumed,
-    TakenUp,
+    Attachment, Binding, BindingKind, ConnectionId, DeliveryName, Holding, LinkState, Origin,
+    Resumed, TakenUp,
 };
 use state_links::{Link, Links};
 use state_pools::Pools;
@@ -131,24 +131,25 @@ impl Messages {
                 origin,
                 told: producers.told,
                 early: producers.early,
+                owned: producers.owned,
             }),
         })?;
         self.incoming.bind(origin)?;
         Ok(())
     }
 
-    /// Joins a producer's resumed delivery, which came whole, to a row that isn't forgotten, and has this outcome if it is decided: from now on the
-    /// row's outcome is reported to this delivery. Fails if memory is refused, and if no binding number is left.
+    /// A producer's link has a row like this from now on, which has this outcome if it is decided. If its producer resumed it, the row's outcome is
+    /// reported to the producer's delivery. Fails if memory is refused, and if no binding number is left.
     pub fn join(
         &mut self,
-        origin: Origin,
+        holding: Holding,
         row: RowNumber,
         outcome: Option<&DeliveryState>,
     ) -> Result<(), AllocError>
-        ensures { OnOk result ((t : List Entry) → MessagesFit self.old t → MessagesFit self.new (Bound (joined_by t origin row (option_copied outcome.entry)) ∷ t)) }
+        ensures { OnOk result ((t : List Entry) → MessagesFit self.old t → MessagesFit self.new (Bound (joined_by t holding row (option_copied outcome.entry)) ∷ t)) }
     {
-        self.deliveries.join(origin, row, outcome)?;
-        self.incoming.bind(Some(origin))?;
+        self.deliveries.join(holding, row, outcome)?;
+        self.incoming.bind(holding.resumed())?;
         Ok(())
     }
 

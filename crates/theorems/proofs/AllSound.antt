@@ -43,9 +43,9 @@ use Rattle.theorems.specs.Admitted.{RowIsAdmitted}
 use Rattle.theorems.specs.Each.{EachBound}
 use Rattle.theorems.specs.Came.{Handled, just_handled, BindsByKind, CameAndWasBound}
 use Rattle.theorems.proofs.Bindings.{of_messages, each_bound}
-use Rattle.theorems.proofs.Resumed.{resumed_takes, replied_found}
+use Rattle.theorems.proofs.Resumed.{resumed_takes, replied_book, replied_found}
 use Rattle.theorems.proofs.Rows.{Rows, start_rows, took_rows, resumed_rows, handled_rows}
-use Rattle.theorems.proofs.Sound.{Sound, sound_start, did_sound, took_sound, batch_sound, taken_sound, goes_sound, quiet_sound, QuietPut, quiet_both, quiet_to, still_handled}
+use Rattle.theorems.proofs.Sound.{Sound, sound_start, did_sound, took_sound, batch_sound, held_sound, taken_sound, goes_sound, quiet_sound, QuietPut, quiet_both, quiet_to, still_handled}
 use Rattle.theorems.proofs.Quiet.{closing_of_quiet, said_quiet, taken_quiet, refused_quiet, settled_quiet, beats_quiet, windows_quiet, drains_quiet, grants_quiet}
 use Rattle.theorems.proofs.Transfers.{IfTaken, transfer_taken}
 use Rattle.theorems.proofs.Arriving.{transfer_sound}
@@ -172,7 +172,8 @@ answered_sound id t s sound admitted =
     in let just : just_handled u ≡ Some (record { step = s; found = t }) = ends_handled id (due t s.event) (Did s ∷ t) (Some (record { step = s; found = t })) refl
     in let rows : Sound (replied id t s) = row_sound id t u s s.event behind refl just
     in let bound : List Entry = resumed t s.event (replied id t s)
-    in let resumes : Sound bound = resumed_takes Sound t s.event (replied id t s) (λ u b takes known was. taken_sound u b takes was) (replied_found id t s) rows
+    in let resumes : Sound bound = resumed_takes Sound t s.event (replied id t s) (λ u b takes known was. taken_sound u b takes was)
+    (λ u b q to is quiet binds book was. held_sound u b q to is quiet binds was) (replied_found id t s) (replied_book id t s) rows
     in let all : SoundRows (passed_on bound) = passed_keeps SoundRows passed_sound bound (resumes, admitted)
     in quiet_sound (windows (passed_on bound)) (passed_on bound) (windows_quiet (passed_on bound)) all.0
 

@@ -26,6 +26,7 @@ use Rattle.book_model.specs.Sound.{IsSound}
 use Rattle.book_core.specs.Rising.{Rises, AllAbove, AllBelow}
 use Rattle.gate_journal.specs.Ordered.{IsOrdered, number_of_row, number_of_terminus}
 use Rattle.journal_store.proofs.Conditions.{holds, next_holds}
+use Rattle.router_trace.specs.declared.binding.Holding.TheVariants as holding
 use Rattle.router_trace.specs.declared.binding.Binding.{Binding}
 use Rattle.router_trace.specs.declared.binding.BindingKind.{BindingKind}
 use Rattle.router_trace.specs.declared.binding.BindingKind.TheVariants as kind
@@ -40,7 +41,7 @@ use Rattle.router_trace.specs.declared.handle.PeerHandle.{PeerHandle}
 use Rattle.router_trace.specs.declared.handle.PeerHandle.TheVariants.{Mapped, Detaching}
 use Rattle.router_trace.specs.Trace.{Trace, Did, Out, Step, puts}
 use Rattle.router_trace.specs.Connection.{Connection, conn, standing, found, due, has}
-use Rattle.router_trace.specs.Deliveries.{either_origin, bound, brought, is_message, origin_of, outcome_in, presettles, name_in, rank_in}
+use Rattle.router_trace.specs.Deliveries.{either_origin, bound, brought, is_message, origin_of, outcome_in, presettles, name_in, rank_in, told_of}
 use Rattle.router_trace.specs.Following.{link_of, is_sending}
 use Rattle.router_trace.specs.Frames.{open_item, close_item}
 use Rattle.router_trace.specs.Links.{Link, LinkPlace, nowhere, detaching, on, asked, asked_at, asked_of, answered_handle, is_lost, link, link_place, link_place_by, on_link, their_handle, last_of_key, free_handle, durable_key}
@@ -64,6 +65,7 @@ use Rattle.theorems.proofs.AllSound.{event_binds}
 use Rattle.theorems.proofs.Attaching.{AttachAt}
 use Rattle.theorems.proofs.Claimed.{HasClaim}
 use Rattle.theorems.proofs.Facts.{FromTerminus, Agrees, RowFact}
+use Rattle.theorems.proofs.Held.{can_have}
 use Rattle.theorems.proofs.Joins.{CanBind, can_join}
 use Rattle.theorems.proofs.Keeping.{Stands, key_there, attach_stands}
 use Rattle.theorems.proofs.Looking.{found_new}
@@ -326,8 +328,8 @@ row_fact u b o r fresh adm tagged ordered = record {
   agrees = subst (λ (v : Option ARow). Agrees u (book_in u) v (bound (name_in u b) (rank_in u b) b)) (sym (admitted_row u b r adm ordered).found) (record {
     outcome = inr (ap outcome_in (sym fresh));
     waits = λ p from. refl;
-    from = λ p from. producer p (origin_is (origin_of b.kind) p (ap (λ (k : BindingKind). either_origin (origin_of b.kind) (brought (λ v. v.told) k)) (sym fresh) ∙ from));
-    claimed = λ p from. tagged p (origin_is (origin_of b.kind) p (ap (λ (k : BindingKind). either_origin (origin_of b.kind) (brought (λ v. v.told) k)) (sym fresh) ∙ from));
+    from = λ p from. producer p (origin_is (origin_of b.kind) p (ap (λ (k : BindingKind). either_origin (origin_of b.kind) (told_of k)) (sym fresh) ∙ from));
+    claimed = λ p from. tagged p (origin_is (origin_of b.kind) p (ap (λ (k : BindingKind). either_origin (origin_of b.kind) (told_of k)) (sym fresh) ∙ from));
   });
 }
   where
@@ -373,7 +375,9 @@ may_bind id t s sound claiming ordered book = by (bound_by (booked t s.event) u 
         (λ r named. let adm : IsAdmitted u b r = subst (λ (o : Option RowNumber). IsAdmittedUnder u b o) named (bound_row id t s.event b is (ap is_message of)) in
         row_fact u b o r of adm (claiming b is r adm binds) ordered)
     by_kind b is (kind.TakenUp brought) of binds = absurd (clash (sym (ap is_taken_up of) ∙ bound_not_taken id t s.event b is))
-    by_kind b is (kind.Joined p to) of binds = can_join u b p binds ordered book
+    by_kind b is (kind.Joined (holding.Resumed p) to) of binds = can_join u b p binds ordered book
+    by_kind b is (kind.Joined (holding.Unresumed a) to) of binds = can_have u b (holding.Unresumed a) refl binds ordered book
+    by_kind b is (kind.Joined (holding.Settled a) to) of binds = can_have u b (holding.Settled a) refl binds ordered book
 
     by : (v : Option Binding) → bound_by (booked t s.event) u s.event ≡ v → MayBind u v
     by None is = tt

@@ -114,7 +114,7 @@ source_spared : (closed : Bool) (gone_is : Attachment → Bool) (d : Delivery) (
 source_spared closed gone_is d p from spared = by (gone_is d.link)
   where
     kept : (e : Delivery) → source e ≡ Some p → source (after_origin gone_is e) ≡ Some p
-    kept e is = on (is_gone_with gone_is (sender e)) (ap (λ (o : Option Origin). is_gone_with gone_is (either_origin o e.early)) is ∙ spared)
+    kept e is = on (is_gone_with gone_is (sender e)) (ap (λ (o : Option Origin). is_gone_with gone_is (either_origin (either_origin o e.owned) e.early)) is ∙ spared)
       where
         on : (b : Bool) → b ≡ false → source (if b then forsaken e else e) ≡ Some p
         on true f = absurd (clash f)

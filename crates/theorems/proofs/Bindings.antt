@@ -1,15 +1,16 @@
 -- A delivery is of the message that was bound under its number.
 use Rattle.std.proofs.Common.{◌≡◌, ◌∙◌, sym, ap, refl, subst, inl, inr, ℕ, ◌+◌, ◌≤◌, Bool, true, false, List, [], ◌∷◌, ◌++◌, append-nil, arith}
-use Rattle.std.specs.Prelude.{◌==◌, ◌&&◌, Option, Some, None, is_none, option_and_then, option_map, if◌then◌else◌}
+use Rattle.std.specs.Prelude.{◌==◌, ◌&&◌, Option, Some, None, is_none, option_and_then, if◌then◌else◌}
 use Rattle.std.proofs.lemmas.Bool.{eqb-true, eq-eqb}
 use Rattle.router_trace.specs.declared.binding.Binding.{Binding}
 use Rattle.router_trace.specs.declared.binding.BindingKind.{BindingKind}
 use Rattle.router_trace.specs.declared.binding.BindingKind.TheVariants as kind
 use Rattle.router_trace.specs.declared.binding.DeliveryName.{DeliveryName}
+use Rattle.router_trace.specs.declared.binding.Holding.{Holding}
 use Rattle.router_trace.specs.declared.binding.Origin.{Origin}
 use Rattle.router_trace.specs.declared.binding.Rank.{Rank}
 use Rattle.router_trace.specs.Trace.{Entry, Did, Out, Took, Bound, Booked, Began, is_opening, IsOneRun}
-use Rattle.router_trace.specs.Deliveries.{Delivery, has_row, bound, joined, joins_standing, presettles, either_origin, origin_of, with_binding, unless_called, bindings, name_in, number_named, delivery, sending, named, is_over, unless_over, after_put, after_event, channels_found, acts_found, rank_in}
+use Rattle.router_trace.specs.Deliveries.{Delivery, has_row, bound, joined, holds_standing, presettles, either_origin, origin_of, with_binding, unless_called, bindings, name_in, number_named, delivery, sending, named, is_over, unless_over, after_put, after_event, channels_found, acts_found, rank_in}
 use Rattle.theorems.specs.Each.{EachBound}
 use Rattle.theorems.specs.OneConsumer.{IsOrNone, IsOf, joined_in, WhileThere, IsOfMessage}
 use Rattle.state_connections.proofs.Lists.{by_test}
@@ -39,14 +40,14 @@ while_is later b d None is follows = tt
 while_is later b d (Some e) is follows = subst (λ (x : List Entry). IsOf x b e) (append-nil later) (follows_is [] later b d e is follows)
 
 -- what a binding with a number makes
-pub bound_now : (b : Binding) (t : List Entry) → joins_standing b.kind ≡ None → (delivery (Bound b ∷ t) (bindings t + 1) ≡ Some (bound (name_in t b) (rank_in t b) b)) × (bindings (Bound b ∷ t) ≡ bindings t + 1)
+pub bound_now : (b : Binding) (t : List Entry) → holds_standing b.kind ≡ None → (delivery (Bound b ∷ t) (bindings t + 1) ≡ Some (bound (name_in t b) (rank_in t b) b)) × (bindings (Bound b ∷ t) ≡ bindings t + 1)
 bound_now b t none = (
-  ap (λ (j : Option Origin). with_binding j (name_in t b) (rank_in t b) b (bindings t + 1 == bindings t + 1) (delivery t (bindings t + 1))) none
+  ap (λ (j : Option Holding). with_binding j (name_in t b) (rank_in t b) b (bindings t + 1 == bindings t + 1) (delivery t (bindings t + 1))) none
       ∙ ap (λ (new : Bool). if new then Some (bound (name_in t b) (rank_in t b) b) else unless_called (name_in t b) (delivery t (bindings t + 1))) (eq-eqb (bindings t + 1) (bindings t + 1) refl),
-  ap (λ (j : Option Origin). if is_none j then bindings t + 1 else bindings t) none,
+  ap (λ (j : Option Holding). if is_none j then bindings t + 1 else bindings t) none,
 )
 
-pub stays_with_consumer : (b : Binding) (t later : List Entry) → IsOneRun later → joins_standing b.kind ≡ None → WhileThere (IsOf later b) (delivery (later ++ Bound b ∷ t) (bindings t + 1))
+pub stays_with_consumer : (b : Binding) (t later : List Entry) → IsOneRun later → holds_standing b.kind ≡ None → WhileThere (IsOf later b) (delivery (later ++ Bound b ∷ t) (bindings t + 1))
 stays_with_consumer b t later one numbered =
     let now = bound_now b t numbered
     in while_is later b (bound (name_in t b) (rank_in t b) b) (delivery (later ++ Bound b ∷ t) (bindings t + 1)) (bound_is (name_in t b) (rank_in t b) b)
@@ -93,7 +94,7 @@ there_before u n d is =
 
 -- after a binding
 bound_message : (b : Binding) (t : List Entry) (n : ℕ) (d : Delivery) → delivery (Bound b ∷ t) n ≡ Some d → ((e : Delivery) → delivery t n ≡ Some e → IsOfMessage t n e) → IsOfMessage (Bound b ∷ t) n d
-bound_message b t n d h was = by (joins_standing b.kind) refl h
+bound_message b t n d h was = by (holds_standing b.kind) refl h
   where
     newest : DeliveryName
     newest = name_in t b
@@ -106,11 +107,11 @@ bound_message b t n d h was = by (joins_standing b.kind) refl h
         (subst (λ (w : Option Delivery). AllFollow (Bound b ∷ []) (delivery t n) w) h (entry_follows (Bound b) t n (there_before t n e (was e there)))) in
         later_message (Bound b) t n e d refl (was e there) follows
 
-    by_join : (p : Origin) (v : Option Delivery) → delivery t n ≡ v → option_map (joined newest p) v ≡ Some d → IsOfMessage (Bound b ∷ t) n d
-    by_join p None there g = absurd (none_not_some g)
-    by_join p (Some x) there g = was_here x there
+    by_join : (q : Holding) (v : Option Delivery) → delivery t n ≡ v → joined newest q v ≡ Some d → IsOfMessage (Bound b ∷ t) n d
+    by_join q None there g = absurd (none_not_some g)
+    by_join q (Some x) there g = was_here x there
 
-    by : (j : Option Origin) → joins_standing b.kind ≡ j → with_binding j newest (rank_in t b) b (bindings t + 1 == n) (delivery t n) ≡ Some d → IsOfMessage (Bound b ∷ t) n d
+    by : (j : Option Holding) → holds_standing b.kind ≡ j → with_binding j newest (rank_in t b) b (bindings t + 1 == n) (delivery t n) ≡ Some d → IsOfMessage (Bound b ∷ t) n d
     by None none g =
         by_test (bindings t + 1 == n)
         (λ e. record {
@@ -125,7 +126,7 @@ bound_message b t n d h was = by (joins_standing b.kind) refl h
           is = subst (λ (f : Delivery). IsOf [] b f) (some_same (rw e at g)) (bound_is newest (rank_in t b) b);
         })
         (λ e. was_here d (uncalled newest (delivery t n) d (rw e at g)).0)
-    by (Some p) joins g = by_join p (delivery t n) refl g
+    by (Some q) joins g = by_join q (delivery t n) refl g
 
 pub of_messages : (u : List Entry) (n : ℕ) (d : Delivery) → delivery u n ≡ Some d → IsOfMessage u n d
 of_messages [] n d h = absurd cc

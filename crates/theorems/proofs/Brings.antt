@@ -1,5 +1,5 @@
 -- In every trace of the router that was opened on a sound book, a row that is taken up brings the outcome that the book has of it.
-use Rattle.std.proofs.Common.{◌≡◌, ◌∙◌, sym, ap, refl, subst, ℕ, ◌<◌, List, [], ◌∷◌, ◌++◌}
+use Rattle.std.proofs.Common.{◌≡◌, ◌∙◌, sym, ap, refl, subst, ◌⊎◌, inl, inr, ℕ, ◌<◌, List, [], ◌∷◌, ◌++◌}
 use Rattle.std.specs.Prelude.{Option, Some, None, option_map, true, false}
 use Rattle.amqp_model.specs.declared.perf.Attach.{Attach as AnAttach}
 use Rattle.amqp_model.specs.declared.state.DeliveryState.{DeliveryState}
@@ -19,11 +19,14 @@ use Rattle.resume_core.specs.Resuming.{entries_of, told_of, outcome_given, decid
 use Rattle.reply_rows.specs.declared.answer.Answer.{Answer}
 use Rattle.router_trace.specs.Configuration.{beginning, opened}
 use Rattle.router_trace.specs.Connection.{conn, due}
-use Rattle.router_trace.specs.Deliveries.{outcome_among, outcome_as, acts_found, bound, name_in, is_message, joins_standing, rank_in}
+use Rattle.router_trace.specs.Deliveries.{outcome_among, outcome_as, acts_found, bound, holds_standing, name_in, is_message, rank_in}
 use Rattle.router_trace.specs.Trace.{Beginning, Trace, Did, Out, Took, Bound, Put, Step, did, step_of, goes, puts, each_to}
 use Rattle.router_trace.specs.declared.binding.Binding.{Binding}
 use Rattle.router_trace.specs.declared.binding.BindingKind.{BindingKind}
 use Rattle.router_trace.specs.declared.binding.BindingKind.TheVariants as kind
+use Rattle.router_trace.specs.declared.binding.Holding.{Holding}
+use Rattle.router_trace.specs.declared.binding.Holding.TheVariants as holding
+use Rattle.router_trace.specs.declared.binding.JoinedTo.{JoinedTo}
 use Rattle.router_trace.specs.declared.binding.Origin.{Origin}
 use Rattle.router_trace.specs.declared.binding.TakenUp.{TakenUp}
 use Rattle.router_trace.specs.declared.condition.Condition.TheVariants.{ResourceLimitExceeded}
@@ -39,12 +42,13 @@ use Rattle.router_core.specs.Moves.{Goes, IsTrace}
 use Rattle.router_core.specs.Replies.{handled}
 use Rattle.router_core.proofs.Following.{all_keep}
 use Rattle.theorems.specs.Admitted.{IsAdmittedUnder}
-use Rattle.theorems.specs.Came.{last_found, TakesUp, IsOutcomeThen, BringsItsOutcome, JoinsRow, BindsAs, BindsByKind}
+use Rattle.theorems.specs.Came.{last_found, TakesUp, IsOutcomeThen, BringsItsOutcome, HoldsRow, JoinsRow, SettlesRow, BindsAs, BindsByKind}
 use Rattle.theorems.specs.Each.{EachBound}
 use Rattle.theorems.proofs.Admitted.{is_taken_up, bound_not_taken, bound_row, bound_lasting as bound_lasting_as}
 use Rattle.theorems.proofs.AllSound.{acted_sound, event_binds, handled_sound}
 use Rattle.theorems.proofs.Booked.{acts_apply, answer_for, RowAfter, row_after}
 use Rattle.theorems.proofs.Lasting.{Lasting, booked_lasting, did_lasting, out_lasting, RowLasts, bound_lasting, message_lasts, joined_lasts, taken_lasts}
+use Rattle.theorems.proofs.Held.{held_below, settles_standing}
 use Rattle.theorems.proofs.Joins.{joined_below, joined_role}
 use Rattle.theorems.proofs.Looking.{found_in}
 use Rattle.theorems.proofs.Rows.{Rows, start_rows, took_rows, handled_rows}
@@ -142,6 +146,31 @@ taken_brings id t s u b up before known was =
       lasting = bound_lasting b u (λ new. taken_lasts u b up is.row.known durable) was.lasting;
     }
 
+-- a row that a producer's link has without a delivery
+held_lasts : (u : Trace) (b : Binding) (q : Holding) → HoldsRow u b q ⊎ SettlesRow u b q → IsOrdered (book_in u) → holds_standing b.kind ≡ None → (r : RowNumber) → b.row ≡ Some r
+    → RowLasts (book_in u) r (bound (name_in u b) (rank_in u b) b)
+held_lasts u b q (inl holds) ordered new r named =
+    joined_lasts u b (ap (λ (x : Binding). x.lasting) holds.holds) r
+    (subst (λ (n : RowNumber). n.0 < (book_in u).next_row) (some_same (sym (ap (λ (x : Binding). x.row) holds.holds) ∙ named)) (held_below u b q holds ordered)) named
+held_lasts u b q (inr settles) ordered new r named = absurd (none_not_some (sym new ∙ settles_standing u b q settles))
+
+held_brings : (u : Trace) (b : Binding) (q : Holding) (to : JoinedTo) → b.kind ≡ kind.Joined q to → HoldsRow u b q ⊎ SettlesRow u b q → Brings u → Brings (Bound b ∷ u)
+held_brings u b q to is binds was = record {
+  book = was.book;
+  brings = (λ takes. absurd (not_taken takes), was.brings);
+  right = (record { durable = λ takes. absurd (not_taken takes); producer = λ p joins. joined_role u b p joins ordered was.book }, was.right);
+  lasting = bound_lasting b u (held_lasts u b q binds ordered) was.lasting;
+}
+  where
+    ordered : IsOrdered (book_in u)
+    ordered = sound_is_ordered (book_in u) was.book
+
+    clash : true ≡ false → ⊥
+    clash e = cc
+
+    not_taken : TakesUp u b → ⊥
+    not_taken takes = clash (sym (ap is_taken_up takes.taken) ∙ ap is_taken_up is)
+
 -- what an event binds before that: a message, or a row that its producer's delivery joins
 abbrev Fresh : Trace → Binding → Type 0
 Fresh t x = (is_message x.kind ≡ true → (x.lasting ≡ lasts t x.consumer) × IsAdmittedUnder t x x.row) × BindsByKind t x × (is_taken_up x.kind ≡ false)
@@ -167,12 +196,16 @@ bound_brings (Some b) t fresh was = record {
         joined_lasts t b (ap (λ (x : Binding). x.lasting) joins.joins) r
         (subst (λ (n : RowNumber). n.0 < (book_in t).next_row) number (joined_below t b p joins ordered)) named
 
-    by : (k : BindingKind) → b.kind ≡ k → joins_standing b.kind ≡ None → (r : RowNumber) → b.row ≡ Some r → RowLasts (book_in t) r (bound (name_in t b) (rank_in t b) b)
+    by : (k : BindingKind) → b.kind ≡ k → holds_standing b.kind ≡ None → (r : RowNumber) → b.row ≡ Some r → RowLasts (book_in t) r (bound (name_in t b) (rank_in t b) b)
     by (kind.Message o) is new r named =
         let now = (fresh b refl).0 (ap is_message is) in
         message_lasts t b r (subst (λ (o : Option RowNumber). IsAdmittedUnder t b o) named now.1) ordered now.0 named
     by (kind.TakenUp brought) is new r named = absurd (clash (sym (ap is_taken_up is) ∙ (fresh b refl).2))
-    by (kind.Joined p to) is new r named = joined p (subst (λ (k : BindingKind). BindsAs k t b) is (fresh b refl).1) r named
+    by (kind.Joined (holding.Resumed p) to) is new r named = joined p (subst (λ (k : BindingKind). BindsAs k t b) is (fresh b refl).1) r named
+    by (kind.Joined (holding.Unresumed a) to) is new r named =
+        held_lasts t b (holding.Unresumed a) (subst (λ (k : BindingKind). BindsAs k t b) is (fresh b refl).1) ordered new r named
+    by (kind.Joined (holding.Settled a) to) is new r named =
+        held_lasts t b (holding.Settled a) (subst (λ (k : BindingKind). BindsAs k t b) is (fresh b refl).1) ordered new r named
 
 booked_brings : (t : Trace) (e : Event) → Brings t → Brings (booked t e)
 booked_brings t e was =
@@ -204,7 +237,8 @@ handled_brings id t s sound was =
     let rows : Brings (replied id at s) = goes_brings (own_row id at u s.event) (with_bound b u)
     (bound_brings b u (λ x is. (λ message. (bound_lasting_as id t s.event x is message, bound_row id t s.event x is message), event_binds id at s x sound is, bound_not_taken id t s.event x is)) came) in
     all_keep Brings goes_brings (resumed at s.event (replied id at s))
-    (resumed_takes Brings at s.event (replied id at s) (λ v x takes known held. taken_brings id t s v x takes was known held) (replied_found id at s) rows)
+    (resumed_takes Brings at s.event (replied id at s) (λ v x takes known held. taken_brings id t s v x takes was known held)
+    (λ v x q to is quiet binds book before. held_brings v x q to is binds before) (replied_found id at s) (replied_book id at s) rows)
 
 pub moves_brings : (id : List ℕ) (ms : List Move) (t u : Trace) → Rows t → Sound t → Brings t → Goes id ms t u → Brings u
 moves_brings id [] t u rows sound was went = subst Brings (sym went) was

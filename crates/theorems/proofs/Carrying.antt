@@ -12,7 +12,7 @@ use Rattle.amqp_model.specs.declared.item.Item.TheVariants as item
 use Rattle.router_trace.specs.declared.binding.Binding.{Binding}
 use Rattle.router_trace.specs.declared.binding.DeliveryName.{DeliveryName}
 use Rattle.router_trace.specs.Trace.{Entry, Did, Out, Took, Bound, Booked, Began, IsOneRun}
-use Rattle.router_trace.specs.Deliveries.{Delivery, bindings, counters, joins_standing, number_named, delivery, sending, named, unless_over, after_frame, closes, ended_by, put_in, after_put, after_event, carried, tag_in, is_number, channels_found, acts_found}
+use Rattle.router_trace.specs.Deliveries.{Delivery, bindings, counters, holds_standing, number_named, delivery, sending, named, unless_over, after_frame, closes, ended_by, put_in, after_put, after_event, carried, tag_in, is_number, channels_found, acts_found, held_by}
 use Rattle.theorems.specs.OneConsumer.{IsOf, WhileThere}
 use Rattle.theorems.specs.Each.{EachOut}
 use Rattle.theorems.specs.Carried.{HasSmallNumbers, BeginsOrGoesOn, CarriesMessage, CarriesWhatWasBound, bytes_by, bytes_out, IsBeginning, GoesInOrder, CompletesMessage}
@@ -21,7 +21,7 @@ use Rattle.theorems.proofs.Tests.{some_same}
 use Rattle.theorems.proofs.Followed.{Left, ends_left, told_left, event_left}
 use Rattle.state_deliveries.proofs.Called.{there_named}
 use Rattle.theorems.proofs.Outcomes.{number_is}
-use Rattle.theorems.proofs.Rebound.{AfterBound, after_bound}
+use Rattle.theorems.proofs.Rebound.{AfterBound, after_bound, held_id, held_payload, held_sent}
 use Rattle.theorems.proofs.Rebound.AfterBound.{is_new, is_joined, is_old}
 use Rattle.theorems.proofs.Bindings.{of_what, there_bound, stays_with_consumer}
 
@@ -112,7 +112,8 @@ bound_unstarted t b was n d there none = by (after_bound b t n d there)
   where
     by : AfterBound b t n d → d.sent ≡ 0
     by (is_new new) = sym (ap (λ (f : Delivery). f.sent) new.is)
-    by (is_joined joins) = sym (ap (λ (f : Delivery). f.sent) joins.is) ∙ was n joins.before joins.there (ap (λ (f : Delivery). f.id) joins.is ∙ none)
+    by (is_joined joins) = sym (ap (λ (f : Delivery). f.sent) joins.is) ∙ held_sent joins.holding joins.before
+        ∙ was n joins.before joins.there (sym (held_id joins.holding joins.before) ∙ ap (λ (f : Delivery). f.id) joins.is ∙ none)
     by (is_old there) = was n d there none
 
 -- the number that a frame of the router carries
@@ -204,7 +205,7 @@ none_early (Out c i ∷ t) n all small early =
 none_early (Began g ∷ t) n all small early = refl
 none_early (Took c k ∷ t) n all small early = none_early t n all small early
 none_early (Booked acts full ∷ t) n all small early = none_early t n all small early
-none_early (Bound b ∷ t) n all small early = none_early t n all (lower t b small) (lower_still (is_none (joins_standing b.kind)) early)
+none_early (Bound b ∷ t) n all small early = none_early t n all (lower t b small) (lower_still (is_none (holds_standing b.kind)) early)
   where
     lower_still : (new : Bool) → (if new then bindings t + 1 else bindings t) < n → bindings t < n
     lower_still true h = omega (arith, h)
@@ -273,7 +274,8 @@ bound_went b t n all small was d there = by (after_bound b t n d there)
 
     by : AfterBound b t n d → Went t n d
     by (is_new new) = none_early t n all small (just_below (bindings t) n new.number) ∙ ap (λ (f : Delivery). take f.sent f.payload) new.is
-    by (is_joined joins) = was joins.before joins.there ∙ ap (λ (f : Delivery). take f.sent f.payload) joins.is
+    by (is_joined joins) = was joins.before joins.there ∙ sym (ap (λ (k : ℕ). take k (held_by joins.holding joins.before).payload) (held_sent joins.holding joins.before)
+        ∙ ap (take joins.before.sent) (held_payload joins.holding joins.before)) ∙ ap (λ (f : Delivery). take f.sent f.payload) joins.is
     by (is_old there) = was d there
 
 pub went : (u : List Entry) (n : ℕ) → AllCarried u → HasSmallNumbers u → AllWent u n
@@ -340,7 +342,7 @@ payload_of : (later : List Entry) (b : Binding) (v : Option Delivery) → WhileT
 payload_of later b None is = tt
 payload_of later b (Some d) is = is.payload
 
-begins_later : (later t : List Entry) (b : Binding) → IsOneRun later → joins_standing b.kind ≡ None → AllCarried (later ++ Bound b ∷ t) → HasSmallNumbers (later ++ Bound b ∷ t)
+begins_later : (later t : List Entry) (b : Binding) → IsOneRun later → holds_standing b.kind ≡ None → AllCarried (later ++ Bound b ∷ t) → HasSmallNumbers (later ++ Bound b ∷ t)
     → IsBeginning (bytes_out (later ++ Bound b ∷ t) (bindings t + 1)) b.payload
 begins_later [] t b one numbered all small =
     record { rest = b.payload; joined = ap (λ (xs : List ℕ). xs ++ b.payload) (none_early t (bindings t + 1) all (lower t b small) (above (bindings t))) }

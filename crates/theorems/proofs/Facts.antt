@@ -19,13 +19,14 @@ use Rattle.book_model.specs.declared.terminus.LinkRole.TheVariants.{Producer, Co
 use Rattle.book_model.specs.declared.terminus.TerminusNumber.{TerminusNumber}
 use Rattle.book_model.specs.declared.terminus.Terminus.{Terminus}
 use Rattle.book_model.specs.Book.{BookView, row_at, terminus_at, terminus_of, same_role}
+use Rattle.router_trace.specs.declared.binding.Holding.{Holding}
 use Rattle.router_trace.specs.declared.binding.Binding.{Binding}
 use Rattle.router_trace.specs.declared.binding.DeliveryName.TheVariants.{Row}
 use Rattle.router_trace.specs.declared.binding.Origin.{Origin}
 use Rattle.router_trace.specs.declared.handle.Attachment.{Attachment}
 use Rattle.router_trace.specs.Trace.{Trace, Entry, Did, Out, Took, Bound, Step}
 use Rattle.router_trace.specs.Claims.{Claim, answered_by, bind_claim, bound_claim, claim_after, claim_after_in, claims, unless_ended}
-use Rattle.router_trace.specs.Deliveries.{Delivery, source, told, ended_by, is_meant, origin_id, last_of, bound, origin_of, stands_on, joins_standing, with_origin, name_in, name_of, number_named, delivery, sending, named, after_put, after_event, channels_found, acts_found, rank_in}
+use Rattle.router_trace.specs.Deliveries.{Delivery, source, told, ended_by, is_meant, origin_id, last_of, bound, origin_of, stands_on, name_in, name_of, number_named, delivery, sending, named, after_put, after_event, channels_found, acts_found, rank_in, holds_standing, held_by}
 use Rattle.router_trace.specs.Following.{link_of}
 use Rattle.router_trace.specs.Links.{link, durable_key, ends_handle, ends_handle_in}
 use Rattle.state_deliveries.specs.declared.change.Change.{Change}
@@ -36,6 +37,7 @@ use Rattle.theorems.proofs.Changing.{leaves_by, Alike}
 use Rattle.theorems.proofs.Claimed.{HasClaim}
 use Rattle.theorems.proofs.Middles.{Said, said_of, out_said}
 pub use Rattle.theorems.proofs.KeptForm.{kept_form}
+use Rattle.state_deliveries.proofs.Joined.{held_name}
 use Rattle.theorems.proofs.Rebound.{AfterBound, after_bound}
 use Rattle.theorems.proofs.Rebound.AfterBound.{is_new, is_joined, is_old}
 use Rattle.theorems.proofs.Standing.{Standing, IsFresh, out_durable, did_durable}
@@ -253,8 +255,8 @@ named_row : (row : Option RowNumber) (k : ℕ) (r : RowNumber) → name_of row k
 named_row None k r is = absurd cc
 named_row (Some q) k r is = cc
 
-pub bound_facts : (b : Binding) (t : List Entry) → (joins_standing b.kind ≡ None → (r : RowNumber) → b.row ≡ Some r → RowFact t (book_in t) r (bound (name_in t b) (rank_in t b) b))
-    → ((r : RowNumber) (p : Origin) (d : Delivery) → joins_standing b.kind ≡ Some p → b.row ≡ Some r → RowFact t (book_in t) r d → RowFact t (book_in t) r (with_origin p d))
+pub bound_facts : (b : Binding) (t : List Entry) → (holds_standing b.kind ≡ None → (r : RowNumber) → b.row ≡ Some r → RowFact t (book_in t) r (bound (name_in t b) (rank_in t b) b))
+    → ((r : RowNumber) (q : Holding) (d : Delivery) → holds_standing b.kind ≡ Some q → b.row ≡ Some r → RowFact t (book_in t) r d → RowFact t (book_in t) r (held_by q d))
     → Facts t [] → Facts (Bound b ∷ t) []
 bound_facts b t new joined was n d r now name =
     by (after_bound b t n d now)
@@ -264,8 +266,8 @@ bound_facts b t new joined was n d r now name =
         fact_stays t (Bound b ∷ t) (book_in t) r d (λ a. refl) (bound_claims b t)
         (subst (λ (x : Delivery). RowFact t (book_in t) r x) made.is (new made.numbered r (named_row b.row _ r (ap (λ (x : Delivery). x.name) made.is ∙ name))))
     by (is_joined joins) =
-        let named : joins.before.name ≡ Row r = ap (λ (x : Delivery). x.name) joins.is ∙ name in
+        let named : joins.before.name ≡ Row r = sym (held_name joins.holding joins.before) ∙ ap (λ (x : Delivery). x.name) joins.is ∙ name in
         fact_stays t (Bound b ∷ t) (book_in t) r d (λ a. refl) (bound_claims b t)
         (subst (λ (x : Delivery). RowFact t (book_in t) r x) joins.is
-        (joined r joins.origin joins.before joins.joins (named_row b.row _ r (sym joins.named ∙ named)) (was n joins.before r joins.there named)))
+        (joined r joins.holding joins.before joins.joins (named_row b.row _ r (sym joins.named ∙ named)) (was n joins.before r joins.there named)))
     by (is_old there) = fact_stays t (Bound b ∷ t) (book_in t) r d (λ a. refl) (bound_claims b t) (was n d r there name)

@@ -1,7 +1,7 @@
 -- How an entry changes a delivery, from how each change does; its name, link, payload and format stay, and its origin stays, or becomes none, or that of a
 -- delivery which is joined to it.
 use Rattle.std.proofs.Common.{◌≡◌, ◌∙◌, sym, ap, subst, refl, inl, inr, ℕ, ◌+◌, ◌≤◌, Bool, true, false, not, ◌&&◌, List, [], ◌∷◌, ◌++◌, arith}
-use Rattle.std.specs.Prelude.{◌==◌, Option, Some, None, is_none, option_and_then, option_map, if◌then◌else◌, length}
+use Rattle.std.specs.Prelude.{◌==◌, Option, Some, None, is_none, option_and_then, if◌then◌else◌, length}
 use Rattle.std.proofs.lemmas.Bool.{eqb-true}
 use Rattle.std.proofs.lemmas.Bool.Decides.{nat_tests}
 use Rattle.amqp_model.specs.declared.perf.Disposition.{Disposition}
@@ -18,13 +18,15 @@ use Rattle.book_model.specs.declared.row.RowNumber.{RowNumber}
 use Rattle.router_trace.specs.declared.binding.Binding.{Binding}
 use Rattle.router_trace.specs.declared.binding.DeliveryName.{DeliveryName}
 use Rattle.router_trace.specs.declared.binding.DeliveryName.TheVariants.{Row, Counter}
+use Rattle.router_trace.specs.declared.binding.Holding.{Holding}
+use Rattle.router_trace.specs.declared.binding.Holding.TheVariants as holding
 use Rattle.router_trace.specs.declared.binding.Origin.{Origin}
 use Rattle.router_trace.specs.declared.channel.PeerChannel.{PeerChannel}
 use Rattle.router_trace.specs.declared.event.Event.{Event}
 use Rattle.router_trace.specs.declared.event.Event.TheVariants as event
 use Rattle.router_trace.specs.declared.handle.Attachment.{Attachment}
 use Rattle.router_trace.specs.Trace.{Entry, Did, Out, Took, Booked, Bound, Began, is_opening, IsOneRun}
-use Rattle.router_trace.specs.Deliveries.{Delivery, bindings, counters, name_of, name_in, same_name, number_named, unless_called, bound, joined, joins_standing, with_binding, with_origin, either_origin, delivery, sending, named, is_over, unless_over, after_frame, decided, source, untold, unsettled, told, ended, decided_at_end, suspended_at_end, closes, is_undecided, is_meant, is_named, decision, terminal, is_gone_with, after_origin, after_ends, ended_by, put_in, after_put, carried, tag_in, is_number, is_on, is_settled_at, disposed, outcome_or, outcome_named, given, heard_in, heard, lost_with, after_event, origin_id, channels_found, acts_found, sender, forsaken, rank_in}
+use Rattle.router_trace.specs.Deliveries.{Delivery, bindings, counters, name_of, name_in, same_name, number_named, unless_called, bound, joined, joins_standing, with_binding, either_origin, delivery, sending, named, is_over, unless_over, after_frame, decided, source, untold, unsettled, told, ended, decided_at_end, suspended_at_end, closes, is_undecided, is_meant, is_named, decision, terminal, is_gone_with, after_origin, after_ends, ended_by, put_in, after_put, carried, tag_in, is_number, is_on, is_settled_at, disposed, outcome_or, outcome_named, given, heard_in, heard, lost_with, after_event, origin_id, channels_found, acts_found, sender, forsaken, rank_in, holds_standing, held_by, resumed_held}
 use Rattle.theorems.specs.OneConsumer.{IsOrNone, is_row_of, joined_in, WhileThere}
 use Rattle.state_connections.proofs.Lists.{by_test}
 use Rattle.state_deliveries.proofs.Called.{there_named}
@@ -232,8 +234,8 @@ uncalled_follow name (Some d) = by (same_name d.name name)
     by true = tt
     by false = same d
 
-none_joined : (b : Binding) (name : DeliveryName) → joins_standing b.kind ≡ None → joined_in (Bound b ∷ []) name ≡ None
-none_joined b name none = ap (λ (j : Option Origin). if is_row_of b.row name then either_origin j None else None) none ∙ by (is_row_of b.row name)
+none_joined : (b : Binding) (name : DeliveryName) → holds_standing b.kind ≡ None → joined_in (Bound b ∷ []) name ≡ None
+none_joined b name none = ap (λ (j : Option Holding). if is_row_of b.row name then either_origin (option_and_then resumed_held j) None else None) none ∙ by (is_row_of b.row name)
   where
     by : (q : Bool) → (if q then either_origin None None else None) ≡ None
     by true = refl
@@ -252,7 +254,7 @@ fresh_counter (Out c i ∷ t) k n h = fresh_counter t k n h
 fresh_counter (Took c j ∷ t) k n h = fresh_counter t k n h
 fresh_counter (Booked acts full ∷ t) k n h = fresh_counter t k n h
 fresh_counter (Began g ∷ t) k n h = absurd cc
-fresh_counter (Bound b ∷ t) k n h = by b.row (is_none (joins_standing b.kind)) h (fresh_counter t k n)
+fresh_counter (Bound b ∷ t) k n h = by b.row (is_none (holds_standing b.kind)) h (fresh_counter t k n)
   where
     next : k ≤ counters t → k ≤ counters t + 1
     next low = omega (arith, low)
@@ -281,21 +283,28 @@ has_its_row t n d b there = by b.row d.name (there_named t n d there)
     by None (Row q) known = refl
     by None (Counter k) known = apart k (counters t) (fresh_counter t k n known)
 
-joined_follows : (p : Origin) (q : Bool) (d : Delivery) → Follows (if q then Some p else None) d (if q then with_origin p d else d)
-joined_follows p true d = record { name = refl; link = refl; payload = refl; format = refl; presettled = refl; lasting = refl; origin = inl refl }
-joined_follows p false d = same d
+held_follows : (q : Holding) (d : Delivery) → Follows (either_origin (resumed_held q) None) d (held_by q d)
+held_follows (holding.Resumed p) d = record { name = refl; link = refl; payload = refl; format = refl; presettled = refl; lasting = refl; origin = inl refl }
+held_follows (holding.Unresumed a) d = record { name = refl; link = refl; payload = refl; format = refl; presettled = refl; lasting = refl; origin = inl refl }
+held_follows (holding.Settled a) d = record { name = refl; link = refl; payload = refl; format = refl; presettled = refl; lasting = refl; origin = inl refl }
 
--- one that joins a standing delivery
-join_follows : (b : Binding) (t : List Entry) (n : ℕ) (p : Origin) → joins_standing b.kind ≡ Some p → AllFollow (Bound b ∷ []) (delivery t n) (option_map (joined (name_in t b) p) (delivery t n))
-join_follows b t n p joins = by (delivery t n) refl
+joined_follows : (q : Holding) (is : Bool) (d : Delivery)
+    → WhileThere (Follows (if is then either_origin (resumed_held q) None else None) d) (if is then unless_over (held_by q d) else Some d)
+joined_follows q true d = unless_left (Follows (either_origin (resumed_held q) None) d) (held_by q d) (held_follows q d)
+joined_follows q false d = same d
+
+-- one that is joined where it stands
+join_follows : (b : Binding) (t : List Entry) (n : ℕ) (q : Holding) → holds_standing b.kind ≡ Some q → AllFollow (Bound b ∷ []) (delivery t n) (joined (name_in t b) q (delivery t n))
+join_follows b t n q joins = by (delivery t n) refl
   where
-    by : (v : Option Delivery) → delivery t n ≡ v → AllFollow (Bound b ∷ []) v (option_map (joined (name_in t b) p) v)
+    by : (v : Option Delivery) → delivery t n ≡ v → AllFollow (Bound b ∷ []) v (joined (name_in t b) q v)
     by None there = refl
     by (Some d) there =
         let its : same_name d.name (name_in t b) ≡ is_row_of b.row d.name = has_its_row t n d b there in
-        let its_origin : joined_in (Bound b ∷ []) d.name ≡ (if same_name d.name (name_in t b) then Some p else None)
-        = ap (λ (j : Option Origin). if is_row_of b.row d.name then either_origin j None else None) joins ∙ ap (λ (q : Bool). if q then Some p else None) (sym its) in
-        subst (λ (o : Option Origin). Follows o d (joined (name_in t b) p d)) (sym its_origin) (joined_follows p (same_name d.name (name_in t b)) d)
+        let its_origin : joined_in (Bound b ∷ []) d.name ≡ (if same_name d.name (name_in t b) then either_origin (resumed_held q) None else None)
+        = ap (λ (j : Option Holding). if is_row_of b.row d.name then either_origin (option_and_then resumed_held j) None else None) joins
+        ∙ ap (λ (is : Bool). if is then either_origin (resumed_held q) None else None) (sym its) in
+        subst (λ (o : Option Origin). WhileThere (Follows o d) (joined (name_in t b) q (Some d))) (sym its_origin) (joined_follows q (same_name d.name (name_in t b)) d)
 
 pub entry_follows : (e : Entry) (t : List Entry) (n : ℕ) → n ≤ bindings t → AllFollow (e ∷ []) (delivery t n) (delivery (e ∷ t) n)
 entry_follows (Did s) t n given =
@@ -307,7 +316,7 @@ entry_follows (Out c i) t n given =
 entry_follows (Took c k) t n given = nothing_joined (Took c k ∷ []) (λ name. refl) (delivery t n) (delivery t n) (all_same (delivery t n))
 entry_follows (Began g) t n given = all_gone (Began g ∷ []) (delivery t n)
 entry_follows (Booked acts full) t n given = nothing_joined (Booked acts full ∷ []) (λ name. refl) (delivery t n) (delivery t n) (all_same (delivery t n))
-entry_follows (Bound b) t n given = by (joins_standing b.kind) refl
+entry_follows (Bound b) t n given = by (holds_standing b.kind) refl
   where
     too_high : (n k : ℕ) → n ≤ k → k + 1 ≡ n → ⊥
     too_high n k h e = omega (arith, h, e)
@@ -318,10 +327,10 @@ entry_follows (Bound b) t n given = by (joins_standing b.kind) refl
     by_number : AllFollow [] (delivery t n) (if bindings t + 1 == n then Some (bound newest (rank_in t b) b) else unless_called newest (delivery t n))
     by_number = by_test (bindings t + 1 == n) (λ e. absurd (too_high n (bindings t) given (eqb-true (bindings t + 1) n e))) (λ e. rw e (uncalled_follow newest (delivery t n)))
 
-    by : (j : Option Origin) → joins_standing b.kind ≡ j → AllFollow (Bound b ∷ []) (delivery t n) (with_binding j newest (rank_in t b) b (bindings t + 1 == n) (delivery t n))
+    by : (j : Option Holding) → holds_standing b.kind ≡ j → AllFollow (Bound b ∷ []) (delivery t n) (with_binding j newest (rank_in t b) b (bindings t + 1 == n) (delivery t n))
     by None none =
         nothing_joined (Bound b ∷ []) (λ name. none_joined b name none) (delivery t n) (if bindings t + 1 == n then Some (bound newest (rank_in t b) b) else unless_called newest (delivery t n)) by_number
-    by (Some p) joins = join_follows b t n p joins
+    by (Some q) joins = join_follows b t n q joins
 
 pub more_bound : (e : Entry) (t : List Entry) (n : ℕ) → is_opening e ≡ false → n ≤ bindings t → n ≤ bindings (e ∷ t)
 more_bound (Did s) t n one h = h
@@ -329,7 +338,7 @@ more_bound (Out c i) t n one h = h
 more_bound (Took c k) t n one h = h
 more_bound (Began g) t n one h = absurd cc
 more_bound (Booked acts full) t n one h = h
-more_bound (Bound b) t n one h = by (is_none (joins_standing b.kind))
+more_bound (Bound b) t n one h = by (is_none (holds_standing b.kind))
   where
     one_more : (n k : ℕ) → n ≤ k → n ≤ k + 1
     one_more n k h = omega (arith, h)

@@ -14,6 +14,8 @@ use Rattle.book_model.specs.declared.terminus.TerminusNumber.{TerminusNumber}
 use Rattle.book_model.specs.Book.{BookView, row_at, terminus_at, has_role, may_bind, same_role}
 use Rattle.book_model.specs.Sound.{IsSound, IsSoundRow}
 use Rattle.gate_journal.specs.Ordered.{IsOrdered, number_of_row, number_of_terminus}
+use Rattle.router_trace.specs.declared.binding.Holding.TheVariants as holding
+use Rattle.router_trace.specs.declared.binding.Holding.{Holding}
 use Rattle.router_trace.specs.declared.binding.Binding.{Binding}
 use Rattle.router_trace.specs.declared.binding.DeliveryName.TheVariants.{Row}
 use Rattle.router_trace.specs.declared.binding.JoinedTo.TheVariants.{Standing as StandingOne, New}
@@ -23,7 +25,7 @@ use Rattle.router_trace.specs.Trace.{Trace}
 use Rattle.router_trace.specs.Claims.{claims}
 use Rattle.router_trace.specs.Following.{link_of}
 use Rattle.router_trace.specs.Links.{link, durable_key, has_number, is_attached}
-use Rattle.router_trace.specs.Deliveries.{Delivery, bound, called, is_undecided, joined_to, joining, joins_standing, name_in, source, with_origin, rank_in}
+use Rattle.router_trace.specs.Deliveries.{Delivery, bound, called, is_undecided, joined_to, joining, name_in, source, with_origin, rank_in, holds_standing, held_by}
 use Rattle.state_connections.proofs.Lists.{by_test}
 use Rattle.router_reply.specs.Acts.{book_in}
 use Rattle.theorems.specs.Came.{JoinsRow}
@@ -47,7 +49,7 @@ joined_below u b p joins ordered =
     found_below joins.row.number.0 (book_in u).next_row (book_in u).rows joins.row ordered.rows_below (joined_there u b p joins ordered)
 
 -- what a sound book says of it
-row_among : (P : ARow → Type 0) (earlier later : List ARow) (row : ARow) → AllByRecursion P (earlier ++ row ∷ later) → P row
+pub row_among : (P : ARow → Type 0) (earlier later : List ARow) (row : ARow) → AllByRecursion P (earlier ++ row ∷ later) → P row
 row_among P [] later row all = all.0
 row_among P (r ∷ rs) later row all = row_among P rs later row all.1
 
@@ -104,12 +106,12 @@ joined_fact u b p joins ordered sound e settled kept comes = record {
 }
 
 -- What a binding needs, so that what holds stays: its consumer has its link, if what is bound is undecided; its producer has its; and what the book has of
--- its row holds of what is bound, and of the delivery to which a producer's is joined.
+-- its row holds of what is bound, and of the delivery that a producer's link has from now on.
 pub record CanBind (u : Trace) (b : Binding) : Type 0 where
   pub consumer : is_undecided (bound (name_in u b) (rank_in u b) b) ≡ true → Sends u b.consumer
   pub producer : (q : Origin) → source (bound (name_in u b) (rank_in u b) b) ≡ Some q → is_attached u q.link ≡ true
-  pub new : joins_standing b.kind ≡ None → (r : RowNumber) → b.row ≡ Some r → RowFact u (book_in u) r (bound (name_in u b) (rank_in u b) b)
-  pub joined : (r : RowNumber) (q : Origin) (d : Delivery) → joins_standing b.kind ≡ Some q → b.row ≡ Some r → RowFact u (book_in u) r d → RowFact u (book_in u) r (with_origin q d)
+  pub new : holds_standing b.kind ≡ None → (r : RowNumber) → b.row ≡ Some r → RowFact u (book_in u) r (bound (name_in u b) (rank_in u b) b)
+  pub joined : (r : RowNumber) (q : Holding) (d : Delivery) → holds_standing b.kind ≡ Some q → b.row ≡ Some r → RowFact u (book_in u) r d → RowFact u (book_in u) r (held_by q d)
 
 clash : false ≡ true → ⊥
 clash e = cc
@@ -136,20 +138,21 @@ can_join u b p joins ordered sound = subst (CanBind u) (sym joins.joins) (by (ca
         let held : IsHeld u (book_in u) joins.row d = subst (λ (v : Option ARow). Agrees u (book_in u) v d) there was.agrees in
         held.outcome
 
-    standing : CanBind u (joining p n StandingOne)
+    standing : CanBind u (joining (holding.Resumed p) n StandingOne)
     standing = record {
       consumer = λ undecided. absurd (clash undecided);
       producer = λ q from. origin_attached u b p joins q (some_same from);
       new = λ new r named. absurd (none_not_some (sym new));
       joined = λ r q d is named was.
-          fact (with_origin q d) was.settled (kept_of d r named was) (λ o from. sym (some_same (is ∙ from))) r named;
+          subst (λ (h : Holding). RowFact u (book_in u) r (held_by h d)) (some_same is)
+          (fact (with_origin p d) was.settled (kept_of d r named was) (λ o from. sym (some_same from)) r named);
     }
 
-    new_one : (o : Option DeliveryState) → joins.row.outcome ≡ o → CanBind u (joining p n (New o))
+    new_one : (o : Option DeliveryState) → joins.row.outcome ≡ o → CanBind u (joining (holding.Resumed p) n (New o))
     new_one o is = record {
       consumer = λ undecided. absurd (clash (sym (never o) ∙ undecided));
       producer = λ q from. origin_attached u b p joins q (some_same from);
-      new = λ new r named. fact (bound (name_in u (joining p n (New o))) (rank_in u (joining p n (New o))) (joining p n (New o))) refl (inr is) (λ q from. sym (some_same from)) r named;
+      new = λ new r named. fact (bound (name_in u (joining (holding.Resumed p) n (New o))) (rank_in u (joining (holding.Resumed p) n (New o))) (joining (holding.Resumed p) n (New o))) refl (inr is) (λ q from. sym (some_same from)) r named;
       joined = λ r q d is. absurd (none_not_some is);
     }
       where
@@ -157,6 +160,6 @@ can_join u b p joins ordered sound = subst (CanBind u) (sym joins.joins) (by (ca
         never None = refl
         never (Some s) = refl
 
-    by : (v : Option Delivery) → CanBind u (joining p n (joined_to v joins.row.outcome))
+    by : (v : Option Delivery) → CanBind u (joining (holding.Resumed p) n (joined_to v joins.row.outcome))
     by (Some d) = standing
     by None = new_one joins.row.outcome refl

@@ -81,12 +81,13 @@ use Rattle.theorems.proofs.Ours.{came_claims}
 use Rattle.theorems.proofs.Wholes.{lost_ending, tag_bytes, same_told, whole_claim}
 use Rattle.theorems.proofs.Keeps.{Kept, Ahead, PlainPut, plain_both, plain_goes, took_kept, small_before, SmallKept, followed_kept}
 use Rattle.theorems.proofs.Once.{Decides, decides_once}
-use Rattle.theorems.proofs.Resumed.{ends_book, resumed_takes, replied_found}
+use Rattle.theorems.proofs.Held.{can_have}
+use Rattle.theorems.proofs.Resumed.{ends_book, resumed_takes, replied_book, replied_found}
 use Rattle.theorems.proofs.Giving.{IsKept, given_kept}
 use Rattle.theorems.proofs.Facts.{KeptAs}
 use Rattle.theorems.proofs.KeptForm.{kept_form, kept_again}
 use Rattle.theorems.proofs.Rows.{Rows, no_rows, start_rows, opened_rows, handled_rows, took_rows, cut_rows}
-use Rattle.theorems.proofs.Rowing.{Holds, MayBind, Receives, plain_row, disposed_row, taken_row, taken_up_kept}
+use Rattle.theorems.proofs.Rowing.{Holds, MayBind, bound_kept, Receives, plain_row, disposed_row, taken_row, taken_up_kept}
 use Rattle.theorems.proofs.Sound.{Sound, none_sound, opened_sound, sound_start, did_sound, took_sound, batch_sound}
 use Rattle.theorems.proofs.Standing.{began_standing, booked_standing}
 use Rattle.theorems.proofs.Tests.{none_not_some}
@@ -341,7 +342,9 @@ resumed_kept : (id : List ℕ) (t : Trace) (s : Step) → Sound t → Brings t �
 resumed_kept id t s sound brings begun none was =
     resumed_takes (λ (u : Trace). Kept u []) (booked t s.event) s.event (replied id (booked t s.event) s)
     (λ u b takes known held. taken_up_kept u b takes (taken_holds id t s u b takes (found_row id t s u b takes was.ordered brings.lasting known)) held)
-    (replied_found id (booked t s.event) s) (replied_kept id t s sound brings.book begun none was)
+    (λ u b q to is quiet binds book before. bound_kept b u (can_have u b q quiet binds before.ordered (subst IsSound (sym book)
+    (acts_keep (book_in t) (acts_of t s.event) (acts_apply t s.event (sound_is_ordered (book_in t) brings.book)) brings.book))) before)
+    (replied_found id (booked t s.event) s) (replied_book id (booked t s.event) s) (replied_kept id t s sound brings.book begun none was)
 
 resumed_small : (id : List ℕ) (t : Trace) (s : Step) → HasSmallNumbers (resumed (booked t s.event) s.event (replied id (booked t s.event) s)) → HasSmallNumbers t
 resumed_small id t s =

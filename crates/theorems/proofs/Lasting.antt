@@ -20,7 +20,7 @@ use Rattle.router_trace.specs.declared.event.Event.{Event}
 use Rattle.router_trace.specs.Following.{link_of}
 use Rattle.router_trace.specs.Links.{durable_key}
 use Rattle.router_trace.specs.Trace.{Trace, Did, Out, Bound, Step}
-use Rattle.router_trace.specs.Deliveries.{Delivery, bound, counters, joins_standing, has_row, name_in, name_of, delivery, rank_in}
+use Rattle.router_trace.specs.Deliveries.{Delivery, bound, counters, holds_standing, has_row, name_in, name_of, delivery, rank_in}
 use Rattle.state_messages.specs.Messages.{lasts}
 use Rattle.router_reply.specs.Acts.{book_in, acts_of, booked}
 use Rattle.router_reply.specs.Admitting.{terminus_for}
@@ -29,7 +29,8 @@ use Rattle.theorems.specs.Came.{TakesUp}
 use Rattle.theorems.proofs.Answering.{admitted_row}
 use Rattle.theorems.proofs.Booked.{acts_apply}
 use Rattle.theorems.proofs.Looking.{decided_keeps, forgotten_keeps, found_with, found_before}
-use Rattle.theorems.proofs.Rebound.{AfterBound, after_bound}
+use Rattle.state_deliveries.proofs.Joined.{held_name}
+use Rattle.theorems.proofs.Rebound.{AfterBound, after_bound, held_lasting}
 use Rattle.theorems.proofs.Rebound.AfterBound.{is_new, is_joined, is_old}
 use Rattle.theorems.proofs.Tests.{some_same, none_not_some}
 use Rattle.theorems.proofs.Undecided.{was_did, was_out}
@@ -149,15 +150,18 @@ named_row : (row : Option RowNumber) (k : ℕ) (r : RowNumber) → name_of row k
 named_row None k r is = absurd cc
 named_row (Some q) k r is = cc
 
-pub bound_lasting : (b : Binding) (u : Trace) → (joins_standing b.kind ≡ None → (r : RowNumber) → b.row ≡ Some r → RowLasts (book_in u) r (bound (name_in u b) (rank_in u b) b)) → Lasting u → Lasting (Bound b ∷ u)
+pub bound_lasting : (b : Binding) (u : Trace) → (holds_standing b.kind ≡ None → (r : RowNumber) → b.row ≡ Some r → RowLasts (book_in u) r (bound (name_in u b) (rank_in u b) b)) → Lasting u → Lasting (Bound b ∷ u)
 bound_lasting b u new was n d r now name = by (after_bound b u n d now)
   where
     by : AfterBound b u n d → RowLasts (book_in u) r d
     by (is_new made) =
         subst (λ (x : Delivery). RowLasts (book_in u) r x) made.is (new made.numbered r (named_row b.row _ r (ap (λ (x : Delivery). x.name) made.is ∙ name)))
     by (is_joined joins) =
-        let old = was n joins.before r joins.there (ap (λ (x : Delivery). x.name) joins.is ∙ name) in
-        record { known = old.known; lasting = λ row found bound_one. sym (ap (λ (x : Delivery). x.lasting) joins.is) ∙ old.lasting row found bound_one }
+        let old = was n joins.before r joins.there (sym (held_name joins.holding joins.before) ∙ ap (λ (x : Delivery). x.name) joins.is ∙ name) in
+        record {
+          known = old.known;
+          lasting = λ row found bound_one. sym (ap (λ (x : Delivery). x.lasting) joins.is) ∙ held_lasting joins.holding joins.before ∙ old.lasting row found bound_one;
+        }
     by (is_old there) = was n d r there name
 
 -- a binding with a row lasts as its consumer's link does
@@ -183,7 +187,7 @@ message_lasts u b r adm ordered is named =
         for_some (book_in adm.before) (durable_key (link_of u b.consumer))
         (ap is_some (sym adm.consumer) ∙ ap (λ (x : ARow). is_some x.consumer) same ∙ bound_one)
 
--- that of a row to which a producer's delivery is joined
+-- that of a row that is joined to a producer's link
 pub joined_lasts : (u : Trace) (b : Binding) → b.lasting ≡ true → (r : RowNumber) → r.0 < (book_in u).next_row → b.row ≡ Some r → RowLasts (book_in u) r (bound (name_in u b) (rank_in u b) b)
 joined_lasts u b lasts r low named = record { known = low; lasting = λ row found bound_one. by b.row named }
   where

@@ -56,6 +56,7 @@ pub mod Forgetting
 pub mod Booked
 pub mod Joins
 pub mod Lasting
+pub mod Held
 pub mod Taking
 pub mod Brings
 pub mod Mapped

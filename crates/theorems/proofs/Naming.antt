@@ -30,7 +30,7 @@ use Rattle.theorems.proofs.Bindings.{of_what}
 use Rattle.theorems.proofs.Followed.{Left, event_left, ends_left}
 use Rattle.theorems.proofs.Names.{NamesTold, names_told}
 use Rattle.theorems.proofs.Outcomes.{number_is}
-use Rattle.theorems.proofs.Rebound.{AfterBound, after_bound}
+use Rattle.theorems.proofs.Rebound.{AfterBound, after_bound, held_id, held_link, held_undecided}
 use Rattle.theorems.proofs.Rebound.AfterBound.{is_new, is_joined, is_old}
 use Rattle.theorems.proofs.Tests.{some_same, none_not_some}
 use Rattle.theorems.proofs.Undecided.{Was, was_did, was_out}
@@ -139,8 +139,9 @@ bound_named b t was n id d now undecided has =
     by : AfterBound b t n d → named (Bound b ∷ t) d.link.conn.0 d.link.channel id ≡ Some n
     by (is_new new) = absurd (none_not_some (ap (λ (x : Delivery). x.id) new.is ∙ has))
     by (is_joined joins) =
-        subst (λ (a : Attachment). named t a.conn.0 a.channel id ≡ Some n) (ap (λ (x : Delivery). x.link) joins.is)
-        (was n id joins.before joins.there (ap is_undecided joins.is ∙ undecided) (ap (λ (x : Delivery). x.id) joins.is ∙ has))
+        subst (λ (a : Attachment). named t a.conn.0 a.channel id ≡ Some n) (sym (held_link joins.holding joins.before) ∙ ap (λ (x : Delivery). x.link) joins.is)
+        (was n id joins.before joins.there (sym (held_undecided joins.holding joins.before) ∙ ap is_undecided joins.is ∙ undecided)
+        (sym (held_id joins.holding joins.before) ∙ ap (λ (x : Delivery). x.id) joins.is ∙ has))
     by (is_old there) = was n id d there undecided has
 
 -- A transfer that is due: it carries this delivery; if it has an id, the delivery has none yet, the id will name it, and names no undecided one.

@@ -29,7 +29,7 @@ use Rattle.core_machine.specs.Moves.{took_one}
 use Rattle.router_core.proofs.Following.{all_keep}
 use Rattle.theorems.specs.Admitted.{is_row, times_bound, AreBoundSince}
 use Rattle.theorems.proofs.Admitted.{row_of_bound, BindsNext, binds_next}
-use Rattle.theorems.proofs.Resumed.{resumed_marked}
+use Rattle.theorems.proofs.Resumed.{replied_book, replied_found, resumed_marked}
 use Rattle.theorems.proofs.Rows.{Rows, start_rows, took_rows, handled_rows}
 use Rattle.theorems.proofs.Tests.{none_not_some}
 
@@ -74,9 +74,9 @@ bound_stays n times book None u was = (was.0 ∙ nothing times, was.1)
     nothing k = omega arith
 bound_stays n times book (Some x) u was = (ap (λ (k : ℕ). k + times_of (Some x) n) was.0, was.1)
 
--- a row that is taken up was bound before
-taken_stays : (n times : ℕ) (book : BookView) (u : List Entry) (b : Binding) (brought : TakenUp) → b.kind ≡ kind.TakenUp brought → Stays n times book u → Stays n times book (Bound b ∷ u)
-taken_stays n times book u b brought marked was = (ap (λ (k : BindingKind). times_bound u n + (if is_message k && is_row b.row n then 1 else 0)) marked ∙ nothing (times_bound u n) ∙ was.0, was.1)
+-- a row that is bound again was bound before
+again_stays : (n times : ℕ) (book : BookView) (u : List Entry) (b : Binding) → is_message b.kind ≡ false → Stays n times book u → Stays n times book (Bound b ∷ u)
+again_stays n times book u b again was = (ap (λ (q : Bool). times_bound u n + (if q && is_row b.row n then 1 else 0)) again ∙ nothing (times_bound u n) ∙ was.0, was.1)
   where
     nothing : (k : ℕ) → k + 0 ≡ k
     nothing k = omega arith
@@ -91,7 +91,7 @@ handled_stays id t s n =
     let came : Stays n (times_bound t n) book u = ends_stays n (times_bound t n) book id (due t s.event) (Did s ∷ at) (refl, refl) in
     let times : ℕ = times_bound t n + times_of b n in
     all_keep (Stays n times book) (goes_stays n times book) (resumed at s.event (replied id at s))
-    (resumed_marked (Stays n times book) (taken_stays n times book) at s.event (replied id at s)
+    (resumed_marked (Stays n times book) (again_stays n times book) at s.event (replied id at s) (replied_book id at s) (replied_found id at s)
     (goes_stays n times book (own_row id at u s.event) (with_bound b u) (bound_stays n (times_bound t n) book b u came)))
 
 -- a number of a row that was given is that of one bound

@@ -54,7 +54,7 @@ kept_from gone_is d p from = by (is_gone_with gone_is (sender d)) refl from
   where
     by : (q : Bool) → is_gone_with gone_is (sender d) ≡ q → source (if q then forsaken d else d) ≡ Some p → gone_is p.link ≡ false
     by true e from = absurd (none_not_some from)
-    by false e from = sym (ap (λ (o : Option Origin). is_gone_with gone_is (either_origin o d.early)) from) ∙ e
+    by false e from = sym (ap (λ (o : Option Origin). is_gone_with gone_is (either_origin (either_origin o d.owned) d.early)) from) ∙ e
 
 spared_one : (x : Change) (d : Delivery) (p : Origin) → source (changed x d) ≡ Some p → ends_it x p.link ≡ false
 spared_one (change.Ends g closed) d p from = kept_from (is_gone g) (if is_gone g d.link then ended closed d else d) p from

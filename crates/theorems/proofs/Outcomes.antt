@@ -26,7 +26,7 @@ use Rattle.router_trace.specs.declared.handle.Attachment.{Attachment}
 use Rattle.router_trace.specs.Trace.{Entry, Did, Out, Took, Booked, Bound, Began, Step, is_opening}
 use Rattle.router_trace.specs.Links.{ends_handle}
 use Rattle.router_trace.specs.Sessions.{maps}
-use Rattle.router_trace.specs.Deliveries.{Delivery, outcome_in, joins_standing, bindings, number_named, delivery, sending, named, failed, after_frame, decided, source, untold, unsettled, told, ended, decided_at_end, suspended_at_end, is_undecided, is_meant, is_named, is_number, last_of, decision, terminal, is_gone_with, after_origin, after_ends, ended_by, put_in, after_put, carried, tag_in, is_on, is_settled_at, disposed, outcome_or, outcome_named, given, heard_in, heard, lost_with, after_event, origin_id, channels_found, acts_found, sender, forsaken}
+use Rattle.router_trace.specs.Deliveries.{Delivery, outcome_in, holds_standing, bindings, number_named, delivery, sending, named, failed, after_frame, decided, source, untold, unsettled, told, ended, decided_at_end, suspended_at_end, is_undecided, is_meant, is_named, is_number, last_of, decision, terminal, is_gone_with, after_origin, after_ends, ended_by, put_in, after_put, carried, tag_in, is_on, is_settled_at, disposed, outcome_or, outcome_named, given, heard_in, heard, lost_with, after_event, origin_id, channels_found, acts_found, sender, forsaken}
 use Rattle.theorems.specs.Decided.{is_for_good, GivenByConsumer, Decides, DecidesFound, Decided, IsByConsumer, IsFoundByConsumer, DecidedByConsumer}
 use Rattle.theorems.specs.Decided.Decides.{given_by_consumer, given_by_attach, link_lost, link_ended, sent_settled}
 use Rattle.state_connections.proofs.Lists.{by_test}
@@ -35,7 +35,7 @@ use Rattle.theorems.proofs.Tests.{never_both, none_is, some_same, none_not_some}
 use Rattle.theorems.specs.OneConsumer.{joined_in, WhileThere}
 use Rattle.theorems.proofs.Followed.{Follows, AllFollow, then_all, entry_follows, more_bound, later_follows}
 use Rattle.theorems.proofs.Bindings.{of_what, there_bound}
-use Rattle.theorems.proofs.Rebound.{AfterBound, after_bound}
+use Rattle.theorems.proofs.Rebound.{AfterBound, after_bound, held_outcome}
 use Rattle.theorems.proofs.Rebound.AfterBound.{is_new, is_joined, is_old}
 
 -- an outcome was there before, or was given now
@@ -291,7 +291,7 @@ either_decided x t n d s one there was (inl e) = later_decided x t n s one (was 
 either_decided x t n d s one there was (inr now) = now_decided x t n d s there now
 
 -- a binding that brings an outcome: no delivery had its number before
-brought_back : (b : Binding) (t : List Entry) (n : ℕ) (s : DeliveryState) → bindings t + 1 ≡ n → joins_standing b.kind ≡ None → outcome_in b.kind ≡ Some s → Decided (Bound b ∷ t) n s
+brought_back : (b : Binding) (t : List Entry) (n : ℕ) (s : DeliveryState) → bindings t + 1 ≡ n → holds_standing b.kind ≡ None → outcome_in b.kind ≡ Some s → Decided (Bound b ∷ t) n s
 brought_back b t n s is numbered brings = record { later = []; entry = Bound b; before = t; trace = refl; one_run = tt; found = delivery t n; there = refl; decides = by (delivery t n) refl }
   where
     past : n ≤ bindings t → ⊥
@@ -308,7 +308,7 @@ bound_given b t n d s h e was = by (after_bound b t n d h)
   where
     by : AfterBound b t n d → Decided (Bound b ∷ t) n s
     by (is_new new) = brought_back b t n s new.number new.numbered (ap (λ (x : Delivery). x.outcome) new.is ∙ e)
-    by (is_joined joins) = later_decided (Bound b) t n s refl (was joins.before joins.there (ap (λ (x : Delivery). x.outcome) joins.is ∙ e))
+    by (is_joined joins) = later_decided (Bound b) t n s refl (was joins.before joins.there (sym (held_outcome joins.holding joins.before) ∙ ap (λ (x : Delivery). x.outcome) joins.is ∙ e))
     by (is_old there) = later_decided (Bound b) t n s refl (was d there e)
 
 pub outcomes_given : (u : List Entry) (n : ℕ) (d : Delivery) (s : DeliveryState) → delivery u n ≡ Some d → d.outcome ≡ Some s → Decided u n s

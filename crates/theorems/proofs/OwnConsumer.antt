@@ -21,27 +21,31 @@ use Rattle.router_trace.specs.declared.binding.Binding.{Binding}
 use Rattle.router_trace.specs.declared.binding.BindingKind.{BindingKind}
 use Rattle.router_trace.specs.declared.binding.BindingKind.TheVariants as kind
 use Rattle.router_trace.specs.declared.binding.DeliveryName.TheVariants.{Row}
+use Rattle.router_trace.specs.declared.binding.Holding.{Holding}
+use Rattle.router_trace.specs.declared.binding.Holding.TheVariants as holding
 use Rattle.router_trace.specs.declared.binding.Origin.{Origin}
 use Rattle.router_trace.specs.declared.handle.Attachment.{Attachment}
-use Rattle.router_trace.specs.Deliveries.{is_message, name_of}
+use Rattle.router_trace.specs.Deliveries.{is_message, link_held, name_of}
 use Rattle.router_trace.specs.Following.{is_sending, link_of}
 use Rattle.router_trace.specs.Links.{Link, attachments, durable_key, holder, last_of_key, link}
 use Rattle.router_trace.specs.Trace.{Trace, Did, Out, Took, Bound, Booked, Began, IsOneRun}
 use Rattle.state_messages.specs.Messages.{lasts}
 use Rattle.router_reply.specs.Acts.{before_acts, book_found, book_in}
 use Rattle.router_reply.specs.Admitting.{terminus_for}
+use Rattle.router_reply.specs.Holding.{as_held}
 use Rattle.theorems.specs.Admitted.{IsAdmitted, IsAdmittedIf, IsAdmittedUnder, RowIsAdmitted}
-use Rattle.theorems.specs.Came.{Handled, just_handled, last_found, BindsAs, BindsByKind, BindsMessage, JoinsRow, TakesUp}
+use Rattle.theorems.specs.Came.{Handled, just_handled, last_found, BindsAs, BindsByKind, BindsMessage, HoldsRow, JoinsRow, SettlesRow, TakesUp}
 use Rattle.theorems.specs.Carried.{CarriesMessage}
 use Rattle.theorems.specs.Each.{EachBound, EachOut}
 use Rattle.theorems.specs.Lives.{InLives}
 use Rattle.theorems.specs.OneConsumer.{IsOfMessage}
 use Rattle.theorems.specs.OwnConsumer.{WasDone, IsOfTerminus, WasBoundTo, IsConsumer, IsOwnConsumer, perf_goes_to_own, GoesToOwnConsumer}
 use Rattle.theorems.proofs.Among.{Stands, stands_after}
-use Rattle.theorems.proofs.Attaching.{held_is}
+use Rattle.theorems.proofs.Attaching.{attached_link, held_is}
 use Rattle.theorems.proofs.Bindings.{of_messages, each_bound}
 use Rattle.theorems.proofs.Brings.{BindsRight}
 use Rattle.theorems.proofs.Consuming.{consumer_sends}
+use Rattle.theorems.proofs.Held.{settles_standing}
 use Rattle.theorems.proofs.LinkNumbers.{key_of_last, link_before, link_low, role_going, role_is}
 use Rattle.theorems.proofs.Lives.{lives_rows, lives_sound, lives_brings}
 use Rattle.theorems.proofs.Origins.{Continues, IsPart, Origins, WasAdmitted, done_now, lives_continue, origins, part_continues, part_itself, part_more, part_of, part_on, was_done}
@@ -283,6 +287,29 @@ module _ (t : Trace) (c own : ℕ) (x : Transfer) (payload : List ℕ) (carries 
       ∙ ap (λ (k : LinkKey). k.role) key
       ∙ role_is_one joins.terminus.key.role role)
 
+  -- nor of one that a producer's link has without a delivery
+  held_link : (at : Attachment) (row : ARow) → link_held (as_held at row) ≡ at
+  held_link at row = by row.forgotten
+    where
+      by : (f : Bool) → link_held (if f then holding.Settled at else holding.Unresumed at) ≡ at
+      by true = refl
+      by false = refl
+
+  of_held : (q : Holding) → HoldsRow message.before message.binding q ⊎ SettlesRow message.before message.binding q → ⊥
+  of_held q (inr settles) = none_not_some (sym message.numbered ∙ settles_standing message.before message.binding q settles)
+  of_held q (inl holds) =
+      let place : goes_to ≡ holds.at = ap (λ (b : Binding). b.consumer) holds.holds ∙ ap link_held holds.how ∙ held_link holds.at holds.row in
+      let stands = held_is message.before (last_of_key message.before holds.key) holds.at holds.attached in
+      let here = attached_link holds.at (link message.before holds.at.conn.0 holds.at.channel holds.at.handle) stands.1 in
+      let there : link message.before goes_to.conn.0 goes_to.channel goes_to.handle ≡ Some here.0 =
+      ap (λ (a : Attachment). link message.before a.conn.0 a.channel a.handle) place ∙ here.1 in
+      let same : SameLink here.0 carries.attached = still here.0 there (here.2 ∙ ap (λ (a : Attachment). a.number) (sym place)) in
+      let key : here.0.key ≡ holds.key = key_of_last message.before holds.key holds.at here.0 stands.0 here.1 here.2 in
+      two_roles (ap role_going (sym carries.sends ∙ same.way)
+      ∙ sym (role_is message.before goes_to.conn.0 goes_to.channel goes_to.handle here.0 there)
+      ∙ ap (λ (k : LinkKey). k.role) key
+      ∙ holds.role)
+
 -- The law.
 
 pub record BindingFacts (t : Trace) : Type 0 where
@@ -323,9 +350,13 @@ goes_to_own t c own x payload all carries r name = by message.binding.kind refl
     by : (k : BindingKind) → message.binding.kind ≡ k → IsOwnConsumer t r carries.of.link carries.attached
     by (kind.Message origin) is = fresh (subst (λ (k : BindingKind). BindsAs k message.before message.binding) is binds) (ap is_message is)
     by (kind.TakenUp brought) is = taken (subst (λ (k : BindingKind). BindsAs k message.before message.binding) is binds)
-    by (kind.Joined p to) is =
+    by (kind.Joined (holding.Resumed p) to) is =
         let joins : JoinsRow message.before message.binding p = subst (λ (k : BindingKind). BindsAs k message.before message.binding) is binds in
         absurd (of_joined t c own x payload carries message p joins (right.producer p joins))
+    by (kind.Joined (holding.Unresumed a) to) is =
+        absurd (of_held t c own x payload carries message (holding.Unresumed a) (subst (λ (k : BindingKind). BindsAs k message.before message.binding) is binds))
+    by (kind.Joined (holding.Settled a) to) is =
+        absurd (of_held t c own x payload carries message (holding.Settled a) (subst (λ (k : BindingKind). BindsAs k message.before message.binding) is binds))
 
 item_goes_to_own : (t : Trace) (c : ℕ) (i : Item) → BindingFacts t → GoesToOwnConsumer t c i
 item_goes_to_own t c (item.Frame sasl own body payload) all = by body

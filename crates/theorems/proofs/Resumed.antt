@@ -1,20 +1,32 @@
--- The rows that an event's attach takes up: each stands in the book for the terminus of the link, and is bound as the book has it.
-use Rattle.std.proofs.Common.{◌≡◌, ◌∙◌, sym, ap, refl, subst, ℕ, Bool, true, false, not, List, [], ◌∷◌, ◌++◌, append_assoc}
-use Rattle.std.specs.Prelude.{Option, Some, None, filter, option_map, option_and_then}
+-- The rows that an event's attach takes up: each stands in the book for the terminus of the link, and is bound as the book has it. And those that are joined
+-- to a producer's link by its attach, or settled there by the event's acts.
+use Rattle.std.proofs.Common.{◌≡◌, ◌∙◌, sym, ap, refl, subst, ◌⊎◌, inl, inr, ℕ, Bool, true, false, not, List, [], ◌∷◌, ◌++◌, append_assoc}
+use Rattle.std.specs.Prelude.{Option, Some, None, filter, if◌then◌else◌, option_map, option_and_then}
 use Rattle.std.specs.List.{cons_option}
 use Rattle.amqp_model.specs.declared.perf.Attach.{Attach as AnAttach}
 use Rattle.amqp_model.specs.declared.item.Item.{Item}
+use Rattle.amqp_model.specs.declared.item.Item.TheVariants as item
+use Rattle.amqp_model.specs.declared.perf.Perf.TheVariants as perf
+use Rattle.amqp_model.specs.declared.perf.Role.{Role}
+use Rattle.amqp_model.specs.declared.perf.Role.TheVariants.{Sender, Receiver}
 use Rattle.amqp_model.specs.declared.state.DeliveryState.{DeliveryState}
 use Rattle.amqp_model.specs.declared.state.UnsettledDelivery.{UnsettledDelivery}
+use Rattle.book_model.specs.declared.act.Act.{Act}
+use Rattle.book_model.specs.declared.act.Act.TheVariants.{Make, Admit, Decide, Forget, Drop}
 use Rattle.book_model.specs.declared.row.Row.{Row as ARow}
 use Rattle.book_model.specs.declared.terminus.LinkKey.{LinkKey}
+use Rattle.book_model.specs.declared.terminus.LinkRole.TheVariants.{Producer}
 use Rattle.book_model.specs.declared.terminus.Terminus.{Terminus}
 use Rattle.book_model.specs.declared.row.RowNumber.{RowNumber}
-use Rattle.book_model.specs.Book.{BookView, terminus_of, is_for, is_of}
+use Rattle.book_model.specs.Book.{BookView, terminus_of, is_for, is_from, is_of}
 use Rattle.router_trace.specs.declared.binding.Binding.{Binding}
 use Rattle.router_trace.specs.declared.binding.BindingKind.TheVariants as kind
 use Rattle.router_trace.specs.declared.binding.DeliveryName.{DeliveryName}
 use Rattle.router_trace.specs.declared.binding.DeliveryName.TheVariants.{Row}
+use Rattle.router_trace.specs.declared.binding.Holding.{Holding}
+use Rattle.router_trace.specs.declared.binding.Holding.TheVariants as holding
+use Rattle.router_trace.specs.declared.binding.JoinedTo.{JoinedTo}
+use Rattle.router_trace.specs.declared.binding.Origin.{Origin}
 use Rattle.router_trace.specs.declared.binding.Resumed.{Resumed}
 use Rattle.router_trace.specs.declared.binding.Resumed.TheVariants.{Settled, Again, Anew, Kept}
 use Rattle.router_trace.specs.declared.binding.TakenUp.{TakenUp}
@@ -22,18 +34,27 @@ use Rattle.resume_core.specs.Resuming.{entries_of, is_told_of, outcome_after, re
 use Rattle.resume_core.specs.declared.consumer.Sending.{Sending}
 use Rattle.router_trace.specs.declared.condition.Condition.TheVariants.{ResourceLimitExceeded}
 use Rattle.router_trace.specs.declared.event.Event.{Event}
+use Rattle.router_trace.specs.declared.event.Event.TheVariants as event
 use Rattle.router_trace.specs.declared.handle.Attachment.{Attachment}
 use Rattle.router_trace.specs.Trace.{Trace, Out, Did, Bound, Put, Step, goes, puts, each_to}
 use Rattle.router_trace.specs.Connection.{conn, due}
-use Rattle.router_trace.specs.Deliveries.{Delivery, called, delivery, number_named, outcome_as, origin_in, told_in, early_in}
+use Rattle.router_trace.specs.Deliveries.{Delivery, called, delivery, is_message, joined_by, joined_to, number_named, outcome_as, origin_in, told_in, early_in, owned_in, resumed_held}
+use Rattle.router_trace.specs.LinkFrames.{other}
+use Rattle.router_trace.specs.Links.{holder, way_of}
 use Rattle.state_messages.specs.Asking.{consumer_with}
 use Rattle.state_messages.specs.Messages.{brings, lasts, payload_as, taken_up_by, with_bound}
 use Rattle.state_connections.proofs.Lists.{by_test}
 use Rattle.state_deliveries.proofs.Called.{there_named, one_name}
-use Rattle.router_reply.specs.Acts.{journaled, book_found, book_in, answer_to_event}
+use Rattle.reply_rows.specs.Booking.{wanted_key, wants_durable}
+use Rattle.reply_rows.specs.declared.answer.Answer.{Answer}
+use Rattle.reply_rows.specs.declared.answer.Answer.TheVariants.{Attach}
+use Rattle.router_reply.specs.Acts.{journaled, book_found, book_in, found_acts, answer_to_event}
+use Rattle.router_reply.specs.Asking.{all_rows, asked_key, key_taken, receives}
+use Rattle.router_reply.specs.Holding.{as_held, freed, freed_by, freed_from, held_if, held_key, held_to, rows_held, with_held}
 use Rattle.router_reply.specs.Replies.{closing_of, ends, heard, bound_by, own_row, replied}
 use Rattle.router_reply.specs.Resuming.{resumed_key, attach_in, rows_at, rows_for, rows_taken, bound_to, bound_if, with_rows, resumed}
-use Rattle.theorems.specs.Came.{last_found, TakesUp}
+use Rattle.router_core.proofs.Resuming.{with_held_keep, with_rows_keep}
+use Rattle.theorems.specs.Came.{last_found, HoldsRow, SettlesRow, TakesUp}
 use Rattle.theorems.proofs.Tests.{none_not_some, some_same}
 
 -- what is sent of a row of a book, of the terminus of a key: its outcome after the attach, by the attach's map
@@ -139,6 +160,7 @@ takes at theirs key a x u w is stands = record {
   origin = ap (λ (n : RowNumber). origin_in (called u (Row n))) w.number;
   told = ap (λ (n : RowNumber). told_in (called u (Row n))) w.number;
   early = ap (λ (n : RowNumber). early_in (called u (Row n))) w.number;
+  owned = ap (λ (n : RowNumber). owned_in (called u (Row n))) w.number;
   lasting = refl;
 }
 
@@ -167,8 +189,9 @@ rows_wait b k a = by (terminus_of k b.termini) refl
     by None found = tt
     by (Some x) found = sent_wait b k x found (not a.incomplete_unsettled) (entries_of a.unsettled) [] b.rows refl
 
-pub resumed_takes : (P : Trace → Type 0) (at : Trace) (e : Event) (u : Trace) → TakenStep at e u P → last_found u ≡ at → P u → P (resumed at e u)
-resumed_takes P at e u step found was = by (resumed_key at e (answer_to_event at e)) refl
+rows_taken_up : (P : Trace → Type 0) (at : Trace) (e : Event) (u : Trace) → TakenStep at e u P → last_found u ≡ at → P u
+    → P (with_rows (resumed_key at e (answer_to_event at e)) (rows_taken at e (answer_to_event at e)) u)
+rows_taken_up P at e u step found was = by (resumed_key at e (answer_to_event at e)) refl
   where
     by_link : (k : LinkKey) → resumed_key at e (answer_to_event at e) ≡ Some k → (a : Option AnAttach) → attach_in e ≡ a → (v : Option Attachment) → consumer_with u k ≡ v
         → P (bound_if v (rows_for (book_found at) a (Some k)) u)
@@ -181,27 +204,151 @@ resumed_takes P at e u step found was = by (resumed_key at e (answer_to_event at
     by None keyed = was
     by (Some k) keyed = by_link k keyed (attach_in e) refl (consumer_with u k) refl
 
--- the same where only that it is taken up counts
+-- The rows that a producer's link has without a delivery: of its terminus, from its attach on, and settled once acts forget them. The book is that after the
+-- acts.
+
+abbrev pub HeldStep : Trace → (Trace → Type 0) → Type 0
+HeldStep at P = (u : Trace) (b : Binding) (q : Holding) (to : JoinedTo) → b.kind ≡ kind.Joined q to → resumed_held q ≡ None → HoldsRow u b q ⊎ SettlesRow u b q → book_in u ≡ book_in at → P u
+    → P (Bound b ∷ u)
+
+-- the terminus is a producer's
+sender_way : (r : Role) → receives r ≡ false → way_of (other r) ≡ Producer
+sender_way Sender e = refl
+sender_way Receiver e = absurd cc
+
+role_asked : (t : Trace) (c : ℕ) (a : AnAttach) (k : LinkKey) → receives a.role ≡ false → asked_key t c a ≡ Some k → k.role ≡ Producer
+role_asked t c a k sends is = by (wants_durable a) is
+  where
+    by : (q : Bool) → (if q then Some (wanted_key t c a) else None) ≡ Some k → k.role ≡ Producer
+    by true is = ap (λ (j : LinkKey). j.role) (sym (some_same is)) ∙ sender_way a.role sends
+    by false is = absurd (none_not_some is)
+
+role_taken : (t : Trace) (c : ℕ) (a : AnAttach) (y : Answer) (k : LinkKey) → receives a.role ≡ false → key_taken t c a y ≡ Some k → k.role ≡ Producer
+role_taken t c a (Attach own) k sends is = role_asked t c a k sends is
+role_taken t c a _ k sends is = absurd (none_not_some is)
+
+held_role : (t : Trace) (e : Event) (y : Answer) (k : LinkKey) → held_key t e y ≡ Some k → k.role ≡ Producer
+held_role t (event.Item c (item.Frame sasl channel (perf.Attach a) payload)) y k is = by (receives a.role) refl is
+  where
+    by : (q : Bool) → receives a.role ≡ q → (if q then None else key_taken t c.0 a y) ≡ Some k → k.role ≡ Producer
+    by true e is = absurd (none_not_some is)
+    by false e is = role_taken t c.0 a y k e is
+held_role t (event.Item c _) y k is = absurd (none_not_some is)
+held_role t _ y k is = absurd (none_not_some is)
+
+-- its rows are rows of the book
+record IsRowFrom (b : BookView) (n : ℕ) (row : ARow) : Type 0 where
+  earlier : List ARow
+  later : List ARow
+  kept : b.rows ≡ earlier ++ row ∷ later
+  came : is_from n row ≡ true
+
+abbrev AllFrom : BookView → ℕ → List ARow → Type 0
+AllFrom b n [] = Unit {0}
+AllFrom b n (r ∷ rs) = IsRowFrom b n r × AllFrom b n rs
+
+rows_from : (b : BookView) (n : ℕ) (before rest : List ARow) → b.rows ≡ before ++ rest → AllFrom b n (filter (is_from n) (filter (is_of n) rest))
+rows_from b n before [] is = tt
+rows_from b n before (r ∷ rs) is =
+    let others : AllFrom b n (filter (is_from n) (filter (is_of n) rs)) = rows_from b n (before ++ r ∷ []) rs (is ∙ sym (append_assoc before (r ∷ []) rs)) in
+    by_test (is_of n r)
+    (λ e. by_test (is_from n r)
+    (λ f. rw (e, f) ((record { earlier = before; later = rs; kept = is; came = f }, others)))
+    (λ f. rw (e, f) others))
+    (λ e. rw e others)
+
+as_quiet : (at : Attachment) (row : ARow) → resumed_held (as_held at row) ≡ None
+as_quiet at row = by row.forgotten
+  where
+    by : (f : Bool) → resumed_held (if f then holding.Settled at else holding.Unresumed at) ≡ None
+    by true = refl
+    by false = refl
+
+all_held : (P : Trace → Type 0) (at : Trace) → HeldStep at P → (key : LinkKey) → key.role ≡ Producer → (x : Terminus) → terminus_of key (book_in at).termini ≡ Some x → (a : Attachment)
+    → (rows : List ARow) → AllFrom (book_in at) x.number.0 rows → (u : Trace) → book_in u ≡ book_in at → holder u key ≡ Some a → P u → P (held_to a rows u)
+all_held P at step key role x found a [] all u same stands was = was
+all_held P at step key role x found a (r ∷ rs) all u same stands was =
+    let b : Binding = joined_by u (as_held a r) r.number r.outcome in
+    all_held P at step key role x found a rs all.1 (Bound b ∷ u) same stands
+    (step u b (as_held a r) (joined_to (called u (Row r.number)) r.outcome) refl (as_quiet a r)
+    (inl (record {
+      at = a;
+      key = key;
+      role = role;
+      attached = stands;
+      terminus = x;
+      of_key = ap (λ (c : BookView). terminus_of key c.termini) same ∙ found;
+      row = r;
+      earlier = all.0.earlier;
+      later = all.0.later;
+      kept = ap (λ (c : BookView). c.rows) same ∙ all.0.kept;
+      its_producer = all.0.came;
+      how = refl;
+      holds = refl;
+    })) same was)
+
+rows_given : (P : Trace → Type 0) (at : Trace) (e : Event) (u : Trace) → HeldStep at P → book_in u ≡ book_in at → P u → P (with_held (book_in at) (held_key at e (answer_to_event at e)) u)
+rows_given P at e u step same was = by (held_key at e (answer_to_event at e)) refl
+  where
+    by_terminus : (k : LinkKey) → k.role ≡ Producer → (a : Attachment) → holder u k ≡ Some a → (v : Option Terminus) → terminus_of k (book_in at).termini ≡ v
+        → P (held_to a (all_rows (book_in at) v) u)
+    by_terminus k role a stands None found = was
+    by_terminus k role a stands (Some x) found =
+        all_held P at step k role x found a (all_rows (book_in at) (Some x)) (rows_from (book_in at) x.number.0 [] (book_in at).rows refl) u same stands was
+
+    by_link : (k : LinkKey) → k.role ≡ Producer → (v : Option Attachment) → holder u k ≡ v → P (held_if v (rows_held (book_in at) k) u)
+    by_link k role None stands = was
+    by_link k role (Some a) stands = by_terminus k role a stands (terminus_of k (book_in at).termini) refl
+
+    by : (k : Option LinkKey) → held_key at e (answer_to_event at e) ≡ k → P (with_held (book_in at) k u)
+    by None keyed = was
+    by (Some k) keyed = by_link k (held_role at e (answer_to_event at e) k keyed) (holder u k) refl
+
+-- the trace keeps its book with each of them
+
+with_rows_book : (key : Option LinkKey) (rs : List Sending) (u : Trace) → journaled (with_rows key rs u) ≡ journaled u
+with_rows_book key rs u = with_rows_keep (λ (v : Trace). journaled v ≡ journaled u) (λ b v is. is) key rs u refl
+
+with_held_book : (b : BookView) (key : Option LinkKey) (u : Trace) → journaled (with_held b key u) ≡ journaled u
+with_held_book b key u = with_held_keep (λ (v : Trace). journaled v ≡ journaled u) (λ x v is. is) b key u refl
+
+one_freed : (P : Trace → Type 0) (at : Trace) → HeldStep at P → (n : RowNumber) (u : Trace) (o : Option Origin) → owned_in (called u (Row n)) ≡ o → book_in u ≡ book_in at → P u
+    → (book_in (freed_from o n u) ≡ book_in at) × P (freed_from o n u)
+one_freed P at step n u None owned same was = (same, was)
+one_freed P at step n u (Some p) owned same was =
+    let b : Binding = joined_by u (holding.Settled p.link) n None in
+    (same, step u b (holding.Settled p.link) (joined_to (called u (Row n)) None) refl refl (inr (record { row = n; owner = p; owned = owned; how = refl; settles = refl })) same was)
+
+act_freed : (P : Trace → Type 0) (at : Trace) → HeldStep at P → (act : Act) (u : Trace) → book_in u ≡ book_in at → P u → (book_in (freed_by act u) ≡ book_in at) × P (freed_by act u)
+act_freed P at step (Forget n) u same was = one_freed P at step n u (owned_in (called u (Row n))) refl same was
+act_freed P at step (Make x) u same was = (same, was)
+act_freed P at step (Admit x) u same was = (same, was)
+act_freed P at step (Decide x) u same was = (same, was)
+act_freed P at step (Drop n) u same was = (same, was)
+
+rows_freed : (P : Trace → Type 0) (at : Trace) → HeldStep at P → (acts : List Act) (u : Trace) → book_in u ≡ book_in at → P u → P (freed acts u)
+rows_freed P at step [] u same was = was
+rows_freed P at step (act ∷ acts) u same was =
+    let next = act_freed P at step act u same was in
+    rows_freed P at step acts (freed_by act u) next.0 next.1
+
+-- what each of these bindings keeps, all of them keep
+pub resumed_takes : (P : Trace → Type 0) (at : Trace) (e : Event) (u : Trace) → TakenStep at e u P → HeldStep at P → last_found u ≡ at → book_in u ≡ book_in at → P u → P (resumed at e u)
+resumed_takes P at e u step hold found same was =
+    let taken : Trace = with_rows (resumed_key at e (answer_to_event at e)) (rows_taken at e (answer_to_event at e)) u in
+    let kept : book_in taken ≡ book_in at = ap (λ j. j.book) (with_rows_book (resumed_key at e (answer_to_event at e)) (rows_taken at e (answer_to_event at e)) u) ∙ same in
+    let given : Trace = with_held (book_in at) (held_key at e (answer_to_event at e)) taken in
+    let still : book_in given ≡ book_in at = ap (λ j. j.book) (with_held_book (book_in at) (held_key at e (answer_to_event at e)) taken) ∙ kept in
+    rows_freed P at hold (found_acts at) given still (rows_given P at e taken hold kept (rows_taken_up P at e u step found was))
+
+-- the same where only that no message came counts
 
 abbrev pub MarkedStep : (Trace → Type 0) → Type 0
-MarkedStep P = (u : Trace) (b : Binding) (brought : TakenUp) → b.kind ≡ kind.TakenUp brought → P u → P (Bound b ∷ u)
+MarkedStep P = (u : Trace) (b : Binding) → is_message b.kind ≡ false → P u → P (Bound b ∷ u)
 
-all_marked : (P : Trace → Type 0) → MarkedStep P → (at : Attachment) (rows : List Sending) (u : Trace) → P u → P (bound_to at rows u)
-all_marked P step at [] u was = was
-all_marked P step at (x ∷ xs) u was =
-    let b : Binding = taken_up_by u x.row x.how x.format x.payload at in
-    all_marked P step at xs (Bound b ∷ u) (step u b (brings u x.row x.how) refl was)
-
-pub resumed_marked : (P : Trace → Type 0) → MarkedStep P → (t : Trace) (e : Event) (u : Trace) → P u → P (resumed t e u)
-resumed_marked P step t e u was = by (resumed_key t e (answer_to_event t e)) (rows_taken t e (answer_to_event t e))
-  where
-    by_link : (v : Option Attachment) (rows : List Sending) → P (bound_if v rows u)
-    by_link None rows = was
-    by_link (Some at) rows = all_marked P step at rows u was
-
-    by : (k : Option LinkKey) (rows : List Sending) → P (with_rows k rows u)
-    by None rows = was
-    by (Some k) rows = by_link (consumer_with u k) rows
+pub resumed_marked : (P : Trace → Type 0) → MarkedStep P → (t : Trace) (e : Event) (u : Trace) → book_in u ≡ book_in t → last_found u ≡ t → P u → P (resumed t e u)
+resumed_marked P step t e u same found was =
+    resumed_takes P t e u (λ v b takes known before. step v b (ap is_message takes.taken) before) (λ v b q to is quiet binds book before. step v b (ap is_message is) before) found same was
 
 -- the book depends on no item and no binding
 

@@ -1,6 +1,6 @@
 -- What an event's row puts keeps what holds, but for attaches: what the answer says, the answers to a disposition, and what is put for a transfer.
 use Rattle.std.proofs.Common.{◌≡◌, ◌∙◌, sym, ap, refl, subst, ℕ, ◌<◌, Bool, true, false, not, ◌&&◌, List, [], ◌∷◌, ◌++◌, append-nil}
-use Rattle.std.specs.Prelude.{◌==◌, nat_lt, Option, Some, None, is_none, if◌then◌else◌, option_map}
+use Rattle.std.specs.Prelude.{◌==◌, nat_lt, Option, Some, None, is_none, if◌then◌else◌}
 use Rattle.std.proofs.lemmas.Bool.{eqb-true, eq-eqb}
 use Rattle.amqp_model.specs.declared.perf.Disposition.{Disposition as ADisposition}
 use Rattle.amqp_model.specs.declared.perf.Perf.TheVariants as perf
@@ -25,7 +25,7 @@ use Rattle.router_trace.specs.declared.condition.Condition.{Condition}
 use Rattle.router_trace.specs.declared.condition.Condition.TheVariants.{ResourceLimitExceeded, MessageSizeExceeded}
 use Rattle.router_trace.specs.declared.handle.Attachment.{Attachment}
 use Rattle.router_trace.specs.Trace.{Trace, Bound, Put, goes, puts, each_to}
-use Rattle.router_trace.specs.Deliveries.{Delivery, bound, called, origin_in, origin_of, outcome_in, joins_standing, presettles, either_origin, source, name_in, delivery, is_undecided, terminal, last_of, ended_by as put_ends, brought, outcome_as, told_in, rank_in}
+use Rattle.router_trace.specs.Deliveries.{Delivery, bound, called, origin_in, origin_of, outcome_in, presettles, either_origin, source, name_in, delivery, is_undecided, terminal, last_of, ended_by as put_ends, brought, outcome_as, told_in, rank_in, holds_standing, told_of}
 use Rattle.router_trace.specs.Following.{link_of, is_sending}
 use Rattle.router_trace.specs.LinkFrames.{detach_item}
 use Rattle.router_trace.specs.Links.{Link, link, link_place, has_number, is_attached, if_attached, last_of_key}
@@ -165,9 +165,9 @@ pub can_message : (u : Trace) (b : Binding) (o : Option Origin) → b.kind ≡ k
 can_message u b o is binds fact = record {
   consumer = λ undecided. consumer_sends u binds.producer b.consumer binds.chosen;
   producer = λ p from. from_attached (origin_of b.kind) u binds.conn binds.own binds.handle binds.producer binds.message binds.from binds.attached p
-      (from_origin (origin_of b.kind) p (ap (λ (k : BindingKind). either_origin (origin_of b.kind) (brought (λ v. v.told) k)) (sym is) ∙ from));
+      (from_origin (origin_of b.kind) p (ap (λ (k : BindingKind). either_origin (origin_of b.kind) (told_of k)) (sym is) ∙ from));
   new = λ new r named. fact r named;
-  joined = λ r q d joins. absurd (none_not_some (ap joins_standing (sym is) ∙ joins));
+  joined = λ r q d joins. absurd (none_not_some (ap holds_standing (sym is) ∙ joins));
 }
 
 pub bound_kept : (b : Binding) (u : Trace) → CanBind u b → Kept u [] → Kept (Bound b ∷ u) []
@@ -220,7 +220,7 @@ had_source u n o told p from_origin from_told is =
 
 taken_source : (u : Trace) (b : Binding) (takes : TakesUp u b) (p : Origin) → source (bound (name_in u b) (rank_in u b) b) ≡ Some p → HadSource u takes.row.number p
 taken_source u b takes p from =
-    had_source u takes.row.number (origin_of b.kind) (brought (λ v. v.told) b.kind) p (ap origin_of takes.taken ∙ takes.origin) (ap (brought (λ v. v.told)) takes.taken ∙ takes.told) from
+    had_source u takes.row.number (origin_of b.kind) (told_of b.kind) p (ap origin_of takes.taken ∙ takes.origin) (ap told_of takes.taken ∙ takes.told) from
 
 -- what the book has of the row: the outcome that is brought, as the journal keeps it
 pub record Holds (u : Trace) (b : Binding) (takes : TakesUp u b) : Type 0 where
@@ -263,7 +263,7 @@ taken_up_kept u b takes holds was =
       consumer = λ undecided. taken_sends u takes.key b.consumer takes.attached;
       producer = producer;
       new = λ new. taken_fact u b takes holds was;
-      joined = λ r q d joins. absurd (none_not_some (ap joins_standing (sym takes.taken) ∙ joins));
+      joined = λ r q d joins. absurd (none_not_some (ap holds_standing (sym takes.taken) ∙ joins));
     }) was
   where
     producer : (p : Origin) → source (bound (name_in u b) (rank_in u b) b) ≡ Some p → is_attached u p.link ≡ true

@@ -32,7 +32,7 @@ use Rattle.theorems.specs.Came.{Handled, just_handled}
 use Rattle.theorems.specs.Each.{EachBound}
 use Rattle.theorems.specs.Admitted.{is_row, IsAdmitted, IsAdmittedUnder, IsAdmittedIf, RowIsAdmitted, times_bound, IsBoundOnce, EachRowIsBoundOnce}
 use Rattle.theorems.proofs.Admitted.{bound_row}
-use Rattle.theorems.proofs.Resumed.{resumed_marked}
+use Rattle.theorems.proofs.Resumed.{replied_book, replied_found, resumed_marked}
 use Rattle.theorems.proofs.Tests.{some_same, none_not_some}
 
 -- numbers of rows rise
@@ -221,9 +221,6 @@ bound_rows u (Some x) is was =
     record { admitted = (subst (λ (q : Bool). IsAdmittedIf q u x) (sym fresh) now, was.admitted); once = bound_once u x x.row fresh refl now was.once was.before; before = tt })
     (λ again. again_rows u x again was)
 
-taken_rows : (u : List Entry) (b : Binding) (brought : TakenUp) → b.kind ≡ kind.TakenUp brought → Rows u → Rows (Bound b ∷ u)
-taken_rows u b brought marked was = again_rows u b (ap is_message marked) was
-
 goes_rows : (ps : List Put) (t : List Entry) → Rows t → Rows (goes ps t)
 goes_rows [] t was = was
 goes_rows (p ∷ ps) t was = goes_rows ps (Out p.conn p.item ∷ t) (out_rows p.conn p.item t was)
@@ -240,7 +237,7 @@ resumed_rows id t s was =
     let u : List Entry = heard id at s in
     let came : Rows u = ends_rows id (due t s.event) (Did s ∷ at) (did_rows s at (booked_keeps Rows t s.event (λ acts w. batch_rows t acts w) was)) in
     let bound : Rows (with_bound (bound_by at u s.event) u) = bound_rows u (bound_by at u s.event) (λ x is fresh. bound_row id t s.event x is fresh) came in
-    resumed_marked Rows taken_rows at s.event (replied id at s) (goes_rows (own_row id at u s.event) (with_bound (bound_by at u s.event) u) bound)
+    resumed_marked Rows again_rows at s.event (replied id at s) (replied_book id at s) (replied_found id at s) (goes_rows (own_row id at u s.event) (with_bound (bound_by at u s.event) u) bound)
 
 pub handled_rows : (id : List ℕ) (t : List Entry) (s : Step) → Rows t → Rows (handled id t s)
 handled_rows id t s was =

@@ -1,6 +1,6 @@
 -- What the laws require of each entry, and that they still hold after an entry that satisfies it.
-use Rattle.std.proofs.Common.{◌≡◌, sym, subst, ℕ, Bool, true, false, List, [], ◌∷◌, ◌++◌}
-use Rattle.std.specs.Prelude.{Option}
+use Rattle.std.proofs.Common.{◌≡◌, sym, subst, ◌⊎◌, ℕ, Bool, true, false, List, [], ◌∷◌, ◌++◌}
+use Rattle.std.specs.Prelude.{Option, None}
 use Rattle.amqp_model.specs.declared.perf.Disposition.{Disposition}
 use Rattle.amqp_model.specs.declared.perf.Perf.{Perf}
 use Rattle.amqp_model.specs.declared.perf.Perf.TheVariants as perf
@@ -12,11 +12,16 @@ use Rattle.router_trace.specs.Trace.{Beginning}
 use Rattle.router_trace.specs.Configuration.{beginning, opened}
 use Rattle.router_trace.specs.declared.binding.Binding.{Binding}
 use Rattle.router_trace.specs.declared.binding.BindingKind.{BindingKind}
+use Rattle.router_trace.specs.declared.binding.BindingKind.TheVariants as kind
+use Rattle.router_trace.specs.declared.binding.Holding.{Holding}
+use Rattle.router_trace.specs.declared.binding.Holding.TheVariants as holding
+use Rattle.router_trace.specs.declared.binding.JoinedTo.{JoinedTo}
+use Rattle.router_trace.specs.Deliveries.{resumed_held}
 use Rattle.book_model.specs.declared.act.Act.{Act}
 use Rattle.router_trace.specs.Trace.{Entry, Put, Did, Out, Took, Bound, Booked, Step, goes, each_to}
 use Rattle.theorems.specs.Each.{EachOut, EachBound}
 use Rattle.theorems.specs.Carried.{CarriesWhatWasBound}
-use Rattle.theorems.specs.Came.{Handled, just_handled, TakesUp, BindsAs, BindsByKind}
+use Rattle.theorems.specs.Came.{Handled, just_handled, HoldsRow, JoinsAs, SettlesRow, TakesUp, BindsAs, BindsByKind}
 use Rattle.theorems.specs.Told.{role_tells, TellsAsGiven}
 use Rattle.theorems.proofs.Tests.{none_not_some}
 use Rattle.theorems.proofs.Carrying.{Unstarted, did_unstarted, out_unstarted, bound_unstarted}
@@ -55,6 +60,14 @@ pub bound_sound : (b : Binding) (t : List Entry) → BindsByKind t b → Sound t
 bound_sound b t is sound = record { carries = sound.carries; tells = sound.tells; binds = (is, sound.binds); unstarted = bound_unstarted t b sound.unstarted }
 
 -- a row that is taken up
+joins_as : (t : List Entry) (b : Binding) (q : Holding) → resumed_held q ≡ None → HoldsRow t b q ⊎ SettlesRow t b q → JoinsAs q t b
+joins_as t b (holding.Resumed p) quiet binds = absurd (none_not_some (sym quiet))
+joins_as t b (holding.Unresumed a) quiet binds = binds
+joins_as t b (holding.Settled a) quiet binds = binds
+
+pub held_sound : (t : List Entry) (b : Binding) (q : Holding) (to : JoinedTo) → b.kind ≡ kind.Joined q to → resumed_held q ≡ None → HoldsRow t b q ⊎ SettlesRow t b q → Sound t → Sound (Bound b ∷ t)
+held_sound t b q to is quiet binds sound = bound_sound b t (subst (λ (k : BindingKind). BindsAs k t b) (sym is) (joins_as t b q quiet binds)) sound
+
 pub taken_sound : (t : List Entry) (b : Binding) → TakesUp t b → Sound t → Sound (Bound b ∷ t)
 taken_sound t b takes sound = bound_sound b t (subst (λ (k : BindingKind). BindsAs k t b) (sym takes.taken) takes) sound
 

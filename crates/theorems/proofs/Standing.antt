@@ -22,6 +22,8 @@ use Rattle.book_model.specs.declared.terminus.LinkKey.{LinkKey}
 use Rattle.book_model.specs.declared.terminus.LinkRole.{LinkRole}
 use Rattle.book_model.specs.declared.terminus.LinkRole.TheVariants.{Producer, Consumer}
 use Rattle.book_model.specs.Keys.{rank, keys_total}
+use Rattle.router_trace.specs.declared.binding.Holding.TheVariants as holding
+use Rattle.router_trace.specs.declared.binding.Holding.{Holding}
 use Rattle.router_trace.specs.Configuration.{opened}
 use Rattle.router_trace.specs.declared.binding.Binding.{Binding}
 use Rattle.router_trace.specs.declared.binding.BindingKind.{BindingKind}
@@ -38,9 +40,9 @@ use Rattle.router_trace.specs.Trace.{Beginning, Entry, Did, Out, Took, Bound, Bo
 use Rattle.router_trace.specs.Sessions.{maps, theirs}
 use Rattle.router_trace.specs.Links.{Link, Happened, durable_key, flowed_from, flowed_to, started, came_to, sends, receives, is_lost, ends_handle, ends_handle_in, handle_asked, answers_in, answers_by, answered_handle, asked, address_by, attachments, attached, after_our_flow, after_our_transfer, after_their_flow, after_their_transfer, is_handle, link_in, link_after, heard_link, link_by, link_at, names, names_by, their_handle, key_at, link, has_number, is_attached, if_attached, same_key, newest_in, last_of_key, holder}
 use Rattle.router_trace.specs.Following.{is_sending, link_of}
-use Rattle.router_trace.specs.Deliveries.{Delivery, name_in, delivery, source, either_origin, origin_of, joins_standing, brought, is_undecided, ended_by, bound, rank_in}
+use Rattle.router_trace.specs.Deliveries.{Delivery, name_in, delivery, source, either_origin, origin_of, is_undecided, ended_by, bound, rank_in, holds_standing, held_by, resumed_held, told_of}
 use Rattle.state_messages.specs.Messages.{standing_at}
-use Rattle.theorems.proofs.Rebound.{AfterBound, after_bound}
+use Rattle.theorems.proofs.Rebound.{AfterBound, after_bound, held_link, held_undecided}
 use Rattle.theorems.proofs.Rebound.AfterBound.{is_new, is_joined, is_old}
 use Rattle.state_connections.proofs.Lists.{by_test}
 use Rattle.theorems.proofs.Tests.{some_same, none_not_some}
@@ -536,21 +538,26 @@ bound_standing b t consumer producer was = record {
     by_consumer : (n : ℕ) (d : Delivery) → AfterBound b t n d → is_undecided d ≡ true → Sends (Bound b ∷ t) d.link
     by_consumer n d (is_new new) undecided = subst (λ (a : Attachment). Sends (Bound b ∷ t) a) (ap (λ (x : Delivery). x.link) new.is) (moved (consumer (ap is_undecided new.is ∙ undecided)))
     by_consumer n d (is_joined joins) undecided =
-        subst (λ (a : Attachment). Sends (Bound b ∷ t) a) (ap (λ (x : Delivery). x.link) joins.is) (moved (was.consumers n joins.before joins.there (ap is_undecided joins.is ∙ undecided)))
+        subst (λ (a : Attachment). Sends (Bound b ∷ t) a) (sym (held_link joins.holding joins.before) ∙ ap (λ (x : Delivery). x.link) joins.is)
+        (moved (was.consumers n joins.before joins.there (sym (held_undecided joins.holding joins.before) ∙ ap is_undecided joins.is ∙ undecided)))
     by_consumer n d (is_old there) undecided = moved (was.consumers n d there undecided)
 
     -- the origin that a binding joins is its own
-    own_origin : (k : BindingKind) (p : Origin) → joins_standing k ≡ Some p → either_origin (origin_of k) (brought (λ u. u.told) k) ≡ Some p
+    own_origin : (k : BindingKind) (p : Origin) → holds_standing k ≡ Some (holding.Resumed p) → either_origin (origin_of k) (told_of k) ≡ Some p
     own_origin (kind.Message o) p is = absurd (none_not_some is)
     own_origin (kind.TakenUp u) p is = absurd (none_not_some is)
-    own_origin (kind.Joined q StandingOne) p is = is
+    own_origin (kind.Joined q StandingOne) p is = ap (λ (h : Holding). either_origin (resumed_held h) None) (some_same is)
     own_origin (kind.Joined q (New o)) p is = absurd (none_not_some is)
 
     by_producer : (n : ℕ) (d : Delivery) (p : Origin) → AfterBound b t n d → source d ≡ Some p → is_attached t p.link ≡ true
     by_producer n d p (is_new new) from = producer p (ap source new.is ∙ from)
     by_producer n d p (is_joined joins) from =
-        let same : Some joins.origin ≡ Some p = ap source joins.is ∙ from in
-        producer p (own_origin b.kind p (joins.joins ∙ same))
+        by joins.holding joins.joins (ap source joins.is ∙ from)
+      where
+        by : (q : Holding) → holds_standing b.kind ≡ Some q → source (held_by q joins.before) ≡ Some p → is_attached t p.link ≡ true
+        by (holding.Resumed o) holds same = producer p (own_origin b.kind o holds ∙ same)
+        by (holding.Unresumed a) holds same = was.producers n joins.before p joins.there same
+        by (holding.Settled a) holds same = was.producers n joins.before p joins.there same
     by_producer n d p (is_old there) from = was.producers n d p there from
 
 -- a durable link that stands keeps its key

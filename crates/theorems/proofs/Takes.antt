@@ -18,8 +18,9 @@ use Rattle.reply_rows.specs.declared.answer.Answer.TheVariants.{Nothing}
 use Rattle.reply_rows.specs.Rows.{down_reply}
 use Rattle.router_reply.specs.Replies.{ends, row_found, item_put, item_row, own_row, bound_for, item_bound, bound_by, replied_after}
 use Rattle.router_after.specs.After.{widened, followed}
-use Rattle.router_reply.specs.Acts.{journaled, booked, found_journal, full_at, answer_by, answer_to_event}
-use Rattle.router_reply.specs.Resuming.{resumed_key, attach_in, rows_for, rows_taken, with_rows, resumed_by, resumed}
+use Rattle.router_reply.specs.Acts.{journaled, book_in, booked, found_acts, found_journal, full_at, answer_by, answer_to_event}
+use Rattle.router_reply.specs.Holding.{freed, held_key, with_held}
+use Rattle.router_reply.specs.Resuming.{attached_by, resumed_key, attach_in, rows_for, rows_taken, with_rows, resumed_by, resumed}
 use Rattle.router_core.specs.Replies.{answered, handled}
 use Rattle.core_machine.specs.Moves.{took_one}
 use Rattle.router_core.specs.Moves.{Goes, outs}
@@ -27,17 +28,19 @@ use Rattle.core_machine.specs.Moves.{Move, handles, takes}
 use Rattle.theorems.specs.Takes.{untaken, events_of, NeverFull}
 use Rattle.router_core.proofs.Booking.{booked_keeps}
 use Rattle.theorems.proofs.Untaken.{untaken_goes, same_outs, same_journaled, same_beats, same_windows}
-use Rattle.theorems.proofs.UntakenPassed.{untaken_bound, untaken_rows, same_passed}
-use Rattle.theorems.proofs.UntakenRows.{same_put, same_bound_for, same_resumed_key}
+use Rattle.theorems.proofs.UntakenPassed.{untaken_bound, untaken_freed, untaken_held, untaken_rows, same_passed}
+use Rattle.theorems.proofs.UntakenRows.{same_put, same_bound_for, same_held_key, same_resumed_key}
 use Rattle.theorems.proofs.UntakenActs.{plain_acts, plain_full_at, plain_answer_of, same_full, same_acts, same_answer}
 use Rattle.router_core.proofs.Following.{passed_on, each_keeps, all_keep}
 use Rattle.router_core.proofs.Resuming.{resumed_keeps}
 use Rattle.theorems.proofs.Plain.{plain, plain_live, Calm, calm_goes, none_due, same_live, stood_found, live_found}
 
--- what an event finds after its acts is the same in a trace without its takes: the journal, the row that its acts admit, and whether the journal is full
+-- what an event finds after its acts is the same in a trace without its takes: the journal, its acts and the row that they admit, and whether the journal is
+-- full
 pub record FindsAlike (t : List Entry) (e : Event) : Type 0 where
   pub journal : found_journal t ≡ found_journal (untaken t)
   pub row : row_found t ≡ row_found (untaken t)
+  pub acts : found_acts t ≡ found_acts (untaken t)
   pub full : full_at t e ≡ plain_full_at (untaken t) e
 
 -- an event's own row, what follows its rows, and all of it, by the plain phases
@@ -138,9 +141,14 @@ same_answer_to t event.Start calm none same = refl
 
 same_resumed : (t u : List Entry) (e : Event) → Calm t → due t e ≡ [] → FindsAlike t e → untaken (resumed t e u) ≡ plain_resumed (untaken t) e (untaken u)
 same_resumed t u e calm none same =
-    untaken_rows (resumed_key t e (answer_to_event t e)) (rows_taken t e (answer_to_event t e)) u
-    ∙ (λ j. with_rows (key j) (rows_for (same.journal j).book (attach_in e) (key j)) (untaken u))
+    untaken_freed (found_acts t) (attached_by t e (answer_to_event t e) u)
+    ∙ ap (freed (found_acts t)) (untaken_held (book_in t) (held_key t e (answer_to_event t e)) (with_rows (resumed_key t e (answer_to_event t e)) (rows_taken t e (answer_to_event t e)) u)
+    ∙ ap (with_held (book_in t) (held_key t e (answer_to_event t e))) (untaken_rows (resumed_key t e (answer_to_event t e)) (rows_taken t e (answer_to_event t e)) u))
+    ∙ (λ j. freed (same.acts j) (with_held (same_journaled t j).book (held j) (with_rows (key j) (rows_for (same.journal j).book (attach_in e) (key j)) (untaken u))))
   where
+    held : held_key t e (answer_to_event t e) ≡ held_key (untaken t) e (plain_answer_to (untaken t) e)
+    held = ap (held_key t e) (same_answer_to t e calm none same) ∙ same_held_key t e (plain_answer_to (untaken t) e)
+
     key : resumed_key t e (answer_to_event t e) ≡ resumed_key (untaken t) e (plain_answer_to (untaken t) e)
     key = ap (resumed_key t e) (same_answer_to t e calm none same) ∙ same_resumed_key t e (plain_answer_to (untaken t) e)
 
@@ -188,7 +196,7 @@ same_handled id t s calm roomy =
     let none : due t s.event ≡ [] = none_due t s.event roomy
     in let next = same_answered id (booked t s.event) s (booked_keeps Calm t s.event (λ acts c. c) calm)
     (booked_keeps (λ (v : List Entry). (c : ℕ) → is_full (conn v c) ≡ false) t s.event (λ acts r. r) roomy)
-    (record { journal = same_journaled t; row = refl; full = same_full t s.event calm none })
+    (record { journal = same_journaled t; row = refl; acts = refl; full = same_full t s.event calm none })
     in (next.0, next.1 ∙ (λ j. plain_answered id (Booked (same_acts t s.event calm none j) (none j) ∷ untaken t) s))
 
 -- moves

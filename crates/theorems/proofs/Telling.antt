@@ -1,6 +1,6 @@
 -- The outcome of each delivery is reported at most once: after that no report is due.
 use Rattle.std.proofs.Common.{◌≡◌, ◌∙◌, sym, ap, refl, subst, ◌⊎◌, inl, inr, ℕ, ◌+◌, ◌≤◌, Bool, true, false, ◌&&◌, List, [], ◌∷◌, ◌++◌, arith}
-use Rattle.std.specs.Prelude.{◌==◌, ◌^◌, nat_lt, nat_le, Option, Some, None, if◌then◌else◌, option_and_then, option_map, unwrap_or}
+use Rattle.std.specs.Prelude.{◌==◌, ◌^◌, nat_lt, nat_le, Option, Some, None, if◌then◌else◌, option_and_then, unwrap_or}
 use Rattle.std.proofs.lemmas.Bool.{eqb-true}
 use Rattle.amqp_model.specs.declared.perf.Disposition.{Disposition}
 use Rattle.amqp_model.specs.declared.perf.Perf.{Perf}
@@ -11,9 +11,11 @@ use Rattle.amqp_model.specs.declared.item.Item.{Item}
 use Rattle.amqp_model.specs.declared.item.Item.TheVariants as item
 use Rattle.router_trace.specs.declared.binding.Binding.{Binding}
 use Rattle.router_trace.specs.declared.binding.DeliveryName.{DeliveryName}
+use Rattle.router_trace.specs.declared.binding.Holding.{Holding}
+use Rattle.router_trace.specs.declared.binding.Holding.TheVariants as holding
 use Rattle.router_trace.specs.declared.binding.Origin.{Origin}
 use Rattle.router_trace.specs.Trace.{Entry, Did, Out, Took, Bound, Booked, Began, is_opening, IsOneRun}
-use Rattle.router_trace.specs.Deliveries.{Delivery, bindings, bound, joined, joins_standing, with_binding, with_origin, name_in, same_name, number_named, unless_called, delivery, sending, named, unless_over, either_origin, source, untold, unsettled, told, is_meant, last_of, origin_id, ended_by, after_put, after_event, channels_found, acts_found, rank_in}
+use Rattle.router_trace.specs.Deliveries.{Delivery, bindings, bound, joined, joins_standing, with_binding, name_in, same_name, number_named, unless_called, delivery, sending, named, unless_over, either_origin, source, untold, unsettled, told, is_meant, last_of, origin_id, ended_by, after_put, after_event, channels_found, acts_found, rank_in, holds_standing, held_by, resumed_held}
 use Rattle.amqp_session.specs.Serials.{distance}
 use Rattle.amqp_session.specs.Ranges.{in_range}
 use Rattle.theorems.specs.OneConsumer.{IsOrNone, is_row_of, joined_in, WhileThere}
@@ -154,7 +156,7 @@ put_spent c i t n was = by_test (tells i c (delivery t n)) (λ e. now e was) (λ
 -- a binding gives no other delivery an origin than the one that it joins
 unjoined_none : (b : Binding) (t : List Entry) (n : ℕ) → is_joined (joins_standing b.kind) (name_in t b) (delivery t n) ≡ false → n ≤ bindings t → WhileThere NoOrigin (delivery t n)
     → WhileThere NoOrigin (delivery (Bound b ∷ t) n)
-unjoined_none b t n apart given none = by (joins_standing b.kind) apart
+unjoined_none b t n apart given none = by (holds_standing b.kind) apart
   where
     newest : DeliveryName
     newest = name_in t b
@@ -170,13 +172,17 @@ unjoined_none b t n apart given none = by (joins_standing b.kind) apart
         by_name true = tt
         by_name false = h
 
-    other_none : (p : Origin) (v : Option Delivery) → is_joined (Some p) newest v ≡ false → WhileThere NoOrigin v → WhileThere NoOrigin (option_map (joined newest p) v)
-    other_none p None e h = tt
-    other_none p (Some d) e h = ap (λ (q : Bool). (if q then with_origin p d else d).origin) e ∙ h
+    other_none : (q : Holding) (v : Option Delivery) → is_joined (resumed_held q) newest v ≡ false → WhileThere NoOrigin v → WhileThere NoOrigin (joined newest q v)
+    other_none q None e h = tt
+    other_none (holding.Resumed p) (Some d) e h = rw e h
+    other_none (holding.Unresumed a) (Some d) e h =
+        by_test (same_name d.name newest) (λ f. rw f (unless_left NoOrigin (held_by (holding.Unresumed a) d) h)) (λ f. rw f h)
+    other_none (holding.Settled a) (Some d) e h =
+        by_test (same_name d.name newest) (λ f. rw f (unless_left NoOrigin (held_by (holding.Settled a) d) h)) (λ f. rw f h)
 
-    by : (j : Option Origin) → is_joined j newest (delivery t n) ≡ false → WhileThere NoOrigin (with_binding j newest (rank_in t b) b (bindings t + 1 == n) (delivery t n))
+    by : (j : Option Holding) → is_joined (option_and_then resumed_held j) newest (delivery t n) ≡ false → WhileThere NoOrigin (with_binding j newest (rank_in t b) b (bindings t + 1 == n) (delivery t n))
     by None e = by_test (bindings t + 1 == n) (λ f. absurd (too_high given (eqb-true (bindings t + 1) n f))) (λ f. rw f (uncalled_none (delivery t n) none))
-    by (Some p) e = other_none p (delivery t n) e none
+    by (Some q) e = other_none q (delivery t n) e none
 
 pub spent : (u : List Entry) (n : ℕ) → Spent u n
 spent [] n = inl refl
@@ -274,7 +280,7 @@ changed_under c own id later f was named (Some d) none =
 
 -- a binding
 bound_under : (c own id : ℕ) (later : List Entry) (b : Binding) (t : List Entry) (n : ℕ) → n ≤ bindings t → Under c own id later t n → Under c own id (Bound b ∷ later) (Bound b ∷ t) n
-bound_under c own id later b t n given none = by (joins_standing b.kind) refl
+bound_under c own id later b t n given none = by (holds_standing b.kind) refl
   where
     newest : DeliveryName
     newest = name_in t b
@@ -298,20 +304,26 @@ bound_under c own id later b t n given none = by (joins_standing b.kind) refl
         by_name true = tt
         by_name false = λ alone. h (before d.name alone)
 
-    joins : (p : Origin) → joins_standing b.kind ≡ Some p → (v : Option Delivery) → delivery t n ≡ v → WhileThere (UnlessJoined c own id later) v
-        → WhileThere (UnlessJoined c own id (Bound b ∷ later)) (option_map (joined newest p) v)
-    joins p is None there h = tt
-    joins p is (Some d) there h =
+    joins : (q : Holding) → holds_standing b.kind ≡ Some q → (v : Option Delivery) → delivery t n ≡ v → WhileThere (UnlessJoined c own id later) v
+        → WhileThere (UnlessJoined c own id (Bound b ∷ later)) (joined newest q v)
+    joins q is None there h = tt
+    joins q is (Some d) there h =
         by_test (same_name d.name newest)
-        (λ e. rw e (λ alone. absurd (none_not_some (sym alone ∙ of_row (sym (has_its_row t n d b there) ∙ e)))))
+        (λ e. rw e (unless_left (UnlessJoined c own id (Bound b ∷ later)) (held_by q d) (held q is (sym (has_its_row t n d b there) ∙ e))))
         (λ e. rw e (λ alone. h (before d.name alone)))
       where
-        of_row : is_row_of b.row d.name ≡ true → joined_in (Bound b ∷ later) d.name ≡ Some p
-        of_row e = ap (λ (q : Bool). if q then either_origin (joins_standing b.kind) (joined_in later d.name) else joined_in later d.name) e ∙ ap (λ (j : Option Origin). either_origin j (joined_in later d.name)) is
+        of_row : (p : Origin) → holds_standing b.kind ≡ Some (holding.Resumed p) → is_row_of b.row d.name ≡ true → joined_in (Bound b ∷ later) d.name ≡ Some p
+        of_row p is e = ap (λ (q : Bool). if q then either_origin (joins_standing b.kind) (joined_in later d.name) else joined_in later d.name) e
+            ∙ ap (λ (j : Option Holding). either_origin (option_and_then resumed_held j) (joined_in later d.name)) is
 
-    by : (j : Option Origin) → joins_standing b.kind ≡ j → WhileThere (UnlessJoined c own id (Bound b ∷ later)) (with_binding j newest (rank_in t b) b (bindings t + 1 == n) (delivery t n))
+        held : (q : Holding) → holds_standing b.kind ≡ Some q → is_row_of b.row d.name ≡ true → UnlessJoined c own id (Bound b ∷ later) (held_by q d)
+        held (holding.Resumed p) is e = λ alone. absurd (none_not_some (sym alone ∙ of_row p is e))
+        held (holding.Unresumed a) is e = λ alone. h (before d.name alone)
+        held (holding.Settled a) is e = λ alone. h (before d.name alone)
+
+    by : (j : Option Holding) → holds_standing b.kind ≡ j → WhileThere (UnlessJoined c own id (Bound b ∷ later)) (with_binding j newest (rank_in t b) b (bindings t + 1 == n) (delivery t n))
     by None is = by_test (bindings t + 1 == n) (λ e. absurd (too_high given (eqb-true (bindings t + 1) n e))) (λ e. rw e (stays (delivery t n) none))
-    by (Some p) is = joins p is (delivery t n) refl none
+    by (Some q) is = joins q is (delivery t n) refl none
 
 entry_under : (c own id : ℕ) (later : List Entry) (e : Entry) (t : List Entry) (n : ℕ) → is_opening e ≡ false → n ≤ bindings t → Under c own id later t n → Under c own id (e ∷ later) (e ∷ t) n
 entry_under c own id later (Did s) t n one given none =

@@ -93,7 +93,7 @@ origin_keeps gone e p h = by (is_gone_with gone (sender e)) refl h
   where
     by : (b : Bool) → is_gone_with gone (sender e) ≡ b → source (if b then forsaken e else e) ≡ Some p → gone p.link ≡ false
     by true is h = absurd (none_not_some h)
-    by false is h = sym (ap (λ (o : Option Origin). is_gone_with gone (either_origin o e.early)) h) ∙ is
+    by false is h = sym (ap (λ (o : Option Origin). is_gone_with gone (either_origin (either_origin o e.owned) e.early)) h) ∙ is
 
 pub ends_keep : (closed : Bool) (gone : Attachment → Bool) (d : Delivery) (p : Origin) → source (after_ends closed gone d) ≡ Some p → gone p.link ≡ false
 ends_keep closed gone d p h = origin_keeps gone (if gone d.link then ended closed d else d) p h

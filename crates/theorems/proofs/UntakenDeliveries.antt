@@ -7,7 +7,7 @@ use Rattle.router_trace.specs.declared.binding.Origin.{Origin}
 use Rattle.router_trace.specs.declared.handle.Attachment.{Attachment}
 use Rattle.router_trace.specs.Trace.{Entry, Did, Out, Took, Bound, Booked, Began}
 use Rattle.router_trace.specs.Links.{is_lost, has_number, attachments, newest_by, numbered}
-use Rattle.router_trace.specs.Deliveries.{Delivery, none_if_ended, ended_first, acts_found, channels_found, bindings, counters, joins_standing, origin_of, with_binding, name_of, name_in, same_name, number_named, delivery, called, unless_over, after_event, after_put, sending_by, sending, named_by, named, next_id_by, next_id, stands_on, rank_at, rank_in, rank_of, ranked, last_row, last_with}
+use Rattle.router_trace.specs.Deliveries.{Delivery, none_if_ended, ended_first, acts_found, channels_found, bindings, counters, holds_standing, origin_of, with_binding, name_of, name_in, same_name, number_named, delivery, called, unless_over, after_event, after_put, sending_by, sending, named_by, named, next_id_by, next_id, stands_on, rank_at, rank_in, rank_of, ranked, last_row, last_with}
 use Rattle.router_trace.specs.DeliveryFrames.{next_frame, largest_out, rest_of, first_transfer, later_transfer}
 use Rattle.router_trace.specs.Claims.{Claim, bind_claim, claim_at, claim_after, claims}
 use Rattle.router_trace.specs.Numbers.{Placed, first_below, first_placed, first_ranked, no_rank}
@@ -23,7 +23,7 @@ same_bindings [] = refl
 same_bindings (Did s ∷ t) = same_bindings t
 same_bindings (Out d i ∷ t) = same_bindings t
 same_bindings (Took d n ∷ t) = same_bindings t
-same_bindings (Bound b ∷ t) = ap (λ (n : ℕ). if is_none (joins_standing b.kind) then n + 1 else n) (same_bindings t)
+same_bindings (Bound b ∷ t) = ap (λ (n : ℕ). if is_none (holds_standing b.kind) then n + 1 else n) (same_bindings t)
 same_bindings (Booked acts full ∷ t) = same_bindings t
 same_bindings (Began g ∷ t) = refl
 
@@ -44,7 +44,7 @@ same_numbers [] name = refl
 same_numbers (Did s ∷ t) name = same_numbers t name
 same_numbers (Out d i ∷ t) name = same_numbers t name
 same_numbers (Took d n ∷ t) name = same_numbers t name
-same_numbers (Bound b ∷ t) name = λ j. if is_none (joins_standing b.kind) && same_name (same_name_in t b j) name then Some (same_bindings t j + 1) else same_numbers t name j
+same_numbers (Bound b ∷ t) name = λ j. if is_none (holds_standing b.kind) && same_name (same_name_in t b j) name then Some (same_bindings t j + 1) else same_numbers t name j
 same_numbers (Booked acts full ∷ t) name = same_numbers t name
 same_numbers (Began g ∷ t) name = refl
 
@@ -114,7 +114,7 @@ same_delivery (Did s ∷ t) n =
     λ j. option_and_then (λ d. unless_over (after_event s.event (λ c p. same_channels t c p j) (λ c o id. same_named t c o id j) (same_acts_found t j) n d)) (same_delivery t n j)
 same_delivery (Out c i ∷ t) n = λ j. option_and_then (λ d. unless_over (after_put (λ name. same_numbers t name j) i c n (λ o h. same_sending t c o h j) d)) (same_delivery t n j)
 same_delivery (Took c k ∷ t) n = same_delivery t n
-same_delivery (Bound b ∷ t) n = λ j. with_binding (joins_standing b.kind) (same_name_in t b j) (same_rank_in t b j) b (same_bindings t j + 1 == n) (same_delivery t n j)
+same_delivery (Bound b ∷ t) n = λ j. with_binding (holds_standing b.kind) (same_name_in t b j) (same_rank_in t b j) b (same_bindings t j + 1 == n) (same_delivery t n j)
 same_delivery (Booked acts full ∷ t) n = same_delivery t n
 same_delivery (Began g ∷ t) n = refl
 

@@ -20,6 +20,7 @@ use Rattle.book_model.specs.declared.terminus.LinkKey.{LinkKey}
 use Rattle.amqp_link.specs.declared.part.Delivery.{Delivery as Told}
 use Rattle.amqp_link.specs.declared.part.Part.{Part}
 use Rattle.amqp_link.specs.declared.part.Part.TheVariants as part
+use Rattle.router_trace.specs.declared.binding.Holding.TheVariants as holding
 use Rattle.router_trace.specs.declared.binding.BindingKind.TheVariants as kind
 use Rattle.router_trace.specs.declared.binding.DeliveryName.TheVariants as name
 use Rattle.router_trace.specs.declared.binding.Origin.{Origin}
@@ -46,6 +47,7 @@ use Rattle.reply_rows.specs.Booking.{wants_durable, wanted_address, new_terminus
 use Rattle.reply_transfers.specs.Transfers.{claimed_id, settled_answers, from_link, origin_of, lasts_on, may_pass, consumer_for, fresh_bound, row_resumed, join_from, joined_on, joined_if, resumed_bound, unless_joined, resumed_put, whole_bound, let_go, unless_many, ignored_put, released_by, released, unbound_put, whole_put, part_put, part_bound}
 use Rattle.reply_transfers.specs.Joining.{row_joined, row_claimed, row_under}
 use Rattle.router_reply.specs.Acts.{book_in, found_journal}
+use Rattle.router_reply.specs.Holding.{held_key, if_sends}
 use Rattle.router_reply.specs.Resuming.{asked_key, key_taken, key_by, key_in, taken_key, attach_in, if_receives, resumed_key, map_for}
 use Rattle.router_reply.specs.Replies.{map_told, stolen_by, attach_answer, taken_after, taken, refused, row_found, bound_for, links_put, item_put}
 use Rattle.theorems.specs.Takes.{untaken}
@@ -139,6 +141,9 @@ same_taken_key t event.Start y = refl
 pub same_resumed_key : (t : List Entry) (e : Event) (y : Answer) → resumed_key t e y ≡ resumed_key (untaken t) e y
 same_resumed_key t e y = ap (if_receives (attach_in e)) (same_taken_key t e y)
 
+pub same_held_key : (t : List Entry) (e : Event) (y : Answer) → held_key t e y ≡ held_key (untaken t) e y
+same_held_key t e y = ap (if_sends (attach_in e)) (same_taken_key t e y)
+
 same_map : (t : List Entry) (c own : ℕ) (a : AnAttach) → found_journal t ≡ found_journal (untaken t) → map_told t c a (Attach own) ≡ map_told (untaken t) c a (Attach own)
 same_map t c own a journal = λ j. map_for (journal j).book (Some a) (same_asked_key t c a j)
 
@@ -201,7 +206,7 @@ same_row_resumed b t c own None = refl
 same_row_resumed b t c own (Some id) = same_row_under b t c own id
 
 same_join : (t : List Entry) (from : Attachment) (id : ℕ) (r : Row) → join_from t from id r ≡ join_from (untaken t) from id r
-same_join t from id r = λ j. joining (origin_of from id) r.number (joined_to (same_called t (name.Row r.number) j) r.outcome)
+same_join t from id r = λ j. joining (holding.Resumed (origin_of from id)) r.number (joined_to (same_called t (name.Row r.number) j) r.outcome)
 
 same_joined_on : (t : List Entry) (c own handle id : ℕ) (r : Row) (l : Option Link) → joined_on t c own handle id r l ≡ joined_on (untaken t) c own handle id r l
 same_joined_on t c own handle id r None = refl

@@ -1,6 +1,6 @@
 -- Messages received (AMQP 1.0 part 2, sections 2.6.14 and 2.7.5): a producer's delivery is complete with the frame that says that no more
 -- are to come.
-use Rattle.std.specs.Prelude.{◌≡◌, ℕ, ◌+◌, Bool, true, false, is_some, List, [], ◌∷◌, ◌++◌, Option, Some, None, unwrap_or, option_map}
+use Rattle.std.specs.Prelude.{◌≡◌, ◌⊎◌, ℕ, ◌+◌, Bool, true, false, is_some, List, [], ◌∷◌, ◌++◌, Option, Some, None, unwrap_or, option_map}
 use Rattle.amqp_model.specs.declared.perf.Perf.TheVariants as perf
 use Rattle.amqp_model.specs.declared.perf.Transfer.{Transfer}
 use Rattle.amqp_model.specs.declared.item.Item.TheVariants as item
@@ -8,15 +8,19 @@ use Rattle.amqp_model.specs.declared.state.DeliveryState.{DeliveryState}
 use Rattle.amqp_link.specs.declared.part.Delivery.{Delivery as Told}
 use Rattle.amqp_link.specs.Deliveries.{frame, bytes, delivery}
 use Rattle.amqp_link.specs.Receiving.{Received, middle}
-use Rattle.book_model.specs.Book.{terminus_of, is_for}
+use Rattle.book_model.specs.Book.{terminus_of, is_for, is_from}
 use Rattle.book_model.specs.declared.row.Row.{Row as ARow}
 use Rattle.book_model.specs.declared.row.RowNumber.{RowNumber}
 use Rattle.book_model.specs.declared.terminus.LinkKey.{LinkKey}
+use Rattle.book_model.specs.declared.terminus.LinkRole.TheVariants.{Producer}
 use Rattle.book_model.specs.declared.terminus.Terminus.{Terminus}
 use Rattle.router_trace.specs.declared.binding.Binding.{Binding}
 use Rattle.router_trace.specs.declared.binding.BindingKind.{BindingKind}
 use Rattle.router_trace.specs.declared.binding.BindingKind.TheVariants as kind
+use Rattle.router_trace.specs.declared.binding.Holding.{Holding}
+use Rattle.router_trace.specs.declared.binding.Holding.TheVariants as holding
 use Rattle.router_trace.specs.declared.binding.Origin.{Origin}
+use Rattle.router_trace.specs.declared.handle.Attachment.{Attachment}
 use Rattle.router_trace.specs.declared.channel.PeerChannel.TheVariants.{Mapped}
 use Rattle.router_trace.specs.declared.event.ConnectionId.{ConnectionId}
 use Rattle.journal_store.specs.Acting.{journal_outcome}
@@ -24,15 +28,16 @@ use Rattle.router_trace.specs.declared.event.Event.TheVariants as event
 use Rattle.router_trace.specs.Trace.{Trace, Did, Out, Took, Bound, Booked, Began, Step}
 use Rattle.router_trace.specs.declared.binding.DeliveryName.TheVariants.{Row}
 use Rattle.router_trace.specs.declared.binding.TakenUp.{TakenUp}
-use Rattle.router_trace.specs.Deliveries.{Delivery, delivery as delivery_in, origin_of, joined_by, acts_found, called, outcome_among, outcome_as, origin_in, told_in, early_in}
+use Rattle.router_trace.specs.Deliveries.{Delivery, delivery as delivery_in, origin_of, joined_by, acts_found, called, outcome_among, outcome_as, origin_in, told_in, early_in, owned_in}
 use Rattle.router_trace.specs.Sessions.{theirs}
-use Rattle.router_trace.specs.Links.{Link, receives, link, link_place, on, durable_key}
+use Rattle.router_trace.specs.Links.{Link, receives, link, link_place, on, durable_key, holder}
 use Rattle.router_trace.specs.Claims.{claims, Claim}
 use Rattle.router_trace.specs.Settling.{is_claimed_on}
 use Rattle.state_messages.specs.Asking.{consumer_with}
 use Rattle.state_messages.specs.Messages.{consumer_of, lasts, payload_as}
 use Rattle.reply_transfers.specs.Transfers.{claimed_id, from_link, lasts_on}
 use Rattle.router_reply.specs.Acts.{book_found, book_in}
+use Rattle.router_reply.specs.Holding.{as_held}
 use Rattle.router_reply.specs.Replies.{row_found}
 use Rattle.theorems.specs.OneConsumer.{IsOfMessage}
 
@@ -125,7 +130,7 @@ last_found (Began g ∷ t) = []
 
 -- A row is bound again when a consumer's durable link takes it up: the book that the attach found has it for the terminus
 -- of that link. It is bound with its message, unless it is brought with an outcome (`BringsItsOutcome`). Its producer's
--- delivery is that of the delivery which it had until then, whether that was told, or settled early, or neither.
+-- delivery is that of the delivery which it had until then, whether that was told, or settled early, or neither, or is its link alone.
 pub record TakesUp (t : Trace) (b : Binding) : Type 0 where
   pub brought : TakenUp
   pub taken : b.kind ≡ kind.TakenUp brought
@@ -144,6 +149,7 @@ pub record TakesUp (t : Trace) (b : Binding) : Type 0 where
   pub origin : brought.origin ≡ origin_in (called t (Row row.number))
   pub told : brought.told ≡ told_in (called t (Row row.number))
   pub early : brought.early ≡ early_in (called t (Row row.number))
+  pub owned : brought.owned ≡ owned_in (called t (Row row.number))
   pub lasting : b.lasting ≡ lasts t b.consumer
 
 -- The outcome that a row which is taken up brings is the one that the book has of it that the attach found. If it is
@@ -187,13 +193,42 @@ pub record JoinsRow (t : Trace) (b : Binding) (origin : Origin) : Type 0 where
   pub its_producer : row.producer.0 ≡ terminus.number.0
   pub same_tag : claim.tag ≡ Some row.tag.items
   pub unforgotten : row.forgotten ≡ false
-  pub joins : b ≡ joined_by t origin row.number row.outcome
+  pub joins : b ≡ joined_by t (holding.Resumed origin) row.number row.outcome
 
--- What is bound is a message, or a row that is taken up again, or a row to which its producer's delivery is joined.
+-- A row is bound again, too, when a producer's durable link is attached again: the book after the acts of that event has it for the terminus of this link,
+-- which is attached. The link has it from then on, and nothing is sent or told of it. It is settled if the book has it as forgotten.
+pub record HoldsRow (t : Trace) (b : Binding) (q : Holding) : Type 0 where
+  pub at : Attachment
+  pub key : LinkKey
+  pub role : key.role ≡ Producer
+  pub attached : holder t key ≡ Some at
+  pub terminus : Terminus
+  pub of_key : terminus_of key (book_in t).termini ≡ Some terminus
+  pub row : ARow
+  pub earlier : List ARow
+  pub later : List ARow
+  pub kept : (book_in t).rows ≡ earlier ++ row ∷ later
+  pub its_producer : is_from terminus.number.0 row ≡ true
+  pub how : q ≡ as_held at row
+  pub holds : b ≡ joined_by t q row.number row.outcome
+
+-- The link that has a row like this has it settled once the acts of an event forget it.
+pub record SettlesRow (t : Trace) (b : Binding) (q : Holding) : Type 0 where
+  pub row : RowNumber
+  pub owner : Origin
+  pub owned : owned_in (called t (Row row)) ≡ Some owner
+  pub how : q ≡ holding.Settled owner.link
+  pub settles : b ≡ joined_by t q row None
+
+abbrev pub JoinsAs : Holding → Trace → Binding → Type 0
+JoinsAs (holding.Resumed origin) t b = JoinsRow t b origin
+JoinsAs q t b = HoldsRow t b q ⊎ SettlesRow t b q
+
+-- What is bound is a message, or a row that is taken up again, or a row that is joined to its producer's link: by a delivery, or without one.
 abbrev pub BindsAs : BindingKind → Trace → Binding → Type 0
 BindsAs (kind.Message origin) t b = BindsMessage t b
 BindsAs (kind.TakenUp brought) t b = TakesUp t b
-BindsAs (kind.Joined origin to) t b = JoinsRow t b origin
+BindsAs (kind.Joined q to) t b = JoinsAs q t b
 
 abbrev pub BindsByKind : Trace → Binding → Type 0
 BindsByKind t b = BindsAs b.kind t b

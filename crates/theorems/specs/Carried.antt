@@ -11,7 +11,7 @@ use Rattle.router_trace.specs.declared.binding.DeliveryName.{DeliveryName}
 use Rattle.router_trace.specs.Trace.{Trace, Did, Out, Took, Bound, Booked, Began, IsOneRun}
 use Rattle.router_trace.specs.Links.{Link, link}
 use Rattle.router_trace.specs.Following.{is_sending}
-use Rattle.router_trace.specs.Deliveries.{Delivery, bindings, counters, joins_standing, number_named, delivery, sending, carried, tag_in, tag_of, tagged, is_number}
+use Rattle.router_trace.specs.Deliveries.{Delivery, bindings, counters, holds_standing, number_named, delivery, sending, carried, tag_in, tag_of, tagged, is_number, joined}
 use Rattle.theorems.specs.Each.{EachOut, EachBound}
 
 -- Numbers are small: fewer than 2^64 messages without a row were bound, and the row of each that has one is below 2^64.
@@ -93,7 +93,7 @@ pub record IsBeginning (bytes whole : List ℕ) : Type 0 where
   pub joined : bytes ++ rest ≡ whole
 
 abbrev pub GoesInOrder : Trace → Type 0
-GoesInOrder u = HasSmallNumbers u → (b : Binding) (t later : Trace) → IsOneRun later → joins_standing b.kind ≡ None → u ≡ later ++ Bound b ∷ t → IsBeginning (bytes_out u (bindings t + 1)) b.payload
+GoesInOrder u = HasSmallNumbers u → (b : Binding) (t later : Trace) → IsOneRun later → holds_standing b.kind ≡ None → u ≡ later ++ Bound b ∷ t → IsBeginning (bytes_out u (bindings t + 1)) b.payload
 
 abbrev pub perf_completes : Perf → Trace → ℕ → Item → ℕ → Type 0
 perf_completes (perf.Transfer x) t c i own =

@@ -19,7 +19,7 @@ use Rattle.router_trace.specs.declared.channel.PeerChannel.TheVariants.{Mapped}
 use Rattle.router_trace.specs.declared.binding.Binding.{Binding}
 use Rattle.router_trace.specs.Trace.{Trace, Entry, Did, Out, Bound, Step, IsOneRun}
 use Rattle.router_trace.specs.Links.{ends_handle}
-use Rattle.router_trace.specs.Deliveries.{Delivery, bindings, outcome_in, joins_standing, acts_found, outcome_among, channels_found, number_named, delivery, named, terminal, decision, failed, closes, last_of, tag_in, carried, sending}
+use Rattle.router_trace.specs.Deliveries.{Delivery, bindings, outcome_in, holds_standing, acts_found, outcome_among, channels_found, number_named, delivery, named, terminal, decision, failed, closes, last_of, tag_in, carried, sending}
 
 -- Its consumer gave it: a disposition was received, as a receiver's, on the link's session; the delivery's id is in its range, and
 -- names this delivery; the outcome is its state if that is terminal, and modified with delivery-failed if it settles without one.
@@ -94,13 +94,13 @@ pub record SentSettled (entry : Entry) (t : Trace) (n : ℕ) (d : Delivery) : Ty
   pub last : transfer.more ≡ false
   pub presettled : d.presettled ≡ true
 
--- A row that is bound again may be decided, when its consumer's link takes it up, or when its producer's delivery is joined to it: its binding brings the
--- outcome that the book has of it (`BringsItsOutcome`, `JoinsRow`). So there was no delivery with that number before.
+-- A row that is bound again may be decided, when its consumer's link takes it up, or when it is joined to its producer's link: its binding brings the
+-- outcome that the book has of it (`BringsItsOutcome`, `JoinsRow`, `HoldsRow`). So there was no delivery with that number before.
 pub record BroughtBack (entry : Entry) (t : Trace) (n : ℕ) (outcome : DeliveryState) : Type 0 where
   pub binding : Binding
   pub entry_is : entry ≡ Bound binding
   pub number : bindings t + 1 ≡ n
-  pub numbered : joins_standing binding.kind ≡ None
+  pub numbered : holds_standing binding.kind ≡ None
   pub brings : outcome_in binding.kind ≡ Some outcome
 
 -- an entry after a trace decides the delivery with a number, as it was in the trace

@@ -7,7 +7,7 @@ use Rattle.router_trace.specs.declared.binding.DeliveryName.{DeliveryName}
 use Rattle.router_trace.specs.declared.binding.DeliveryName.TheVariants.{Row}
 use Rattle.router_trace.specs.declared.binding.Origin.{Origin}
 use Rattle.router_trace.specs.Trace.{Trace, Did, Out, Took, Bound, Booked, Began, IsOneRun}
-use Rattle.router_trace.specs.Deliveries.{Delivery, has_row, either_origin, origin_of, joins_standing, presettles, bindings, name_in, delivery}
+use Rattle.router_trace.specs.Deliveries.{Delivery, has_row, either_origin, origin_of, holds_standing, joins_standing, presettles, bindings, name_in, delivery}
 
 -- where an outcome is still to be reported: to the producer's delivery, or nowhere
 abbrev pub IsOrNone : Option Origin → Option Origin → Type 0
@@ -48,7 +48,7 @@ WhileThere P (Some d) = P d
 -- After a message was bound, whatever happens later in the run, the delivery with its number is of it. (What is joined to
 -- a delivery that stands gets no number.)
 abbrev pub StaysWithConsumer : Type 0
-StaysWithConsumer = (b : Binding) (t later : Trace) → IsOneRun later → joins_standing b.kind ≡ None
+StaysWithConsumer = (b : Binding) (t later : Trace) → IsOneRun later → holds_standing b.kind ≡ None
     → WhileThere (IsOf later b) (delivery (later ++ Bound b ∷ t) (bindings t + 1))
 
 -- Once a delivery is gone it never comes back, in the run.
@@ -62,7 +62,7 @@ pub record IsOfMessage (u : Trace) (n : ℕ) (d : Delivery) : Type 0 where
   pub before : Trace
   pub trace : u ≡ later ++ Bound binding ∷ before
   pub one_run : IsOneRun later
-  pub numbered : joins_standing binding.kind ≡ None
+  pub numbered : holds_standing binding.kind ≡ None
   pub number : bindings before + 1 ≡ n
   pub name : d.name ≡ name_in before binding
   pub is : IsOf later binding d

@@ -8,7 +8,7 @@ use Rattle.journal_codec.specs.Batches.{book_after}
 use Rattle.gate_journal.proofs.Fronts.{book_more}
 use Rattle.twin_journal.specs.declared.figures.Figures.{Figures}
 use Rattle.twin_journal.specs.Figures.{IsAt, StartsAt, IsAdded}
-use Rattle.twin_journal.specs.Holding.{TwinHolds, BeforeOrBehind, last_of}
+use Rattle.twin_journal.specs.Holding.{TwinHolds, BeforeOrAfter, last_of}
 use Rattle.twin_journal.proofs.Kept.{after_none, holds_at}
 
 -- of what an Ok has, what follows
@@ -51,7 +51,7 @@ last_behind (b ∷ more ∷ bs) acts = last_behind (more ∷ bs) acts
 
 -- what a crash leaves of the batch is the journal before it, or the one with it
 pub holds_both : (c : Contents) (base count : ℕ) (start book : BookView) (bs : List (List Act)) (acts : List Act) → book_after start bs ≡ book → count ≡ base + length bs
-    → TwinHolds c base start bs ⊎ TwinHolds c base start (bs ++ acts ∷ []) → BeforeOrBehind book count acts c
+    → TwinHolds c base start bs ⊎ TwinHolds c base start (bs ++ acts ∷ []) → BeforeOrAfter book count acts c
 holds_both c base count start book bs acts leaves counted either =
     ⊎_elim (λ before. inl (holds_at c base count start book bs before leaves counted))
     (λ after. inr (record {

@@ -6,7 +6,7 @@ use Rattle.book_model.specs.Book.{BookView, effects}
 use Rattle.journal_codec.specs.Batches.{book_after}
 use Rattle.twin_journal.specs.declared.figures.Figures.{Figures}
 use Rattle.twin_journal.specs.Figures.{IsAt}
-use Rattle.twin_journal.specs.Holding.{TwinHolds, OpensTo, HoldsAt, HoldsOn, HoldsUpTo, BeforeOrBehind, last_of}
+use Rattle.twin_journal.specs.Holding.{TwinHolds, OpensTo, HoldsAt, HoldsOn, HoldsUpTo, BeforeOrAfter, last_of}
 
 pub after_none : (b : BookView) → book_after b [] ≡ b
 unfolding book_after
@@ -47,6 +47,6 @@ holds_either c base last start book bs leaves counted either =
 pub counted_opens : (c : Contents) (book : BookView) (count : ℕ) (last : List Act) → HoldsUpTo c book count last → OpensTo c book
 counted_opens c book count last h = record { base = h.base; start = h.start; batches = h.batches; holds = h.holds; leaves = h.leaves }
 
-pub counted_both : (c : Contents) (book : BookView) (count : ℕ) (acts : List Act) → BeforeOrBehind book count acts c → OpensTo c book ⊎ OpensTo c (effects book acts)
+pub counted_both : (c : Contents) (book : BookView) (count : ℕ) (acts : List Act) → BeforeOrAfter book count acts c → OpensTo c book ⊎ OpensTo c (effects book acts)
 counted_both c book count acts either =
     ⊎_elim (λ before. inl (counted_opens c book count before.0 before.1)) (λ behind. inr (counted_opens c (effects book acts) (count + 1) acts behind)) either

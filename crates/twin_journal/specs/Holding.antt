@@ -51,5 +51,5 @@ pub record HoldsUpTo (contents : Contents) (book : BookView) (count : ℕ) (last
 abbrev pub HoldsAt : Contents → BookView → ℕ → Type 0
 HoldsAt contents book count = (last : List Act) × HoldsUpTo contents book count last
 
-abbrev pub BeforeOrBehind : BookView → ℕ → List Act → Contents → Type 0
-BeforeOrBehind book count acts contents = HoldsAt contents book count ⊎ HoldsUpTo contents (effects book acts) (count + 1) acts
+abbrev pub BeforeOrAfter : BookView → ℕ → List Act → Contents → Type 0
+BeforeOrAfter book count acts contents = HoldsAt contents book count ⊎ HoldsUpTo contents (effects book acts) (count + 1) acts

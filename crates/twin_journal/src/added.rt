@@ -9,7 +9,7 @@ ghost use Rattle.gate_journal.specs.Ordered.{IsOrdered};
 ghost use Rattle.gate_journal.specs.Reserve.{reserve};
 ghost use Rattle.twin_journal.specs.Figures.{IsAt, StartsAt, IsAdded, IsAppended};
 ghost use Rattle.twin_journal.specs.Format.{checkpoint_size};
-ghost use Rattle.twin_journal.specs.Holding.{BeforeOrBehind, HoldsAt};
+ghost use Rattle.twin_journal.specs.Holding.{BeforeOrAfter, HoldsAt};
 ghost use Rattle.twin_journal.specs.Room.{IsFull, Suits, Spells, is_due};
 
 use crate::figures::{Figures, Needs};
@@ -73,7 +73,7 @@ pub(crate) fn add_planned<T: Twin>(
         → IsAt figures (T.seen twin.old) (T.may_leave twin.old) stamp start bs → book_after start bs ≡ book.now
         → Spells plan.now.batch acts → IsBatch acts → first_fault book.now acts ≡ None
         → LeavesOnly T.moment T.left_since twin.old twin.new
-        (BeforeOrBehind book.now figures.last acts) }
+        (BeforeOrAfter book.now figures.last acts) }
     ensures fault { IfErr result (λ f. (f ≡ JournalFault.Disk) ⊎ (f ≡ JournalFault.Memory)) }
     ensures disk { IsErrOf result JournalFault.Disk → T.failures twin.old < T.failures twin.new }
     ensures no_other { (IsErrOf result JournalFault.Disk → ⊥) → T.failures twin.new ≡ T.failures twin.old }
@@ -111,7 +111,7 @@ pub(crate) fn append_batch<T: Twin>(
     ensures any_moment { (stamp : List ℕ) (start : BookView) (bs : List (List AnAct))
         → IsAt state.0 (T.seen twin.old) (T.may_leave twin.old) stamp start bs → book_after start bs ≡ book.now
         → LeavesOnly T.moment T.left_since twin.old twin.new
-        (BeforeOrBehind book.now state.0.last acts.now) }
+        (BeforeOrAfter book.now state.0.last acts.now) }
     ensures full { IsErrOf result JournalFault.Full → Suits state.1 book.now → IsFull book.now acts.now }
     ensures full_same { IsErrOf result JournalFault.Full → twin.new ≡ twin.old }
     ensures room { OnOk result (Suits state.1 book.now → IsFull book.now acts.now → ⊥) }

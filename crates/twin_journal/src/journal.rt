@@ -6,7 +6,7 @@ ghost use Rattle.book_model.specs.Book.{BookView, first_fault, effects};
 ghost use Rattle.journal_codec.specs.Batches.{HaveOutcomes, book_after};
 ghost use Rattle.journal_codec.specs.Format.{acts_bytes};
 ghost use Rattle.gate_journal.specs.Reserve.{reserve};
-ghost use Rattle.twin_journal.specs.Holding.{BeforeOrBehind, TwinHolds, OpensTo};
+ghost use Rattle.twin_journal.specs.Holding.{BeforeOrAfter, TwinHolds, OpensTo};
 ghost use Rattle.twin_journal.specs.Journal.{Keeps, KeepsBook, SuitsBook, twin_of, base_of, batch_count, has_failed, is_due_in};
 ghost use Rattle.twin_journal.specs.Judging.{Explains};
 ghost use Rattle.twin_journal.specs.Room.{IsFull, room};
@@ -99,7 +99,7 @@ impl<T: Twin> Journal<T> {
 
         // So it leaves the number of batches that there were, or this batch as the last one behind them.
         ensures journal_moment { KeepsBook T.seen T.may_leave self.old book.now
-            → LeavesOnly T.moment T.left_since (twin_of self.old) (twin_of self.new) (BeforeOrBehind book.now (batch_count self.old) acts.now) }
+            → LeavesOnly T.moment T.left_since (twin_of self.old) (twin_of self.new) (BeforeOrAfter book.now (batch_count self.old) acts.now) }
 
         // `Full` comes exactly where the batch costs more than nothing and more than the room of the book.
         ensures full { IsErrOf result JournalFault.Full → SuitsBook self.old book.now → IsFull book.now acts.now }

@@ -4,6 +4,7 @@ use Rattle.std.specs.Prelude.{Option}
 use Rattle.std.specs.Option.{option_copied}
 use Rattle.amqp_model.specs.declared.state.DeliveryState.{DeliveryState}
 use Rattle.router_trace.specs.Trace.{Bound}
+use Rattle.router_trace.specs.declared.binding.Holding.TheVariants as holding
 use Rattle.router_trace.specs.Deliveries.{joined_by}
 use Rattle.router_trace.specs.Links.{link}
 use Rattle.router_state.specs.Tables.{TablesFit}
@@ -22,5 +23,5 @@ returns-in-Some c =
     on_ok_weaker c.join.result
     (λ is t fit. joined_here c.join.new.self t c.args.conn c.args.own c.args.handle c.args.delivery c.args.row.now (link t c.args.conn c.args.own c.args.handle) c.in-Some.link
     (sym c.in-Some.is ∙ c.attachment.ensures t fit)
-    (subst (λ (v : Option DeliveryState). TablesFit c.join.new.self (Bound (joined_by t (origin_of c.in-Some.link c.args.delivery) c.args.row.now.number v) ∷ t)) same (is t fit)))
+    (subst (λ (v : Option DeliveryState). TablesFit c.join.new.self (Bound (joined_by t (holding.Resumed (origin_of c.in-Some.link c.args.delivery)) c.args.row.now.number v) ∷ t)) same (is t fit)))
     c.join.ensures

@@ -2,7 +2,7 @@ use Rattle.std.proofs.Common.{◌≡◌, ◌⊎◌, inl, ◌∙◌, ◌+◌, ◌
 use Rattle.disk_core.specs.DiskLaws.{widened, joined}
 use Rattle.disk_core.specs.Twin.{Contents}
 use Rattle.twin_journal.specs.declared.figures.Figures.{Figures}
-use Rattle.twin_journal.specs.Holding.{TwinHolds, BeforeOrBehind, HoldsAt}
+use Rattle.twin_journal.specs.Holding.{TwinHolds, BeforeOrAfter, HoldsAt}
 use Rattle.twin_journal.specs.Figures.{IsAt}
 use Rattle.twin_journal.proofs.Appended.{made, adds, applies_there, holds_both}
 use Rattle.twin_journal.proofs.added.add_planned.Goals as goal
@@ -11,25 +11,25 @@ pub returns-in_err-made-clause-any_moment : goal.returns-in_err-made-clause-any_
 returns-in_err-made-clause-any_moment g c stamp start bs acts at leaves spells is applies =
     let T = g.T.Twin in
     let book = c.args.book.now in
-    widened T.moment T.left_since c.args.twin.now c.make_room.new.twin (λ (d : Contents). HoldsAt d book c.args.figures.last) (BeforeOrBehind book c.args.figures.last acts) (c.make_room.ensures.any_moment stamp start bs at leaves) (λ d o. inl o)
+    widened T.moment T.left_since c.args.twin.now c.make_room.new.twin (λ (d : Contents). HoldsAt d book c.args.figures.last) (BeforeOrAfter book c.args.figures.last acts) (c.make_room.ensures.any_moment stamp start bs at leaves) (λ d o. inl o)
 
 pub returns-in_default-clause-any_moment : goal.returns-in_default-clause-any_moment
 returns-in_default-clause-any_moment g c stamp start bs acts at leaves spells is applies =
     let T = g.T.Twin in
     let book = c.args.book.now in
-    widened T.moment T.left_since c.args.twin.now c.make_room.new.twin (λ (d : Contents). HoldsAt d book c.args.figures.last) (BeforeOrBehind book c.args.figures.last acts) (c.make_room.ensures.any_moment stamp start bs at leaves) (λ d o. inl o)
+    widened T.moment T.left_since c.args.twin.now c.make_room.new.twin (λ (d : Contents). HoldsAt d book c.args.figures.last) (BeforeOrAfter book c.args.figures.last acts) (c.make_room.ensures.any_moment stamp start bs at leaves) (λ d o. inl o)
 
 pub returns-in_default-longer-clause-any_moment : goal.returns-in_default-longer-clause-any_moment
 returns-in_default-longer-clause-any_moment g c stamp start bs acts at leaves spells is applies =
     let T = g.T.Twin in
     let book = c.args.book.now in
-    widened T.moment T.left_since c.args.twin.now c.make_room.new.twin (λ (d : Contents). HoldsAt d book c.args.figures.last) (BeforeOrBehind book c.args.figures.last acts) (c.make_room.ensures.any_moment stamp start bs at leaves) (λ d o. inl o)
+    widened T.moment T.left_since c.args.twin.now c.make_room.new.twin (λ (d : Contents). HoldsAt d book c.args.figures.last) (BeforeOrAfter book c.args.figures.last acts) (c.make_room.ensures.any_moment stamp start bs at leaves) (λ d o. inl o)
 
 pub returns-in_err-store-clause-any_moment : goal.returns-in_err-store-clause-any_moment
 returns-in_err-store-clause-any_moment g c stamp start bs acts at leaves spells is applies =
     let T = g.T.Twin in
     let book = c.args.book.now in
-    let P : Contents → Type 0 = BeforeOrBehind book c.args.figures.last acts in
+    let P : Contents → Type 0 = BeforeOrAfter book c.args.figures.last acts in
     let figures = c.in_ok-made.made in
     let m = made figures (T.seen c.make_room.new.twin) (T.may_leave c.make_room.new.twin) stamp start bs book c.args.plan.now.due (c.in_ok-made.ensures.kept stamp start bs at) (c.in_ok-made.ensures.renewed stamp start bs at leaves) leaves in
     joined T.moment T.left_since c.args.twin.now c.make_room.new.twin c.store.new.twin P
@@ -42,7 +42,7 @@ pub returns-clause-any_moment : goal.returns-clause-any_moment
 returns-clause-any_moment g c stamp start bs acts at leaves spells is applies =
     let T = g.T.Twin in
     let book = c.args.book.now in
-    let P : Contents → Type 0 = BeforeOrBehind book c.args.figures.last acts in
+    let P : Contents → Type 0 = BeforeOrAfter book c.args.figures.last acts in
     let figures = c.in_ok-made.made in
     let m = made figures (T.seen c.make_room.new.twin) (T.may_leave c.make_room.new.twin) stamp start bs book c.args.plan.now.due (c.in_ok-made.ensures.kept stamp start bs at) (c.in_ok-made.ensures.renewed stamp start bs at leaves) leaves in
     joined T.moment T.left_since c.args.twin.now c.make_room.new.twin c.store.new.twin P

@@ -3,7 +3,7 @@ use Rattle.disk_core.specs.DiskLaws.{started}
 use Rattle.journal_codec.specs.Batches.{IsBatch}
 use Rattle.gate_journal.proofs.Reserves.{acts_follow}
 use Rattle.twin_journal.proofs.Appended.{if_ok}
-use Rattle.twin_journal.specs.Holding.{BeforeOrBehind}
+use Rattle.twin_journal.specs.Holding.{BeforeOrAfter}
 use Rattle.twin_journal.proofs.Keeping.{if_both}
 use Rattle.twin_journal.proofs.Kept.{left_at}
 use Rattle.twin_journal.proofs.Ordered.{sound_is_ordered}
@@ -41,5 +41,5 @@ returns-in-Err-clause-any_moment g c stamp start bs at leaves =
     let twin = c.args.twin.now in
     let figures = c.args.state.0 in
     let book = c.args.book.now in
-    started T.moment T.left_since twin (BeforeOrBehind book figures.last c.args.acts.now)
+    started T.moment T.left_since twin (BeforeOrAfter book figures.last c.args.acts.now)
     (λ d left. inl (left_at d figures (T.seen twin) (T.may_leave twin) stamp start book bs at leaves (g.met.T.Twin.only_now twin d left)))

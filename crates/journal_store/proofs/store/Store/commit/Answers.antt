@@ -2,7 +2,7 @@ use Rattle.std.proofs.Common.{◌≡◌, ◌⊎◌, ◌∙◌, List, [], true, s
 use Rattle.disk_core.specs.Disk.{LeavesOnly}
 use Rattle.book_model.specs.declared.act.Act.{Act}
 use Rattle.book_model.specs.Book.{effects}
-use Rattle.twin_journal.specs.Holding.{BeforeOrBehind}
+use Rattle.twin_journal.specs.Holding.{BeforeOrAfter}
 use Rattle.journal_store.specs.Store.{OpensTo, twin_of, book_of, count_of, exceeds}
 use Rattle.journal_store.proofs.Makes.{no_acts, nothing_done}
 use Rattle.journal_store.proofs.Moments.{still_held}
@@ -34,14 +34,14 @@ pub returns-in-Ok-clause-journal_moment : goal.returns-in-Ok-clause-journal_mome
 returns-in-Ok-clause-journal_moment g c stands =
     let T = g.T.Twin in
     let old = c.args.self.now in
-    subst (λ (acts : List Act). LeavesOnly T.moment T.left_since (twin_of old) (twin_of c.write.new.self) (BeforeOrBehind (book_of old) (count_of old) acts))
+    subst (λ (acts : List Act). LeavesOnly T.moment T.left_since (twin_of old) (twin_of c.write.new.self) (BeforeOrAfter (book_of old) (count_of old) acts))
     c.deref.ensures.value (c.write.ensures.journal_moment stands)
 
 pub returns-in-Err-clause-journal_moment : goal.returns-in-Err-clause-journal_moment
 returns-in-Err-clause-journal_moment g c stands =
     let T = g.T.Twin in
     let old = c.args.self.now in
-    subst (λ (acts : List Act). LeavesOnly T.moment T.left_since (twin_of old) (twin_of c.write.new.self) (BeforeOrBehind (book_of old) (count_of old) acts))
+    subst (λ (acts : List Act). LeavesOnly T.moment T.left_since (twin_of old) (twin_of c.write.new.self) (BeforeOrAfter (book_of old) (count_of old) acts))
     c.deref.ensures.value (c.write.ensures.journal_moment stands)
 
 pub returns-then-is_empty-clause-journal_moment : goal.returns-then-is_empty-clause-journal_moment

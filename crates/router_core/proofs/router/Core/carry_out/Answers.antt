@@ -1,12 +1,12 @@
 use Rattle.std.proofs.Common.{◌≡◌, ◌∙◌, sym, ap, subst, ℕ, ◌+◌, List, []}
-use Rattle.std.specs.Prelude.{◌⊎◌, Option, Some, None, IfNone, Result, Ok, Err}
+use Rattle.std.specs.Prelude.{◌⊎◌, Option, Some, None, IfSome, IfNone, Result, Ok, Err}
 use Rattle.core_machine.specs.declared.fault.CoreFault.{CoreFault}
 use Rattle.disk_core.specs.Disk.{LeavesOnly}
 use Rattle.book_model.specs.declared.act.Act.{Act}
 use Rattle.book_model.specs.Book.{effects}
 use Rattle.twin_journal.specs.Journal.{batch_count}
 use Rattle.journal_store.specs.declared.store.Store.{Store}
-use Rattle.twin_journal.specs.Holding.{BeforeOrBehind}
+use Rattle.twin_journal.specs.Holding.{BeforeOrAfter}
 use Rattle.journal_store.specs.Store.{OpensTo, Stands, twin_of, journal_of, book_of, count_of}
 use Rattle.router_trace.specs.Trace.{step_of}
 use Rattle.router_state.specs.declared.tables.State.{State}
@@ -21,6 +21,12 @@ use Rattle.router_core.proofs.Committing.{some_weaker}
 use Rattle.router_core.proofs.Moments.{known_journal, known_moment, still_journal}
 use Rattle.router_core.proofs.router.Core.carry_out.Goals as goal
 
+-- the acts of what was written, or of nothing
+acts_in : {V : Type 0} (o : Option (ℕ × V)) (items : V → List Act) (given acts : List Act) (n : ℕ) → IfSome o (λ batch. given ≡ items batch.1) → IfNone o (given ≡ [])
+    → IfSome o (λ batch. (batch.0 ≡ n) × (items batch.1 ≡ acts)) → IfNone o (acts ≡ []) → given ≡ acts
+acts_in None items given acts n some none written silent = none ∙ sym silent
+acts_in (Some batch) items given acts n some none written silent = some ∙ written.1
+
 pub returns-clause-fits : goal.returns-clause-fits
 returns-clause-fits g c = λ t f taken.
     let core = c.args.self.now in
@@ -34,7 +40,9 @@ returns-clause-fits g c = λ t f taken.
     journals_after c.prepare.new.self c.write.new.self t e c.in-Ok.field-0.acts.items (journals_stored core c.prepare.new.self t (ap store_of c.prepare.ensures.rest) f.journal) acts
     c.in-Ok-write.ensures.book c.in-Ok-write.ensures.count c.in-Ok-write.ensures.suits in
     let tables : TablesFit (state_of c.answer.new.self) (handled (id_of core) t (step_of e)) =
-    subst (λ (id : List ℕ). TablesFit (state_of c.answer.new.self) (answered id (booked t e) (step_of e))) same (c.in-Ok-answer.ensures.tables (booked t e) ready journal.book row) in
+    subst (λ (id : List ℕ). TablesFit (state_of c.answer.new.self) (answered id (booked t e) (step_of e))) same (c.in-Ok-answer.ensures.tables (booked t e) ready journal.book row
+    (acts_in c.in-Ok-write.journal (λ v. v.items) c.acts_written.result.now c.in-Ok.field-0.acts.items _ c.acts_written.ensures.some c.acts_written.ensures.none c.in-Ok-write.ensures.written
+    c.in-Ok-write.ensures.silent ∙ acts)) in
     fits_handled c.answer.new.self (id_of core) t e taken.taken tables c.in-Ok-answer.ensures.started (journals_stored c.write.new.self c.answer.new.self (booked t e) c.answer.ensures.store journal)
 
 pub returns-clause-written : goal.returns-clause-written
@@ -99,8 +107,8 @@ returns-clause-journal_moment g c = λ t f taken stands.
     let acts = c.in-Ok.field-0.acts.items in
     let same = ap store_of c.prepare.ensures.rest in
     let run = subst (λ (s : Store _). Stands g.T.Twin.seen g.T.Twin.may_leave s
-    → LeavesOnly g.T.Twin.moment g.T.Twin.left_since (twin_of s) (twin_of (store_of c.write.new.self)) (BeforeOrBehind (book_of s) (count_of s) acts)) same c.write.ensures.journal_moment stands in
-    subst (λ (s : Store _). LeavesOnly g.T.Twin.moment g.T.Twin.left_since (twin_of (store_of core)) (twin_of s) (BeforeOrBehind (book_in t) (count_of (store_of core)) (acts_of t e))) (sym c.answer.ensures.store)
+    → LeavesOnly g.T.Twin.moment g.T.Twin.left_since (twin_of s) (twin_of (store_of c.write.new.self)) (BeforeOrAfter (book_of s) (count_of s) acts)) same c.write.ensures.journal_moment stands in
+    subst (λ (s : Store _). LeavesOnly g.T.Twin.moment g.T.Twin.left_since (twin_of (store_of core)) (twin_of s) (BeforeOrAfter (book_in t) (count_of (store_of core)) (acts_of t e))) (sym c.answer.ensures.store)
     (known_journal g.T.Twin.seen g.T.Twin.may_leave g.T.Twin.moment g.T.Twin.left_since core (twin_of (store_of c.write.new.self)) t e acts f (c.in-Ok.ensures.acts t f taken) run)
 
 pub returns-in_default-answer-clause-journal_moment : goal.returns-in_default-answer-clause-journal_moment
@@ -110,8 +118,8 @@ returns-in_default-answer-clause-journal_moment g c = λ t f taken stands.
     let acts = c.in-Ok.field-0.acts.items in
     let same = ap store_of c.prepare.ensures.rest in
     let run = subst (λ (s : Store _). Stands g.T.Twin.seen g.T.Twin.may_leave s
-    → LeavesOnly g.T.Twin.moment g.T.Twin.left_since (twin_of s) (twin_of (store_of c.write.new.self)) (BeforeOrBehind (book_of s) (count_of s) acts)) same c.write.ensures.journal_moment stands in
-    subst (λ (s : Store _). LeavesOnly g.T.Twin.moment g.T.Twin.left_since (twin_of (store_of core)) (twin_of s) (BeforeOrBehind (book_in t) (count_of (store_of core)) (acts_of t e))) (sym c.answer.ensures.store)
+    → LeavesOnly g.T.Twin.moment g.T.Twin.left_since (twin_of s) (twin_of (store_of c.write.new.self)) (BeforeOrAfter (book_of s) (count_of s) acts)) same c.write.ensures.journal_moment stands in
+    subst (λ (s : Store _). LeavesOnly g.T.Twin.moment g.T.Twin.left_since (twin_of (store_of core)) (twin_of s) (BeforeOrAfter (book_in t) (count_of (store_of core)) (acts_of t e))) (sym c.answer.ensures.store)
     (known_journal g.T.Twin.seen g.T.Twin.may_leave g.T.Twin.moment g.T.Twin.left_since core (twin_of (store_of c.write.new.self)) t e acts f (c.in-Ok.ensures.acts t f taken) run)
 
 pub returns-in-Err-clause-journal_moment : goal.returns-in-Err-clause-journal_moment
@@ -121,7 +129,7 @@ returns-in-Err-clause-journal_moment g c = λ t f taken stands.
     let acts = c.in-Ok.field-0.acts.items in
     let same = ap store_of c.prepare.ensures.rest in
     let run = subst (λ (s : Store _). Stands g.T.Twin.seen g.T.Twin.may_leave s
-    → LeavesOnly g.T.Twin.moment g.T.Twin.left_since (twin_of s) (twin_of (store_of c.write.new.self)) (BeforeOrBehind (book_of s) (count_of s) acts)) same c.write.ensures.journal_moment stands in
+    → LeavesOnly g.T.Twin.moment g.T.Twin.left_since (twin_of s) (twin_of (store_of c.write.new.self)) (BeforeOrAfter (book_of s) (count_of s) acts)) same c.write.ensures.journal_moment stands in
     known_journal g.T.Twin.seen g.T.Twin.may_leave g.T.Twin.moment g.T.Twin.left_since core (twin_of (store_of c.write.new.self)) t e acts f (c.in-Ok.ensures.acts t f taken) run
 
 pub returns-in_default-clause-journal_moment : goal.returns-in_default-clause-journal_moment

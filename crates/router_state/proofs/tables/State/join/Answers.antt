@@ -6,4 +6,4 @@ use Rattle.router_state.proofs.tables.State.join.Goals as goal
 
 pub returns : goal.returns
 returns c = λ t fit.
-    bound_fits c.args.self.now _ t (Some (joined_by t c.args.origin c.args.row (option_copied c.args.outcome))) fit (c.in_ok-join.ensures t fit.messages)
+    bound_fits c.args.self.now _ t (Some (joined_by t c.args.holding c.args.row (option_copied c.args.outcome))) fit (c.in_ok-join.ensures t fit.messages)

@@ -1,6 +1,6 @@
 use Rattle.std.proofs.Common.{rules, inl, refl, sym, subst, ◌∙◌}
 use Rattle.disk_core.specs.DiskLaws.{started, widened}
-use Rattle.twin_journal.specs.Holding.{BeforeOrBehind}
+use Rattle.twin_journal.specs.Holding.{BeforeOrAfter}
 use Rattle.twin_journal.specs.Room.{Suits}
 use Rattle.twin_journal.proofs.Keeping.{keeps_batch}
 use Rattle.twin_journal.proofs.Kept.{counted_both, left_at}
@@ -51,7 +51,7 @@ returns-then-self-clause-journal_moment g c k =
     let twin = c.args.self.now.twin in
     let figures = c.args.self.now.figures in
     let book = c.args.book.now in
-    started T.moment T.left_since twin (BeforeOrBehind book figures.last c.args.acts.now)
+    started T.moment T.left_since twin (BeforeOrAfter book figures.last c.args.acts.now)
     (λ d left. inl (left_at d figures (T.seen twin) (T.may_leave twin) k.keeps.stamp k.start book k.batches k.keeps.at (sym k.leaves) (g.met.T.Twin.only_now twin d left)))
 
 pub returns-in-Err-Full-clause-journal_moment : goal.returns-in-Err-Full-clause-journal_moment
