@@ -1,5 +1,5 @@
 -- Durable links and the book of durable deliveries: why a link, or a delivery on one, that its row would take is refused after all.
-use Rattle.std.specs.Prelude.{ℕ, Bool, true, false, not, ◌&&◌, ◌||◌, nat_lt, if◌then◌else◌, List, [], ◌∷◌, length, filter, Option, Some, None, is_none, is_some, unwrap_or}
+use Rattle.std.specs.Prelude.{◌≡◌, ℕ, Bool, true, false, not, ◌&&◌, ◌||◌, nat_lt, if◌then◌else◌, List, [], ◌∷◌, length, filter, Option, Some, None, is_none, is_some, unwrap_or}
 use Rattle.amqp_model.specs.declared.perf.Attach.{Attach as AnAttach}
 use Rattle.amqp_model.specs.declared.perf.Perf.{Perf}
 use Rattle.amqp_model.specs.declared.perf.Perf.TheVariants as perf
@@ -9,6 +9,7 @@ use Rattle.amqp_model.specs.declared.perf.Transfer.{Transfer as ATransfer}
 use Rattle.amqp_model.specs.declared.item.Item.{Item}
 use Rattle.amqp_model.specs.declared.item.Item.TheVariants as item
 use Rattle.amqp_conn.specs.declared.conn.Conn.{Conn}
+use Rattle.amqp_link.specs.declared.part.Delivery.{Delivery as Told}
 use Rattle.book_model.specs.Book.{BookView, same_bytes, terminus_of, has_short_texts, row_named, is_of, is_from, is_for}
 use Rattle.book_model.specs.declared.row.Row.{Row}
 use Rattle.book_model.specs.declared.terminus.LinkKey.{LinkKey}
@@ -17,7 +18,7 @@ use Rattle.router_trace.specs.Trace.{Trace}
 use Rattle.router_trace.specs.Durable.{is_durable}
 use Rattle.router_trace.specs.LinkFrames.{other, plain_answer}
 use Rattle.router_trace.specs.Deliveries.{tag_in}
-use Rattle.router_trace.specs.Links.{address_by, key_at, link, link_place, free_handle, durable_key}
+use Rattle.router_trace.specs.Links.{LinkPlace, on, address_by, key_at, link, link_place, free_handle, durable_key}
 use Rattle.router_trace.specs.Settling.{middle_on, uses_tag}
 use Rattle.router_trace.specs.declared.condition.Condition.{Condition}
 use Rattle.router_trace.specs.declared.condition.Condition.TheVariants.{NotAllowed, ResourceLimitExceeded}
@@ -93,6 +94,19 @@ repeats_tag b t c own handle resume key tag = uses_tag t c own handle tag || (no
 abbrev pub repeats : BookView → Trace → ℕ → ℕ → ℕ → Bool → Option LinkKey → Option (List ℕ) → Bool
 repeats b t c own handle resume (Some key) (Some tag) = repeats_tag b t c own handle resume key tag
 repeats b t c own handle resume _ _ = false
+
+-- the same of a transfer, by the delivery in the middle and the key that it finds on its handle
+abbrev pub starts_again : BookView → Trace → ℕ → ℕ → ℕ → Option Told → Option LinkKey → ATransfer → Bool
+starts_again b t c own handle middle key x = is_none middle && repeats b t c own handle x.resume key (tag_in x)
+
+-- An answer that takes a transfer takes it on this session, and on the link at this place.
+abbrev pub IsAt : LinkPlace → ℕ → Type 0
+IsAt (on k l) handle = k ≡ handle
+IsAt _ handle = ⊥
+
+abbrev pub TakesOn : ℕ → LinkPlace → Answer → Type 0
+TakesOn own at (Taken o handle) = (own ≡ o) × IsAt at handle
+TakesOn own at _ = Unit {0}
 
 abbrev pub booked_transfer : BookView → Trace → ℕ → ATransfer → Answer → Answer
 booked_transfer b t c x (Taken own handle) =

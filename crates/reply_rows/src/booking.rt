@@ -4,12 +4,16 @@ ghost use Rattle.std.specs.Option.{option_copied};
 ghost use Rattle.router_trace.specs.Trace.{Entry};
 ghost use Rattle.router_trace.specs.LinkFrames.{other};
 ghost use Rattle.router_state.specs.Tables.{TablesFind};
-ghost use Rattle.reply_rows.specs.Booking.{wanted_key, wanted_address, wants_durable, new_terminus, has_room, durable_refusal, attach_unless, stands_from, repeats_tag, repeats, booked_transfer};
+ghost use Rattle.reply_rows.specs.Booking.{wanted_key, wanted_address, wants_durable, new_terminus, has_room, durable_refusal, attach_unless, booked_attach, book_refusal, stands_from, repeats_tag, repeats, starts_again, TakesOn, booked_transfer};
 ghost use Rattle.router_trace.specs.Deliveries.{tag_in};
+ghost use Rattle.router_trace.specs.Links.{free_handle, link_place};
+ghost use Rattle.router_trace.specs.Settling.{middle_on};
+ghost use Rattle.state_links.specs.Looking.{key_on};
 ghost use Rattle.book_model.specs.Book.{terminus_of, same_bytes, is_short};
 
 use crate::answer::Answer;
 use crate::link_rows::LINK_TEXT;
+use amqp_link::Delivery;
 use amqp_model::{Attach, DeliveryTag, Role, Text, Transfer};
 use book_core::Book;
 use book_model::{LinkKey, LinkRole, Terminus};
@@ -96,7 +100,7 @@ fn has_address(terminus: &Terminus, address: Option<&Text>) -> bool
 }
 
 /// Why a durable link is refused, by the terminus that its key has in the book, if it is.
-pub fn durable_refusal(book: &Book, full: bool, key: &LinkKey, attach: &Attach) -> Option<Condition>
+fn durable_refusal(book: &Book, full: bool, key: &LinkKey, attach: &Attach) -> Option<Condition>
     ensures { result ≡ durable_refusal book.now (terminus_of key.now book.now.termini) attach.now (has_room full book.now (new_terminus book.now key.now (wanted_address attach.now))) }
 {
     let address = wanted_address(attach);
@@ -109,7 +113,7 @@ pub fn durable_refusal(book: &Book, full: bool, key: &LinkKey, attach: &Attach) 
 }
 
 /// The answer to an attach that its row takes, on the router's lowest free handle, if the book refuses it.
-pub fn attach_unless(own: u16, free: Option<u32>, refusal: Option<Condition>) -> Answer
+fn attach_unless(own: u16, free: Option<u32>, refusal: Option<Condition>) -> Answer
     ensures { result ≡ attach_unless own free refusal }
 {
     let Some(error) = refusal else {
@@ -121,6 +125,60 @@ pub fn attach_unless(own: u16, free: Option<u32>, refusal: Option<Condition>) ->
             own,
             error: Some(Condition::ResourceLimitExceeded),
         },
+    }
+}
+
+/// The answer to an attach of a durable link, which its row takes.
+fn durable_answer(
+    state: &State,
+    book: &Book,
+    full: bool,
+    conn: u64,
+    own: u16,
+    attach: &Attach,
+) -> Result<Answer, AllocError>
+    ensures { IfOk result (λ answer. (t : List Entry) → TablesFind state.now t
+        → answer ≡ attach_unless own (free_handle t conn own) (durable_refusal book.now (terminus_of (wanted_key t conn attach.now) book.now.termini) attach.now
+        (has_room full book.now (new_terminus book.now (wanted_key t conn attach.now) (wanted_address attach.now))))) }
+{
+    let free = state.free_handle(conn, own);
+    let key = wanted_key(state, conn, attach)?;
+    let refusal = durable_refusal(book, full, &key, attach);
+    Ok(attach_unless(own, free, refusal))
+}
+
+/// The answer to an attach, which its row takes, by the book.
+fn taken_attach(
+    state: &State,
+    book: &Book,
+    full: bool,
+    conn: u64,
+    own: u16,
+    attach: &Attach,
+) -> Result<Answer, AllocError>
+    ensures { IfOk result (λ answer. (t : List Entry) → TablesFind state.now t
+        → answer ≡ attach_unless own (free_handle t conn own) (book_refusal full book.now t conn attach.now)) }
+{
+    if wants_durable(attach) {
+        return durable_answer(state, book, full, conn, own, attach);
+    }
+    Ok(Answer::Attach { own })
+}
+
+/// The answer to an attach whose row gave this one, by the book.
+pub(crate) fn booked_attach(
+    state: &State,
+    book: &Book,
+    full: bool,
+    conn: u64,
+    attach: &Attach,
+    answer: Answer,
+) -> Result<Answer, AllocError>
+    ensures { IfOk result (λ r. (t : List Entry) → TablesFind state.now t → r ≡ booked_attach (free_handle t conn) (book_refusal full book.now t conn attach.now) answer) }
+{
+    match answer {
+        Answer::Attach { own } => taken_attach(state, book, full, conn, own, attach),
+        _ => Ok(answer),
     }
 }
 
@@ -173,23 +231,45 @@ fn repeats(
     }
 }
 
-/// The answer to a transfer whose row gave this one: if it starts a delivery on a durable link with the tag of a delivery that is unsettled there, or,
-/// without resuming it, of a row that its producer has yet to settle, the link is detached (AMQP 1.0 part 2, section 2.6.12).
-pub fn booked_transfer(
+/// Whether a transfer that is taken starts a delivery with such a tag, on a link with this delivery in the middle, and with this key if it is
+/// durable.
+fn starts_again(
     state: &State,
     book: &Book,
     conn: u64,
+    own: u16,
+    handle: u32,
+    middle: Option<&Delivery>,
+    key: Option<&LinkKey>,
+    transfer: &Transfer,
+) -> bool
+    ensures { (t : List Entry) → TablesFind state.now t → result ≡ starts_again book.now t conn own handle (option_map (λ d. d.now) middle.entry) (option_map (λ k. k.now) key.entry) transfer.now }
+{
+    middle.is_none() && repeats(state, book, conn, own, handle, key, transfer)
+}
+
+/// The answer to a transfer on a session whose row gave this one, on a link with this delivery in the middle, and with this key if it is durable: if
+/// it starts a delivery there with the tag of a delivery that is unsettled, or, without resuming it, of a row that its producer has yet to settle, the
+/// link is detached (AMQP 1.0 part 2, section 2.6.12).
+pub(crate) fn booked_transfer(
+    state: &State,
+    book: &Book,
+    conn: u64,
+    own: u16,
+    middle: Option<&Delivery>,
+    key: Option<&LinkKey>,
     transfer: &Transfer,
     answer: Answer,
 ) -> Answer
-    ensures { (t : List Entry) → TablesFind state.now t → result ≡ booked_transfer book.now t conn transfer.now answer }
+    ensures { (t : List Entry) → TablesFind state.now t → TakesOn own (link_place t conn own transfer.now.handle) answer
+        → option_map (λ d. d.now) middle.entry ≡ middle_on (link_place t conn own transfer.now.handle)
+        → option_map (λ k. k.now) key.entry ≡ key_on (link_place t conn own transfer.now.handle)
+        → result ≡ booked_transfer book.now t conn transfer.now answer }
 {
     let Answer::Taken { own, handle } = answer else {
         return answer;
     };
-    let starts = state.middle(conn, own, transfer.handle).is_none();
-    let key = state.durable_key(conn, own, handle);
-    if starts && repeats(state, book, conn, own, handle, key, transfer) {
+    if starts_again(state, book, conn, own, handle, middle, key, transfer) {
         return Answer::Detach {
             own,
             handle,

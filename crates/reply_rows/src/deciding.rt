@@ -1,17 +1,21 @@
 //! The choice of the row that answers an item.
-ghost use Rattle.std.specs.Prelude.{◌≡◌, List};
+ghost use Rattle.std.specs.Prelude.{◌≡◌, List, IfOk};
 ghost use Rattle.amqp_conn.specs.Phase.{frame_in_turn};
+ghost use Rattle.amqp_session.specs.Session.{Session};
+ghost use Rattle.amqp_session.specs.Figures.{window_of};
 ghost use Rattle.router_trace.specs.Trace.{Entry};
 ghost use Rattle.router_trace.specs.Sessions.{Place as At};
 ghost use Rattle.router_trace.specs.Links.{link_place, free_handle};
 ghost use Rattle.state_sessions.specs.Fits.{found_of};
 ghost use Rattle.router_state.specs.Tables.{TablesFind};
-ghost use Rattle.reply_rows.specs.Rows.{attach_reply, flow_reply, transfer_reply, detach_reply, in_turn, turn_by, perf_reply, item_reply};
-ghost use Rattle.reply_rows.specs.LinkRows.{is_among};
+ghost use Rattle.reply_rows.specs.Rows.{attach_reply, flow_reply, transfer_reply, detach_reply, in_turn, turn_by, perf_reply};
+ghost use Rattle.reply_rows.specs.LinkRows.{is_among, session_transfer_reply};
+ghost use Rattle.reply_rows.specs.Booking.{book_refusal, booked_attach, booked_transfer, booked_perf, answer_at};
 ghost use Rattle.reply_rows.specs.Finding.{finds, multicast_of};
 ghost use Rattle.router_trace.specs.Settling.{is_claimed};
 
 use crate::answer::Answer;
+use crate::booking::{booked_attach, booked_transfer};
 use crate::link_rows::{
     link_flow_reply, session_attach_reply, session_detach_reply, session_transfer_reply,
 };
@@ -22,8 +26,11 @@ use crate::rows::{
 };
 use amqp_conn::Conn;
 use amqp_model::{Attach, Detach, Flow, Item, Perf, Transfer};
+use amqp_session::Window;
+use book_core::Book;
 use router_state::State;
 use state_sessions::Place;
+use std::alloc::AllocError;
 
 /// The answer to an attach, by what is on its channel.
 fn attach_reply(state: &State, conn: u64, place: Place, attach: &Attach) -> Answer
@@ -40,6 +47,22 @@ fn attach_reply(state: &State, conn: u64, place: Place, attach: &Attach) -> Answ
             session_attach_reply(own, at, free, multicast, attach)
         }
     }
+}
+
+/// The answer to an attach, by what is on its channel and by the book.
+fn attach_answer(
+    state: &State,
+    book: &Book,
+    full: bool,
+    conn: u64,
+    place: Place,
+    attach: &Attach,
+) -> Result<Answer, AllocError>
+    ensures { IfOk result (λ r. (t : List Entry) (at : At) → TablesFind state.now t → place ≡ found_of at
+        → r ≡ booked_attach (free_handle t conn) (book_refusal full book.now t conn attach.now) (attach_reply at (link_place t conn) (free_handle t conn) (multicast_of t) attach.now)) }
+{
+    let answer = attach_reply(state, conn, place, attach);
+    booked_attach(state, book, full, conn, attach, answer)
 }
 
 /// The answer to a flow, by what is on its channel.
@@ -70,20 +93,48 @@ fn is_among(state: &State, conn: u64, own: u16, id: Option<u32>) -> bool
     }
 }
 
-/// The answer to a transfer, by what is on its channel.
-fn transfer_reply(state: &State, conn: u64, place: Place, transfer: &Transfer) -> Answer
+/// The answer to a transfer on a session, by the book: what it finds on its handle is looked up once.
+fn transfer_on(
+    state: &State,
+    book: &Book,
+    conn: u64,
+    own: u16,
+    window: Window,
+    transfer: &Transfer,
+) -> Answer
+    ensures { (t : List Entry) (h : Session) → TablesFind state.now t → window ≡ window_of h
+        → result ≡ booked_transfer book.now t conn transfer.now (session_transfer_reply own h (is_claimed t conn own) (link_place t conn own transfer.now.handle) transfer.now) }
+{
+    let found = state.find_link(conn, own, transfer.handle);
+    let claimed = is_among(state, conn, own, transfer.delivery_id);
+    let answer = session_transfer_reply(own, window, found.place, claimed, found.middle, transfer);
+    booked_transfer(
+        state,
+        book,
+        conn,
+        own,
+        found.middle,
+        found.key,
+        transfer,
+        answer,
+    )
+}
+
+/// The answer to a transfer, by what is on its channel and by the book.
+fn transfer_answer(
+    state: &State,
+    book: &Book,
+    conn: u64,
+    place: Place,
+    transfer: &Transfer,
+) -> Answer
     ensures { (t : List Entry) (at : At) → TablesFind state.now t → place ≡ found_of at
-        → result ≡ transfer_reply at (link_place t conn) (is_claimed t conn) transfer.now }
+        → result ≡ booked_transfer book.now t conn transfer.now (transfer_reply at (link_place t conn) (is_claimed t conn) transfer.now) }
 {
     match place {
         Place::Nowhere => no_session_reply(),
         Place::Ending => Answer::Nothing,
-        Place::On { own, window } => {
-            let at = state.link_place(conn, own, transfer.handle);
-            let claimed = is_among(state, conn, own, transfer.delivery_id);
-            let middle = state.middle(conn, own, transfer.handle);
-            session_transfer_reply(own, window, at, claimed, middle, transfer)
-        }
+        Place::On { own, window } => transfer_on(state, book, conn, own, window, transfer),
     }
 }
 
@@ -102,51 +153,89 @@ fn detach_reply(state: &State, conn: u64, place: Place, detach: &Detach) -> Answ
     }
 }
 
-/// The answer to a performative other than open and close, on an open connection.
-fn in_turn(state: &State, conn: u64, channel: u16, perf: &Perf) -> Answer
-    ensures { (t : List Entry) → TablesFind state.now t → result ≡ in_turn (finds t conn) channel perf.now }
+/// The answer to a performative other than open and close, on an open connection, by the book.
+fn in_turn(
+    state: &State,
+    book: &Book,
+    full: bool,
+    conn: u64,
+    channel: u16,
+    perf: &Perf,
+) -> Result<Answer, AllocError>
+    ensures { IfOk result (λ r. (t : List Entry) → TablesFind state.now t → r ≡ booked_perf full book.now t conn perf.now (in_turn (finds t conn) channel perf.now)) }
 {
     let place = state.place(conn, channel);
     match perf {
-        Perf::Begin(begin) => begin_reply(place, state.free_channel(conn), channel, begin.as_ref()),
-        Perf::Attach(attach) => attach_reply(state, conn, place, attach.as_ref()),
-        Perf::Flow(flow) => flow_reply(state, conn, place, flow),
-        Perf::Transfer(transfer) => transfer_reply(state, conn, place, transfer),
-        Perf::Disposition(disposition) => disposition_reply(place, disposition),
-        Perf::Detach(detach) => detach_reply(state, conn, place, detach),
-        Perf::End(_) => end_reply(place),
-        _ => early_frame_reply(),
+        Perf::Begin(begin) => {
+            let free = state.free_channel(conn);
+            Ok(begin_reply(place, free, channel, begin.as_ref()))
+        }
+        Perf::Attach(attach) => attach_answer(state, book, full, conn, place, attach.as_ref()),
+        Perf::Flow(flow) => Ok(flow_reply(state, conn, place, flow)),
+        Perf::Transfer(transfer) => Ok(transfer_answer(state, book, conn, place, transfer)),
+        Perf::Disposition(disposition) => Ok(disposition_reply(place, disposition)),
+        Perf::Detach(detach) => Ok(detach_reply(state, conn, place, detach)),
+        Perf::End(_) => Ok(end_reply(place)),
+        _ => Ok(early_frame_reply()),
     }
 }
 
-/// The answer to a performative other than open and close, on this channel.
-fn turn_by(state: &State, conn: u64, phase: Conn, channel: u16, perf: &Perf) -> Answer
-    ensures { (t : List Entry) → TablesFind state.now t
-        → result ≡ turn_by (finds t conn) channel perf.now (frame_in_turn channel phase) }
+/// The answer to a performative other than open and close, on this channel, by the book.
+fn turn_by(
+    state: &State,
+    book: &Book,
+    full: bool,
+    conn: u64,
+    phase: Conn,
+    channel: u16,
+    perf: &Perf,
+) -> Result<Answer, AllocError>
+    ensures { IfOk result (λ r. (t : List Entry) → TablesFind state.now t
+        → r ≡ booked_perf full book.now t conn perf.now (turn_by (finds t conn) channel perf.now (frame_in_turn channel phase))) }
 {
     match phase.take_frame(channel) {
-        Ok(()) => in_turn(state, conn, channel, perf),
-        Err(fault) => out_of_turn(fault),
+        Ok(()) => in_turn(state, book, full, conn, channel, perf),
+        Err(fault) => Ok(out_of_turn(fault)),
     }
 }
 
-/// The answer to a performative in a frame that isn't a SASL frame.
-fn perf_reply(state: &State, conn: u64, phase: Conn, channel: u16, perf: &Perf) -> Answer
-    ensures { (t : List Entry) → TablesFind state.now t → result ≡ perf_reply phase (finds t conn) channel perf.now }
+/// The answer to a performative in a frame that isn't a SASL frame, by the book.
+fn perf_answer(
+    state: &State,
+    book: &Book,
+    full: bool,
+    conn: u64,
+    phase: Conn,
+    channel: u16,
+    perf: &Perf,
+) -> Result<Answer, AllocError>
+    ensures { IfOk result (λ r. (t : List Entry) → TablesFind state.now t → r ≡ booked_perf full book.now t conn perf.now (perf_reply phase (finds t conn) channel perf.now)) }
 {
     match perf {
-        Perf::Open(open) => open_reply(phase, open.as_ref()),
-        Perf::Close(_) => close_reply(phase, channel),
-        _ => turn_by(state, conn, phase, channel, perf),
+        Perf::Open(open) => Ok(open_reply(phase, open.as_ref())),
+        Perf::Close(_) => Ok(close_reply(phase, channel)),
+        _ => turn_by(state, book, full, conn, phase, channel, perf),
     }
 }
 
-/// The router's answer to an item on a live connection in this phase.
-pub fn item_reply(state: &State, conn: u64, phase: Conn, item: &Item) -> Answer
-    ensures { (t : List Entry) → TablesFind state.now t → result ≡ item_reply phase (finds t conn) item.now }
+/// The router's answer to an item on a live connection in this phase: that of its row, unless the book stands in the way. `full` says that the
+/// journal has no room for a terminus.
+///
+/// # Errors
+///
+/// `AllocError` if memory was refused.
+pub fn item_answer(
+    state: &State,
+    book: &Book,
+    full: bool,
+    conn: u64,
+    phase: Conn,
+    item: &Item,
+) -> Result<Answer, AllocError>
+    ensures { IfOk result (λ answer. (t : List Entry) → TablesFind state.now t → answer ≡ answer_at full book.now t conn phase item.now) }
 {
     match item {
-        Item::Header { .. } => header_reply(phase),
+        Item::Header { .. } => Ok(header_reply(phase)),
         Item::Frame {
             sasl,
             channel,
@@ -154,12 +243,12 @@ pub fn item_reply(state: &State, conn: u64, phase: Conn, item: &Item) -> Answer
             ..
         } => {
             if *sasl {
-                early_frame_reply()
+                Ok(early_frame_reply())
             } else {
-                perf_reply(state, conn, phase, *channel, perf)
+                perf_answer(state, book, full, conn, phase, *channel, perf)
             }
         }
-        Item::Beat { channel } => beat_reply(*channel),
-        Item::Bad(fault) => bad_frame_reply(*fault),
+        Item::Beat { channel } => Ok(beat_reply(*channel)),
+        Item::Bad(fault) => Ok(bad_frame_reply(*fault)),
     }
 }

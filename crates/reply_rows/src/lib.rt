@@ -9,9 +9,7 @@ mod multicast;
 mod rows;
 
 pub use answer::Answer;
-pub use booking::{
-    attach_unless, booked_transfer, durable_refusal, wanted_address, wanted_key, wants_durable,
-};
-pub use deciding::item_reply;
+pub use booking::{wanted_address, wanted_key, wants_durable};
+pub use deciding::item_answer;
 pub use link_rows::LINK_TEXT;
 pub use rows::CONTAINER_ID;

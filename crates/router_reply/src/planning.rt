@@ -1,11 +1,9 @@
 //! What an event is answered with and what it does to the book of durable deliveries, before any of it is done.
 ghost use Rattle.std.specs.Prelude.{◌≡◌, ℕ, [], List, option_map, unwrap_or, IfOk};
-ghost use Rattle.book_model.specs.Book.{terminus_of};
 ghost use Rattle.router_trace.specs.Trace.{Entry};
 ghost use Rattle.router_trace.specs.Connection.{phase_found};
-ghost use Rattle.router_trace.specs.Links.{free_handle};
 ghost use Rattle.router_state.specs.Tables.{TablesFind, TablesAt};
-ghost use Rattle.reply_rows.specs.Booking.{wanted_key, wanted_address, new_terminus, has_room, durable_refusal, attach_unless, booked_perf, book_refusal, answer_at};
+ghost use Rattle.reply_rows.specs.Booking.{wanted_key, wanted_address, new_terminus};
 ghost use Rattle.router_reply.specs.Acts.{event_answer};
 ghost use Rattle.router_reply.specs.Resuming.{Resumes};
 ghost use Rattle.router_reply.specs.Deciding.{decided, forgotten, made_for, made_by, terminus_by, terminus_of_event};
@@ -17,10 +15,7 @@ use amqp_model::{Attach, Item, Perf, Text};
 use book_core::Book;
 use book_model::{Decision, LinkKey, RowNumber, Terminus};
 use journal_store::TerminusAct;
-use reply_rows::{
-    Answer, attach_unless, booked_transfer, durable_refusal, item_reply, wanted_address,
-    wanted_key, wants_durable,
-};
+use reply_rows::{Answer, item_answer, wanted_address, wanted_key, wants_durable};
 use router_state::State;
 use router_trace::Event;
 use std::alloc::{AllocError, Global};
@@ -138,82 +133,6 @@ fn terminus_of_event(
             _ => Ok(None),
         },
         _ => Ok(None),
-    }
-}
-
-/// The answer to an attach of a durable link, which its row takes.
-fn durable_answer(
-    state: &State,
-    book: &Book,
-    full: bool,
-    conn: u64,
-    own: u16,
-    attach: &Attach,
-) -> Result<Answer, AllocError>
-    ensures { IfOk result (λ answer. (t : List Entry) → TablesFind state.now t
-        → answer ≡ attach_unless own (free_handle t conn own) (durable_refusal book.now (terminus_of (wanted_key t conn attach.now) book.now.termini) attach.now
-        (has_room full book.now (new_terminus book.now (wanted_key t conn attach.now) (wanted_address attach.now))))) }
-{
-    let free = state.free_handle(conn, own);
-    let key = wanted_key(state, conn, attach)?;
-    let refusal = durable_refusal(book, full, &key, attach);
-    Ok(attach_unless(own, free, refusal))
-}
-
-/// The answer to an attach, which its row takes.
-fn attach_answer(
-    state: &State,
-    book: &Book,
-    full: bool,
-    conn: u64,
-    own: u16,
-    attach: &Attach,
-) -> Result<Answer, AllocError>
-    ensures { IfOk result (λ answer. (t : List Entry) → TablesFind state.now t
-        → answer ≡ attach_unless own (free_handle t conn own) (book_refusal full book.now t conn attach.now)) }
-{
-    if wants_durable(attach) {
-        return durable_answer(state, book, full, conn, own, attach);
-    }
-    Ok(Answer::Attach { own })
-}
-
-/// The answer to a performative whose row gave this one, by the book.
-fn perf_answer(
-    state: &State,
-    book: &Book,
-    full: bool,
-    conn: u64,
-    perf: &Perf,
-    answer: Answer,
-) -> Result<Answer, AllocError>
-    ensures { IfOk result (λ r. (t : List Entry) → TablesFind state.now t → r ≡ booked_perf full book.now t conn perf.now answer) }
-{
-    match perf {
-        Perf::Attach(attach) => match answer {
-            Answer::Attach { own } => attach_answer(state, book, full, conn, own, attach.as_ref()),
-            _ => Ok(answer),
-        },
-        Perf::Transfer(transfer) => Ok(booked_transfer(state, book, conn, transfer, answer)),
-        _ => Ok(answer),
-    }
-}
-
-/// The answer to an item on a live connection in this phase, by the book.
-fn item_answer(
-    state: &State,
-    book: &Book,
-    full: bool,
-    conn: u64,
-    phase: Conn,
-    item: &Item,
-) -> Result<Answer, AllocError>
-    ensures { IfOk result (λ answer. (t : List Entry) → TablesFind state.now t → answer ≡ answer_at full book.now t conn phase item.now) }
-{
-    let answer = item_reply(state, conn, phase, item);
-    match item {
-        Item::Frame { perf, .. } => perf_answer(state, book, full, conn, perf, answer),
-        _ => Ok(answer),
     }
 }
 

@@ -2,6 +2,7 @@
 #![tactic(auto)]
 
 mod durable;
+mod finding;
 mod tables;
 
 pub use durable::none_if_ended;

@@ -9,13 +9,14 @@ use Rattle.router_trace.specs.declared.handle.PeerHandle.TheVariants.{Mapped, De
 use Rattle.router_trace.specs.Links as view
 use Rattle.router_trace.specs.declared.handle.Attachment.{Attachment}
 use Rattle.router_trace.specs.Trace.{Trace}
-use Rattle.router_trace.specs.Links.{Happened, sends, receives, link, link_place_by, on_link, durable_key, numbered, place_of, has_number, if_attached}
+use Rattle.router_trace.specs.Links.{Happened, sends, receives, link, link_place_by, on_link, found_on, found_link, durable_key, numbered, place_of, has_number, if_attached}
 use Rattle.router_trace.specs.Settling.{told_first, middle_by, middle_on}
 use Rattle.router_trace.specs.Following.{is_sending}
 use Rattle.state_links.specs.declared.link.Link.{Link}
 use Rattle.state_links.specs.Ends.{end_of, link_of}
+use Rattle.state_links.specs.Fits.{found_end, found_at}
 use Rattle.state_links.specs.Giving.{handle_of}
-use Rattle.state_links.specs.Looking.{credit_on, credit_at, unused_on, unused_end, count_on, count_at, sends_at, middle_at, middle_here, middle_named, is_new, is_in_middle, durable_at, attachment_of, attachment_on, link_on, numbered_link, numbered_here}
+use Rattle.state_links.specs.Looking.{credit_on, credit_at, unused_on, unused_end, count_on, count_at, sends_at, middle_at, middle_here, middle_named, is_new, is_in_middle, durable_at, key_on, attachment_of, attachment_on, link_on, numbered_link, numbered_here}
 use Rattle.state_links.specs.Naming.{Remembers}
 use Rattle.state_links.specs.Touching.{if_number}
 
@@ -58,6 +59,18 @@ sends_follows k l is = ap (λ (x : Link). sends_at x.end) is ∙ sends_same l.ha
 pub in_middle_follows : (k : Link) (l : view.Link) → k ≡ link_of l → is_new (middle_at k.end) ≡ is_in_middle l
 in_middle_follows k l is = ap (λ (x : Link). is_new (middle_at x.end)) is ∙ ap is_new (middle_same l.happened)
 
+found_same : (h : ℕ) (v : Option view.Link) → found_at h (option_map link_of v) ≡ found_link (on_link h v)
+found_same h None = refl
+found_same h (Some l) = by l.happened
+  where
+    by : (e : Happened) → found_end h l.durable (end_of e) ≡ found_on h l.durable e
+    by (sends list) = refl
+    by (receives list) = refl
+
+key_same : (h : ℕ) (v : Option view.Link) → durable_at (option_map link_of v) ≡ key_on (on_link h v)
+key_same h None = refl
+key_same h (Some l) = refl
+
 middle_there : (h : ℕ) (v : Option view.Link) → middle_here (option_map link_of v) ≡ middle_on (on_link h v)
 middle_there h None = refl
 middle_there h (Some l) = middle_same l.happened
@@ -67,6 +80,19 @@ middle_on_handle : (p : Option PeerHandle) (known : ℕ → Option Link) (views 
 middle_on_handle None known views fit = refl
 middle_on_handle (Some Detaching) known views fit = refl
 middle_on_handle (Some (Mapped h)) known views fit = ap middle_here (fit h) ∙ middle_there h (views h)
+
+-- what is found on a peer's handle that stands for a link
+pub found_follows : (h : ℕ) (p : Option PeerHandle) (k : Option Link) (views : ℕ → Option view.Link)
+    → p ≡ Some (Mapped h) → k ≡ option_map link_of (views h) → found_at h k ≡ found_link (link_place_by p views)
+found_follows h p k views is fit = ap (found_at h) fit ∙ found_same h (views h) ∙ ap (λ q. found_link (link_place_by q views)) (sym is)
+
+pub middle_found : (h : ℕ) (p : Option PeerHandle) (k : Option Link) (views : ℕ → Option view.Link)
+    → p ≡ Some (Mapped h) → k ≡ option_map link_of (views h) → middle_here k ≡ middle_on (link_place_by p views)
+middle_found h p k views is fit = ap middle_here fit ∙ middle_there h (views h) ∙ ap (λ q. middle_on (link_place_by q views)) (sym is)
+
+pub key_found : (h : ℕ) (p : Option PeerHandle) (k : Option Link) (views : ℕ → Option view.Link)
+    → p ≡ Some (Mapped h) → k ≡ option_map link_of (views h) → durable_at k ≡ key_on (link_place_by p views)
+key_found h p k views is fit = ap durable_at fit ∙ key_same h (views h) ∙ ap (λ q. key_on (link_place_by q views)) (sym is)
 
 pub middle_follows : (p q : Option PeerHandle) (known : ℕ → Option Link) (views : ℕ → Option view.Link)
     → p ≡ q → ((h : ℕ) → known h ≡ option_map link_of (views h)) → middle_named (handle_of p) known ≡ middle_on (link_place_by q views)

@@ -7,7 +7,7 @@ use Rattle.amqp_link.specs.Receiving as receiving
 use Rattle.book_model.specs.declared.terminus.LinkKey.{LinkKey}
 use Rattle.router_trace.specs.declared.handle.Attachment.{Attachment}
 use Rattle.router_trace.specs.Trace.{Trace}
-use Rattle.router_trace.specs.Links.{Link as View, Happened, sends, receives, link, place_of}
+use Rattle.router_trace.specs.Links.{Link as View, LinkPlace, nowhere, detaching, on, Happened, sends, receives, link, place_of, durable_key}
 use Rattle.router_trace.specs.Settling.{middle_by}
 use Rattle.state_links.specs.declared.link.Link.{Link}
 use Rattle.state_links.specs.declared.link.LinkEnd.{LinkEnd}
@@ -72,6 +72,12 @@ is_in_middle l = is_new (middle_by l.happened)
 abbrev pub durable_at : Option Link → Option LinkKey
 durable_at None = None
 durable_at (Some l) = if l.durable then Some l.key else None
+
+-- the key of the durable link that a peer's handle stands for
+abbrev pub key_on : LinkPlace → Option LinkKey
+key_on nowhere = None
+key_on detaching = None
+key_on (on h l) = durable_key (Some l)
 
 -- the attachment of the link at a place
 abbrev pub attachment_of : ℕ → ℕ → ℕ → Link → Attachment

@@ -5,6 +5,7 @@ ghost use Rattle.router_trace.specs.Links.{address_by, source_address, target_ad
 ghost use Rattle.amqp_link.specs.Figures.{after_start};
 ghost use Rattle.state_links.specs.declared.link.Side.TheVariants.{Peer, Router};
 ghost use Rattle.state_links.specs.Ends.{link_of, begun, begun_end, due_at, after_their_flow, after_their_transfer, after_our_flow, after_our_transfer, noted, with_grant, with_count, with_our_count, with_our_grant};
+ghost use Rattle.state_links.specs.Fits.{found_end};
 ghost use Rattle.state_links.specs.Giving.{given_at, part_noted};
 ghost use Rattle.state_links.specs.Looking.{credit_on, credit_at, unused_on, unused_end, count_on, count_at, sends_at, middle_at, is_new, is_in_middle, durable_at};
 ghost use Rattle.router_trace.specs.Links.{Link as View};
@@ -17,7 +18,7 @@ use amqp_model::{
 use amqp_session::Serial;
 use book_model::LinkKey;
 use bytes::Bytes;
-use router_trace::{Asked, Tags, is_durable};
+use router_trace::{Asked, LinkAt, Tags, is_durable};
 use std::alloc::{AllocError, Global};
 
 /// The router's end of a link.
@@ -239,6 +240,21 @@ impl Link {
         ensures { option_map (λ d. d.now) result ≡ middle_at self.now.end }
     {
         self.end.middle()
+    }
+
+    /// What the link's handle stands for.
+    pub(crate) fn place(&self, handle: u32) -> LinkAt
+        ensures { result ≡ found_end handle self.now.durable self.now.end }
+    {
+        match &self.end {
+            LinkEnd::Sends(end) => LinkAt::Sends { handle, end: *end },
+            LinkEnd::Receives(end) => LinkAt::Receives {
+                handle,
+                count: end.count(),
+                unused: end.unused(),
+                durable: self.durable,
+            },
+        }
     }
 
     /// The link's key, if it is durable.

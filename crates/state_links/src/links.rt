@@ -8,7 +8,7 @@ ghost use Rattle.router_trace.specs.Sessions.{is_channel, maps, theirs};
 ghost use Rattle.router_trace.specs.Links.{attachments, link, link_place, found_link, free_handle, holder, place_of, durable_key, holds_durable};
 ghost use Rattle.router_trace.specs.Settling.{part_at, middle_on};
 ghost use Rattle.state_links.specs.Ends.{link_of};
-ghost use Rattle.state_links.specs.Looking.{attachment_on, numbered_link};
+ghost use Rattle.state_links.specs.Looking.{attachment_on, key_on, numbered_link};
 ghost use Rattle.state_links.specs.Owed.{is_listed, is_marked, owes_on};
 ghost use Rattle.router_trace.specs.Following.{owes_one};
 ghost use Rattle.router_trace.specs.declared.handle.Attachment.{Attachment as Attached};
@@ -21,6 +21,7 @@ ghost use Rattle.state_links.specs.Fits.{LinksFit, key_in, key_by, asked_in, cha
 ghost use Rattle.state_links.specs.Handled.{HandlesFit};
 ghost use Rattle.state_collections.specs.NumberMap.{at_number};
 
+use crate::found::FoundLink;
 use crate::handles::HandleTable;
 use crate::link::Link;
 use crate::table::LinkTable;
@@ -54,11 +55,22 @@ impl Links {
     pub fn place(&self, conn: u64, own: u16, handle: u32) -> LinkAt
         ensures { (t : List Entry) → LinksFit self.now t → result ≡ found_link (link_place t conn own handle) }
     {
-        match self.handles.theirs(conn, own, handle) {
-            None => LinkAt::Nowhere,
-            Some(PeerHandle::Detaching) => LinkAt::Detaching,
-            Some(PeerHandle::Mapped(handle)) => self.table.found(conn, own, handle),
-        }
+        self.find(conn, own, handle).place
+    }
+
+    /// The same, with the delivery in the middle of the link there, and the link's key if it is durable.
+    #[tactic(auto, using(crate::proofs::Looks::found_follows, crate::proofs::Looks::middle_found, crate::proofs::Looks::key_found))]
+    pub fn find(&self, conn: u64, own: u16, handle: u32) -> FoundLink<'_>
+        ensures place { (t : List Entry) → LinksFit self.now t → result.place ≡ found_link (link_place t conn own handle) }
+        ensures middle { (t : List Entry) → LinksFit self.now t → option_map (λ d. d.now) result.middle ≡ middle_on (link_place t conn own handle) }
+        ensures key { (t : List Entry) → LinksFit self.now t → option_map (λ k. k.now) result.key ≡ key_on (link_place t conn own handle) }
+    {
+        let handle = match self.handles.theirs(conn, own, handle) {
+            None => return FoundLink::unlinked(LinkAt::Nowhere),
+            Some(PeerHandle::Detaching) => return FoundLink::unlinked(LinkAt::Detaching),
+            Some(PeerHandle::Mapped(handle)) => handle,
+        };
+        self.table.find(conn, own, handle)
     }
 
     /// The delivery in the middle of the link on a peer's handle, on the session with the router's channel

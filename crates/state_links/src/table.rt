@@ -20,7 +20,7 @@ ghost use Rattle.router_trace.specs.declared.event.Event.TheVariants as event;
 ghost use Rattle.state_links.specs.declared.link.Side.TheVariants.{Peer, Router};
 ghost use Rattle.state_links.specs.Ends.{begun, noted};
 ghost use Rattle.state_links.specs.Giving.{part_here, part_named};
-ghost use Rattle.state_links.specs.Looking.{middle_named, durable_at, attachment_of, numbered_here};
+ghost use Rattle.state_links.specs.Looking.{middle_here, middle_named, durable_at, attachment_of, numbered_here};
 ghost use Rattle.state_links.specs.Fits.{TableFit, with_mark, asks_drain, names_in, key_in, asked_in, found_at, attachment, IsNoted};
 ghost use Rattle.state_links.specs.Naming.{on_conn, on_session, on_handle, Thinned};
 ghost use Rattle.state_collections.specs.Places.{at};
@@ -28,7 +28,8 @@ ghost use Rattle.state_links.specs.Owed.{owed_of, owes_on};
 ghost use Rattle.state_links.specs.Touching.{is_numbered, named_link, in_session, in_connection, Touched, IsLowest};
 ghost use Rattle.state_collections.specs.NumberMap.{at_number};
 
-use crate::link::{Link, LinkEnd, Side, address_by};
+use crate::found::FoundLink;
+use crate::link::{Link, Side, address_by};
 use crate::names::Names;
 use crate::owed::{append_all, settle};
 use crate::touched::{touch, touch_at, touch_connection, touch_session};
@@ -73,19 +74,17 @@ impl LinkTable {
     }
 
     /// What is on a handle of the router.
-    pub fn found(&self, conn: u64, own: u16, handle: u32) -> LinkAt
-        ensures { result ≡ found_at handle (at self.now.links conn own handle) }
+    pub fn find(&self, conn: u64, own: u16, handle: u32) -> FoundLink<'_>
+        ensures place { result.place ≡ found_at handle (at self.now.links conn own handle) }
+        ensures middle { option_map (λ d. d.now) result.middle ≡ middle_here (at self.now.links conn own handle) }
+        ensures key { option_map (λ k. k.now) result.key ≡ durable_at (at self.now.links conn own handle) }
     {
         match self.links.get(conn, own, handle) {
-            None => LinkAt::Nowhere,
-            Some(link) => match &link.end {
-                LinkEnd::Sends(end) => LinkAt::Sends { handle, end: *end },
-                LinkEnd::Receives(end) => LinkAt::Receives {
-                    handle,
-                    count: end.count(),
-                    unused: end.unused(),
-                    durable: link.durable,
-                },
+            None => FoundLink::unlinked(LinkAt::Nowhere),
+            Some(link) => FoundLink {
+                place: link.place(handle),
+                middle: link.middle(),
+                key: link.durable_key(),
             },
         }
     }

@@ -41,15 +41,16 @@ fn receiving_in(links: &Links, conn: u64, own: u16, perf: &Perf) -> Option<Recei
 fn receiving_at(links: &Links, conn: u64, own: u16, handle: u32) -> Option<Receiving>
     ensures { (t : List Entry) → LinksFit links.now t → result ≡ receiving_at (their_handle t conn own handle) (link t conn own) }
 {
+    let found = links.find(conn, own, handle);
     let LinkAt::Receives {
         handle: at,
         unused,
         ..
-    } = links.place(conn, own, handle)
+    } = found.place
     else {
         return None;
     };
-    let middle = match links.middle(conn, own, handle) {
+    let middle = match found.middle {
         None => None,
         Some(told) => Some(Middle { id: told.id }),
     };
