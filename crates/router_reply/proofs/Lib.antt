@@ -3,4 +3,4 @@ pub mod After
 mod Answering
 mod Planned
 mod Refused
-pub mod Holding
+pub mod Held

@@ -3,7 +3,7 @@ use Rattle.std.specs.Prelude.{filter}
 use Rattle.book_core.specs.Rows.{rows_left}
 use Rattle.book_model.specs.Book.{is_from}
 use Rattle.router_reply.specs.Holding.{held_to}
-use Rattle.router_reply.proofs.Holding.{held_both}
+use Rattle.router_reply.proofs.Held.{held_both}
 use Rattle.router_reply.proofs.holding.hold_all.Goals as goal
 
 pub loop-row-preserved : goal.loop-row-preserved

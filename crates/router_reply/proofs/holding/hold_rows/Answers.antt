@@ -3,7 +3,7 @@ use Rattle.std.proofs.lemmas.Result.{on_ok_weaker}
 use Rattle.std.specs.Prelude.{Some, None}
 use Rattle.std.specs.Option.{option_copied}
 use Rattle.book_model.specs.Book.{terminus_of}
-use Rattle.router_reply.proofs.Holding.{held_with}
+use Rattle.router_reply.proofs.Held.{held_with}
 use Rattle.router_reply.proofs.holding.hold_rows.Goals as goal
 
 pub returns-in-None : goal.returns-in-None
