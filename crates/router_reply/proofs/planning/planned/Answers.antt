@@ -22,6 +22,7 @@ returns-clause-forgotten c = λ t at.
 pub returns-clause-resumed : goal.returns-clause-resumed
 returns-clause-resumed c = λ t at. record {
   key = c.planned_forgotten-lacking.ensures.key ∙ c.planned_decisions-by_map.ensures.key ∙ c.in_ok-resumption.ensures.key t (at_finds at);
+  held = c.planned_forgotten-lacking.ensures.held ∙ c.planned_decisions-by_map.ensures.held ∙ c.in_ok-resumption.ensures.held t (at_finds at);
   map = c.planned_forgotten-lacking.ensures.map ∙ c.planned_decisions-by_map.ensures.map ∙ c.in_ok-resumption.ensures.map t (at_finds at);
   rows = c.planned_forgotten-lacking.ensures.rows ∙ c.planned_decisions-by_map.ensures.rows ∙ c.in_ok-resumption.ensures.rows t (at_finds at);
 }
