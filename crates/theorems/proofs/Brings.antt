@@ -157,8 +157,8 @@ held_lasts u b q (inr settles) ordered new r named = absurd (none_not_some (sym 
 held_brings : (u : Trace) (b : Binding) (q : Holding) (to : JoinedTo) → b.kind ≡ kind.Joined q to → HoldsRow u b q ⊎ SettlesRow u b q → Brings u → Brings (Bound b ∷ u)
 held_brings u b q to is binds was = record {
   book = was.book;
-  brings = (λ takes. absurd (not_taken takes), was.brings);
-  right = (record { durable = λ takes. absurd (not_taken takes); producer = λ p joins. joined_role u b p joins ordered was.book }, was.right);
+  brings = (λ up. absurd (not_taken up), was.brings);
+  right = (record { durable = λ up. absurd (not_taken up); producer = λ p joins. joined_role u b p joins ordered was.book }, was.right);
   lasting = bound_lasting b u (held_lasts u b q binds ordered) was.lasting;
 }
   where
@@ -169,7 +169,7 @@ held_brings u b q to is binds was = record {
     clash e = cc
 
     not_taken : TakesUp u b → ⊥
-    not_taken takes = clash (sym (ap is_taken_up takes.taken) ∙ ap is_taken_up is)
+    not_taken up = clash (sym (ap is_taken_up up.taken) ∙ ap is_taken_up is)
 
 -- what an event binds before that: a message, or a row that its producer's delivery joins
 abbrev Fresh : Trace → Binding → Type 0

@@ -11,7 +11,7 @@ use Rattle.router_trace.specs.declared.binding.DeliveryName.{DeliveryName}
 use Rattle.router_trace.specs.Trace.{Trace, Did, Out, Took, Bound, Booked, Began, IsOneRun}
 use Rattle.router_trace.specs.Links.{Link, link}
 use Rattle.router_trace.specs.Following.{is_sending}
-use Rattle.router_trace.specs.Deliveries.{Delivery, bindings, counters, holds_standing, number_named, delivery, sending, carried, tag_in, tag_of, tagged, is_number, joined}
+use Rattle.router_trace.specs.Deliveries.{Delivery, bindings, counters, holds_standing, number_named, delivery, sending, carried, tag_in, tag_of, tagged, is_number}
 use Rattle.theorems.specs.Each.{EachOut, EachBound}
 
 -- Numbers are small: fewer than 2^64 messages without a row were bound, and the row of each that has one is below 2^64.
