@@ -37,8 +37,7 @@ use Rattle.theorems.proofs.Changing.{leaves_by, Alike}
 use Rattle.theorems.proofs.Claimed.{HasClaim}
 use Rattle.theorems.proofs.Middles.{Said, said_of, out_said}
 pub use Rattle.theorems.proofs.KeptForm.{kept_form}
-use Rattle.state_deliveries.proofs.Joined.{held_name}
-use Rattle.theorems.proofs.Rebound.{AfterBound, after_bound}
+use Rattle.theorems.proofs.Rebound.{AfterBound, after_bound, held_name}
 use Rattle.theorems.proofs.Rebound.AfterBound.{is_new, is_joined, is_old}
 use Rattle.theorems.proofs.Standing.{Standing, IsFresh, out_durable, did_durable}
 use Rattle.theorems.proofs.Tests.{some_same, none_not_some}

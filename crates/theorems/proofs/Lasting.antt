@@ -29,8 +29,7 @@ use Rattle.theorems.specs.Came.{TakesUp}
 use Rattle.theorems.proofs.Answering.{admitted_row}
 use Rattle.theorems.proofs.Booked.{acts_apply}
 use Rattle.theorems.proofs.Looking.{decided_keeps, forgotten_keeps, found_with, found_before}
-use Rattle.state_deliveries.proofs.Joined.{held_name}
-use Rattle.theorems.proofs.Rebound.{AfterBound, after_bound, held_lasting}
+use Rattle.theorems.proofs.Rebound.{AfterBound, after_bound, held_lasting, held_name}
 use Rattle.theorems.proofs.Rebound.AfterBound.{is_new, is_joined, is_old}
 use Rattle.theorems.proofs.Tests.{some_same, none_not_some}
 use Rattle.theorems.proofs.Undecided.{was_did, was_out}

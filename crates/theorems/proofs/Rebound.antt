@@ -8,10 +8,9 @@ use Rattle.router_trace.specs.declared.binding.Holding.{Holding}
 use Rattle.router_trace.specs.declared.binding.Binding.{Binding}
 use Rattle.router_trace.specs.declared.binding.DeliveryName.{DeliveryName}
 use Rattle.router_trace.specs.Trace.{Entry, Bound}
-use Rattle.router_trace.specs.Deliveries.{Delivery, bindings, bound, delivery, joined, is_undecided, name_in, same_name, unless_called, with_binding, rank_in, holds_standing, held_by}
+use Rattle.router_trace.specs.Deliveries.{Delivery, bindings, bound, delivery, joined, is_over, is_undecided, name_in, same_name, unless_called, unless_over, with_binding, rank_in, holds_standing, held_by}
 use Rattle.state_connections.proofs.Lists.{by_test}
 use Rattle.state_deliveries.proofs.Called.{same_is, uncalled}
-use Rattle.state_deliveries.proofs.Joined.{still_there}
 use Rattle.theorems.proofs.Tests.{none_not_some, some_same}
 
 pub record IsNew (b : Binding) (t : List Entry) (n : ℕ) (d : Delivery) : Type 0 where
@@ -28,6 +27,11 @@ pub record IsJoined (b : Binding) (t : List Entry) (n : ℕ) (d : Delivery) : Ty
   pub is : held_by holding before ≡ d
 
 -- what such a delivery keeps
+pub held_name : (q : Holding) (d : Delivery) → (held_by q d).name ≡ d.name
+held_name (holding.Resumed p) d = refl
+held_name (holding.Unresumed a) d = refl
+held_name (holding.Settled a) d = refl
+
 pub held_link : (q : Holding) (d : Delivery) → (held_by q d).link ≡ d.link
 held_link (holding.Resumed p) d = refl
 held_link (holding.Unresumed a) d = refl
@@ -62,6 +66,13 @@ pub held_payload : (q : Holding) (d : Delivery) → (held_by q d).payload ≡ d.
 held_payload (holding.Resumed p) d = refl
 held_payload (holding.Unresumed a) d = refl
 held_payload (holding.Settled a) d = refl
+
+still_there : (x d : Delivery) → unless_over x ≡ Some d → x ≡ d
+still_there x d = by (is_over x)
+  where
+    by : (over : Bool) → (if over then None else Some x) ≡ Some d → x ≡ d
+    by true is = absurd (none_not_some is)
+    by false is = some_same is
 
 pub data AfterBound (b : Binding) (t : List Entry) (n : ℕ) (d : Delivery) : Type 0 where
   is_new : IsNew b t n d → AfterBound b t n d
