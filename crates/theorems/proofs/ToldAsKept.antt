@@ -19,12 +19,14 @@ use Rattle.router_trace.specs.declared.binding.BindingKind.{BindingKind}
 use Rattle.router_trace.specs.declared.binding.BindingKind.TheVariants as kind
 use Rattle.router_trace.specs.declared.binding.DeliveryName.{DeliveryName}
 use Rattle.router_trace.specs.declared.binding.DeliveryName.TheVariants.{Row, Counter}
+use Rattle.router_trace.specs.declared.binding.Holding.{Holding}
+use Rattle.router_trace.specs.declared.binding.Holding.TheVariants as holding
 use Rattle.router_trace.specs.declared.condition.Condition.TheVariants.{ResourceLimitExceeded}
 use Rattle.router_trace.specs.declared.event.Event.{Event}
 use Rattle.router_trace.specs.declared.event.Event.TheVariants as event
 use Rattle.router_trace.specs.Configuration.{opened}
 use Rattle.router_trace.specs.Connection.{conn, due}
-use Rattle.router_trace.specs.Deliveries.{Delivery, acts_found, outcome_in, outcome_known, joined_to, called, terminal, decision, failed}
+use Rattle.router_trace.specs.Deliveries.{Delivery, acts_found, outcome_held, outcome_in, joined_by, joined_to, called, terminal, decision, failed}
 use Rattle.router_trace.specs.DeliveryFrames.{kept_outcome}
 use Rattle.router_trace.specs.Trace.{Beginning, Entry, Trace, Did, Out, Took, Bound, Booked, Began, Put, Step, step_of, goes, puts, each_to}
 use Rattle.state_messages.specs.Messages.{with_bound}
@@ -39,7 +41,7 @@ use Rattle.router_core.specs.Replies.{handled}
 use Rattle.router_core.proofs.Booking.{booked_keeps}
 use Rattle.router_core.proofs.Following.{all_keep}
 use Rattle.theorems.specs.AsTold.{HasEntry, IsEncoded, IsKeptAsTold, EventIsEncoded, FramesAreEncoded, RowHas, role_is_in_row, OutcomeIsInRow, RowsHaveWhatIsTold}
-use Rattle.theorems.specs.Came.{last_found, TakesUp, BindsAs, BindsByKind}
+use Rattle.theorems.specs.Came.{last_found, HoldsRow, SettlesRow, TakesUp, BindsAs, BindsByKind}
 use Rattle.theorems.specs.Decided.{given_by_consumer, given_by_attach, link_lost, link_ended, sent_settled, DecidesFound, IsFoundByConsumer, DecidedByConsumer}
 use Rattle.theorems.specs.Each.{EachOut}
 use Rattle.theorems.specs.Kept.{IsDecidedAs, RowIsDecided, OutcomeIsKept, role_is_decided}
@@ -55,7 +57,7 @@ use Rattle.theorems.proofs.Forms.{IsForm, form_told, failed_form, DecideForms, a
 use Rattle.theorems.proofs.KeptForm.{kept_again}
 use Rattle.theorems.proofs.Lives.{lives_keep, lives_outcomes}
 use Rattle.theorems.proofs.Locked.{goes as led_by}
-use Rattle.theorems.proofs.Resumed.{Brought, resumed_takes, replied_found}
+use Rattle.theorems.proofs.Resumed.{Brought, resumed_takes, replied_book, replied_found}
 use Rattle.theorems.proofs.Rows.{Rows, no_rows, opened_rows, took_rows, handled_rows, moves_rows, cut_rows}
 use Rattle.theorems.proofs.Sound.{Sound, none_sound, opened_sound, did_sound, batch_sound, took_sound}
 use Rattle.theorems.proofs.Tests.{none_not_some, some_same}
@@ -136,10 +138,25 @@ ends_during s id (c ∷ cs) u was =
 clash : true ≡ false → ⊥
 clash e = cc
 
--- a row that a producer's delivery joins has its outcome from the book
-joined_told : (u : Trace) (b : Binding) (row : ARow) (d : Option Delivery) (s : DeliveryState) → ((y : DeliveryState) → row.outcome ≡ Some y → IsForm y) → outcome_known (joined_to d row.outcome) ≡ Some s → IsKeptAsTold s
-joined_told u b row None s form is = form_told s (form s is)
-joined_told u b row (Some d) s form is = absurd (none_not_some is)
+-- a row that is joined to its producer's link has its outcome from the book
+held_known : (q : Holding) (d : Option Delivery) (o : Option DeliveryState) (s : DeliveryState) → outcome_held q (joined_to d o) ≡ Some s → o ≡ Some s
+held_known (holding.Resumed p) None o s is = is
+held_known (holding.Resumed p) (Some d) o s is = absurd (none_not_some is)
+held_known (holding.Unresumed a) None o s is = is
+held_known (holding.Unresumed a) (Some d) o s is = absurd (none_not_some is)
+held_known (holding.Settled a) d o s is = absurd (none_not_some is)
+
+joined_told : (u : Trace) (b : Binding) (q : Holding) (row : ARow) (s : DeliveryState) → AreForms (book_in u).rows → (earlier later : List ARow) → (book_in u).rows ≡ earlier ++ row ∷ later
+    → b ≡ joined_by u q row.number row.outcome → outcome_in b.kind ≡ Some s → IsKeptAsTold s
+joined_told u b q row s forms earlier later kept joins is =
+    let there : Stands ARow row (book_in u).rows = subst (λ (rows : List ARow). Stands ARow row rows) (sym kept) (stands_after ARow row earlier later) in
+    form_told s (forms row there s (held_known q (called u (Row row.number)) row.outcome s (ap (λ (x : Binding). outcome_in x.kind) (sym joins) ∙ is)))
+
+-- one that is settled there has none
+held_told : (u : Trace) (b : Binding) (q : Holding) → AreForms (book_in u).rows → HoldsRow u b q ⊎ SettlesRow u b q → (s : DeliveryState) → outcome_in b.kind ≡ Some s → IsKeptAsTold s
+held_told u b q forms (inl holds) s is = joined_told u b q holds.row s forms holds.earlier holds.later holds.kept holds.holds is
+held_told u b q forms (inr settles) s is =
+    absurd (none_not_some (held_known q (called u (Row settles.row)) None s (ap (λ (x : Binding). outcome_in x.kind) (sym settles.settles) ∙ is)))
 
 fresh_told : (u : Trace) (b : Binding) → AreForms (book_in u).rows → BindsByKind u b → is_taken_up b.kind ≡ false → (s : DeliveryState) → outcome_in b.kind ≡ Some s → IsKeptAsTold s
 fresh_told u b forms binds not_taken s is = by b.kind refl binds is
@@ -147,10 +164,10 @@ fresh_told u b forms binds not_taken s is = by b.kind refl binds is
     by : (k : BindingKind) → b.kind ≡ k → BindsAs k u b → outcome_in k ≡ Some s → IsKeptAsTold s
     by (kind.Message origin) at binds is = absurd (none_not_some is)
     by (kind.TakenUp brought) at binds is = absurd (clash (sym (ap is_taken_up at) ∙ not_taken))
-    by (kind.Joined p to) at joins is =
-        let there : Stands ARow joins.row (book_in u).rows = subst (λ (rows : List ARow). Stands ARow joins.row rows) (sym joins.kept) (stands_after ARow joins.row joins.earlier joins.later) in
-        joined_told u b joins.row (called u (Row joins.row.number)) s (forms joins.row there)
-        (ap (λ (x : Binding). outcome_in x.kind) (sym joins.joins) ∙ ap outcome_in at ∙ is)
+    by (kind.Joined (holding.Resumed p) to) at joins is =
+        joined_told u b (holding.Resumed p) joins.row s forms joins.earlier joins.later joins.kept joins.joins (ap outcome_in at ∙ is)
+    by (kind.Joined (holding.Unresumed a) to) at binds is = held_told u b (holding.Unresumed a) forms binds s (ap outcome_in at ∙ is)
+    by (kind.Joined (holding.Settled a) to) at binds is = held_told u b (holding.Settled a) forms binds s (ap outcome_in at ∙ is)
 
 bind_during : (s : Step) (b : Option Binding) (u : Trace) → ((x : Binding) → b ≡ Some x → BindsByKind u x × (is_taken_up x.kind ≡ false)) → During s u → During s (with_bound b u)
 bind_during s None u fresh was = was
@@ -238,7 +255,8 @@ handled_kept id t s sound was = (all_keep (During s) (goes_during s) (resumed at
 
     taken : During s (resumed at e (replied id at s))
     taken = resumed_takes (During s) at e (replied id at s)
-        (λ v b takes known held. (bound_kept b v (λ encoded. takes_told id t s v b takes (rows_kept t was) known (held.1 encoded)) held.0, held.1)) (replied_found id at s) rows
+        (λ v b takes known held. (bound_kept b v (λ encoded. takes_told id t s v b takes (rows_kept t was) known (held.1 encoded)) held.0, held.1))
+        (λ v b q to is quiet binds book held. (bound_kept b v (λ encoded. held_told v b q (rows_kept v held.0) binds) held.0, held.1)) (replied_found id at s) (replied_book id at s) rows
 
 moves_kept : (id : List ℕ) (ms : List Move) (t u : Trace) → Rows t → Sound t → AllKept t → Goes id ms t u → AllKept u
 moves_kept id [] t u rows sound was went = subst AllKept (sym went) was
