@@ -1,7 +1,7 @@
 -- A row that a producer's link has without a delivery, from its attach on or once it is settled: nothing that is told of its delivery changes.
-use Rattle.std.proofs.Common.{◌≡◌, ◌∙◌, sym, ap, refl, subst, ◌⊎◌, inl, inr, ℕ, ◌<◌, Bool, true, false, not, ◌&&◌, ◌||◌, List, [], ◌∷◌, ◌++◌}
+use Rattle.std.proofs.Common.{◌≡◌, ◌∙◌, sym, ap, refl, subst, ◌⊎◌, inl, inr, ◌<◌, Bool, true, false, not, ◌&&◌, ◌||◌, List, ◌∷◌, ◌++◌}
 use Rattle.std.specs.Prelude.{Option, Some, None, is_none, is_some, if◌then◌else◌}
-use Rattle.std.specs.List.{All, AllByRecursion}
+use Rattle.std.specs.List.{All}
 use Rattle.std.proofs.lemmas.List.Elements.{recursion_from_All}
 use Rattle.amqp_model.specs.declared.state.DeliveryState.{DeliveryState}
 use Rattle.book_core.specs.Rising.{Rises}
@@ -14,12 +14,11 @@ use Rattle.router_trace.specs.declared.binding.Binding.{Binding}
 use Rattle.router_trace.specs.declared.binding.DeliveryName.TheVariants.{Row}
 use Rattle.router_trace.specs.declared.binding.Holding.{Holding}
 use Rattle.router_trace.specs.declared.binding.Holding.TheVariants as holding
-use Rattle.router_trace.specs.declared.binding.JoinedTo.{JoinedTo}
 use Rattle.router_trace.specs.declared.binding.JoinedTo.TheVariants.{Standing as StandingOne, New}
 use Rattle.router_trace.specs.declared.binding.Origin.{Origin}
 use Rattle.router_trace.specs.declared.handle.Attachment.{Attachment}
 use Rattle.router_trace.specs.Trace.{Trace}
-use Rattle.router_trace.specs.Deliveries.{Delivery, bound, called, either_origin, held_by, holds_standing, joined_to, joining, name_in, outcome_held, owned_in, rank_in, resumed_held, source}
+use Rattle.router_trace.specs.Deliveries.{Delivery, bound, called, either_origin, held_by, holds_standing, joined_to, joining, name_in, outcome_held, owned_in, rank_in, resumed_held}
 use Rattle.router_reply.specs.Acts.{book_in}
 use Rattle.router_reply.specs.Holding.{as_held}
 use Rattle.theorems.specs.Came.{HoldsRow, SettlesRow}

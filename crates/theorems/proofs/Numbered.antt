@@ -11,9 +11,6 @@ use Rattle.router_trace.specs.Configuration.{beginning}
 use Rattle.router_trace.specs.Connection.{conn, due}
 use Rattle.router_trace.specs.Trace.{Beginning, Entry, Did, Out, Bound, Put, Step, goes, puts, each_to}
 use Rattle.router_trace.specs.declared.binding.Binding.{Binding}
-use Rattle.router_trace.specs.declared.binding.BindingKind.{BindingKind}
-use Rattle.router_trace.specs.declared.binding.BindingKind.TheVariants as kind
-use Rattle.router_trace.specs.declared.binding.TakenUp.{TakenUp}
 use Rattle.router_trace.specs.Deliveries.{is_message}
 use Rattle.router_trace.specs.declared.condition.Condition.TheVariants.{ResourceLimitExceeded}
 use Rattle.state_messages.specs.Messages.{with_bound}

@@ -1,6 +1,6 @@
 -- What a delivery is after a binding: it is what was bound, under a new number; or it was there before, and may be one that a producer's link has from
 -- now on.
-use Rattle.std.proofs.Common.{◌≡◌, ◌∙◌, sym, ap, refl, ℕ, ◌+◌, Bool, true, false, List, ◌∷◌}
+use Rattle.std.proofs.Common.{◌≡◌, ◌∙◌, refl, ℕ, ◌+◌, Bool, true, false, List, ◌∷◌}
 use Rattle.std.specs.Prelude.{◌==◌, Option, Some, None, if◌then◌else◌}
 use Rattle.std.proofs.lemmas.Bool.{eqb-true}
 use Rattle.router_trace.specs.declared.binding.Holding.TheVariants as holding
@@ -8,7 +8,7 @@ use Rattle.router_trace.specs.declared.binding.Holding.{Holding}
 use Rattle.router_trace.specs.declared.binding.Binding.{Binding}
 use Rattle.router_trace.specs.declared.binding.DeliveryName.{DeliveryName}
 use Rattle.router_trace.specs.Trace.{Entry, Bound}
-use Rattle.router_trace.specs.Deliveries.{Delivery, bindings, bound, delivery, joined, is_over, is_undecided, name_in, same_name, unless_called, unless_over, with_binding, rank_in, holds_standing, held_by}
+use Rattle.router_trace.specs.Deliveries.{Delivery, bindings, bound, delivery, joined, is_over, is_undecided, name_in, same_name, unless_over, with_binding, rank_in, holds_standing, held_by}
 use Rattle.state_connections.proofs.Lists.{by_test}
 use Rattle.state_deliveries.proofs.Called.{same_is, uncalled}
 use Rattle.theorems.proofs.Tests.{none_not_some, some_same}

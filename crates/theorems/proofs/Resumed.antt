@@ -29,7 +29,6 @@ use Rattle.router_trace.specs.declared.binding.JoinedTo.{JoinedTo}
 use Rattle.router_trace.specs.declared.binding.Origin.{Origin}
 use Rattle.router_trace.specs.declared.binding.Resumed.{Resumed}
 use Rattle.router_trace.specs.declared.binding.Resumed.TheVariants.{Settled, Again, Anew, Kept}
-use Rattle.router_trace.specs.declared.binding.TakenUp.{TakenUp}
 use Rattle.resume_core.specs.Resuming.{entries_of, is_told_of, outcome_after, resumed_as, sending_as, sending_of, sendings, sent_as}
 use Rattle.resume_core.specs.declared.consumer.Sending.{Sending}
 use Rattle.router_trace.specs.declared.condition.Condition.TheVariants.{ResourceLimitExceeded}

@@ -25,7 +25,7 @@ use Rattle.router_trace.specs.declared.condition.Condition.{Condition}
 use Rattle.router_trace.specs.declared.condition.Condition.TheVariants.{ResourceLimitExceeded, MessageSizeExceeded}
 use Rattle.router_trace.specs.declared.handle.Attachment.{Attachment}
 use Rattle.router_trace.specs.Trace.{Trace, Bound, Put, goes, puts, each_to}
-use Rattle.router_trace.specs.Deliveries.{Delivery, bound, called, origin_in, origin_of, outcome_in, presettles, either_origin, source, name_in, delivery, is_undecided, terminal, last_of, ended_by as put_ends, brought, outcome_as, told_in, rank_in, holds_standing, told_of}
+use Rattle.router_trace.specs.Deliveries.{Delivery, bound, called, origin_in, origin_of, outcome_in, presettles, either_origin, source, name_in, delivery, is_undecided, terminal, last_of, ended_by as put_ends, outcome_as, told_in, rank_in, holds_standing, told_of}
 use Rattle.router_trace.specs.Following.{link_of, is_sending}
 use Rattle.router_trace.specs.LinkFrames.{detach_item}
 use Rattle.router_trace.specs.Links.{Link, link, link_place, has_number, is_attached, if_attached, last_of_key}
