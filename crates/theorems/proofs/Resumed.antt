@@ -311,34 +311,57 @@ with_rows_book key rs u = with_rows_keep (λ (v : Trace). journaled v ≡ journa
 with_held_book : (b : BookView) (key : Option LinkKey) (u : Trace) → journaled (with_held b key u) ≡ journaled u
 with_held_book b key u = with_held_keep (λ (v : Trace). journaled v ≡ journaled u) (λ x v is. is) b key u refl
 
-one_freed : (P : Trace → Type 0) (at : Trace) → HeldStep at P → (n : RowNumber) (u : Trace) (o : Option Origin) → owned_in (called u (Row n)) ≡ o → book_in u ≡ book_in at → P u
-    → (book_in (freed_from o n u) ≡ book_in at) × P (freed_from o n u)
-one_freed P at step n u None owned same was = (same, was)
-one_freed P at step n u (Some p) owned same was =
+with_rows_found : (key : Option LinkKey) (rs : List Sending) (u : Trace) → last_found (with_rows key rs u) ≡ last_found u
+with_rows_found key rs u = with_rows_keep (λ (v : Trace). last_found v ≡ last_found u) (λ b v is. is) key rs u refl
+
+with_held_found : (b : BookView) (key : Option LinkKey) (u : Trace) → last_found (with_held b key u) ≡ last_found u
+with_held_found b key u = with_held_keep (λ (v : Trace). last_found v ≡ last_found u) (λ x v is. is) b key u refl
+
+record Freed (P : Trace → Type 0) (at u : Trace) : Type 0 where
+  found : last_found u ≡ at
+  same : book_in u ≡ book_in at
+  was : P u
+
+one_freed : (P : Trace → Type 0) (at : Trace) → HeldStep at P → (n : RowNumber) (earlier later : List Act) → found_acts at ≡ earlier ++ Forget n ∷ later
+    → (u : Trace) (o : Option Origin) → owned_in (called u (Row n)) ≡ o → Freed P at u → Freed P at (freed_from o n u)
+one_freed P at step n earlier later is u None owned h = h
+one_freed P at step n earlier later is u (Some p) owned h =
     let b : Binding = joined_by u (holding.Settled p.link) n None in
-    (same, step u b (holding.Settled p.link) (joined_to (called u (Row n)) None) refl refl (inr (record { row = n; owner = p; owned = owned; how = refl; settles = refl })) same was)
+    record {
+      found = h.found;
+      same = h.same;
+      was = step u b (holding.Settled p.link) (joined_to (called u (Row n)) None) refl refl
+          (inr (record { row = n; earlier = earlier; later = later; forgets = ap found_acts h.found ∙ is; owner = p; owned = owned; how = refl; settles = refl })) h.same h.was;
+    }
 
-act_freed : (P : Trace → Type 0) (at : Trace) → HeldStep at P → (act : Act) (u : Trace) → book_in u ≡ book_in at → P u → (book_in (freed_by act u) ≡ book_in at) × P (freed_by act u)
-act_freed P at step (Forget n) u same was = one_freed P at step n u (owned_in (called u (Row n))) refl same was
-act_freed P at step (Make x) u same was = (same, was)
-act_freed P at step (Admit x) u same was = (same, was)
-act_freed P at step (Decide x) u same was = (same, was)
-act_freed P at step (Drop n) u same was = (same, was)
+act_freed : (P : Trace → Type 0) (at : Trace) → HeldStep at P → (act : Act) (earlier later : List Act) → found_acts at ≡ earlier ++ act ∷ later
+    → (u : Trace) → Freed P at u → Freed P at (freed_by act u)
+act_freed P at step (Forget n) earlier later is u h = one_freed P at step n earlier later is u (owned_in (called u (Row n))) refl h
+act_freed P at step (Make x) earlier later is u h = h
+act_freed P at step (Admit x) earlier later is u h = h
+act_freed P at step (Decide x) earlier later is u h = h
+act_freed P at step (Drop n) earlier later is u h = h
 
-rows_freed : (P : Trace → Type 0) (at : Trace) → HeldStep at P → (acts : List Act) (u : Trace) → book_in u ≡ book_in at → P u → P (freed acts u)
-rows_freed P at step [] u same was = was
-rows_freed P at step (act ∷ acts) u same was =
-    let next = act_freed P at step act u same was in
-    rows_freed P at step acts (freed_by act u) next.0 next.1
+rows_freed : (P : Trace → Type 0) (at : Trace) → HeldStep at P → (before acts : List Act) → found_acts at ≡ before ++ acts → (u : Trace) → Freed P at u → P (freed acts u)
+rows_freed P at step before [] is u h = h.was
+rows_freed P at step before (act ∷ acts) is u h =
+    rows_freed P at step (before ++ act ∷ []) acts (is ∙ sym (append_assoc before (act ∷ []) acts)) (freed_by act u) (act_freed P at step act before acts is u h)
 
 -- what each of these bindings keeps, all of them keep
 pub resumed_takes : (P : Trace → Type 0) (at : Trace) (e : Event) (u : Trace) → TakenStep at e u P → HeldStep at P → last_found u ≡ at → book_in u ≡ book_in at → P u → P (resumed at e u)
 resumed_takes P at e u step hold found same was =
-    let taken : Trace = with_rows (resumed_key at e (answer_to_event at e)) (rows_taken at e (answer_to_event at e)) u in
-    let kept : book_in taken ≡ book_in at = ap (λ j. j.book) (with_rows_book (resumed_key at e (answer_to_event at e)) (rows_taken at e (answer_to_event at e)) u) ∙ same in
-    let given : Trace = with_held (book_in at) (held_key at e (answer_to_event at e)) taken in
-    let still : book_in given ≡ book_in at = ap (λ j. j.book) (with_held_book (book_in at) (held_key at e (answer_to_event at e)) taken) ∙ kept in
-    rows_freed P at hold (found_acts at) given still (rows_given P at e taken hold kept (rows_taken_up P at e u step found was))
+    let key : Option LinkKey = resumed_key at e (answer_to_event at e) in
+    let rows : List Sending = rows_taken at e (answer_to_event at e) in
+    let held : Option LinkKey = held_key at e (answer_to_event at e) in
+    let taken : Trace = with_rows key rows u in
+    let kept : book_in taken ≡ book_in at = ap (λ j. j.book) (with_rows_book key rows u) ∙ same in
+    let given : Trace = with_held (book_in at) held taken in
+    rows_freed P at hold [] (found_acts at) refl given
+    (record {
+      found = with_held_found (book_in at) held taken ∙ with_rows_found key rows u ∙ found;
+      same = ap (λ j. j.book) (with_held_book (book_in at) held taken) ∙ kept;
+      was = rows_given P at e taken hold kept (rows_taken_up P at e u step found was);
+    })
 
 -- the same where only that no message came counts
 

@@ -47,7 +47,7 @@ abbrev pub IsAdmittedUnder : Trace → Binding → Option RowNumber → Type 0
 IsAdmittedUnder t b None = Unit {0}
 IsAdmittedUnder t b (Some row) = IsAdmitted t b row
 
--- a row that is bound again was admitted before (`TakesUp`, `JoinsRow`)
+-- a row that is bound again was admitted before (`TakesUp`, `JoinsRow`, `HoldsRow`, `SettlesRow`)
 abbrev pub IsAdmittedIf : Bool → Trace → Binding → Type 0
 IsAdmittedIf true t b = IsAdmittedUnder t b b.row
 IsAdmittedIf false t b = Unit {0}

@@ -9,6 +9,8 @@ use Rattle.amqp_link.specs.declared.part.Delivery.{Delivery as Told}
 use Rattle.amqp_link.specs.Deliveries.{frame, bytes, delivery}
 use Rattle.amqp_link.specs.Receiving.{Received, middle}
 use Rattle.book_model.specs.Book.{terminus_of, is_for, is_from}
+use Rattle.book_model.specs.declared.act.Act.{Act}
+use Rattle.book_model.specs.declared.act.Act.TheVariants.{Forget}
 use Rattle.book_model.specs.declared.row.Row.{Row as ARow}
 use Rattle.book_model.specs.declared.row.RowNumber.{RowNumber}
 use Rattle.book_model.specs.declared.terminus.LinkKey.{LinkKey}
@@ -36,7 +38,7 @@ use Rattle.router_trace.specs.Settling.{is_claimed_on}
 use Rattle.state_messages.specs.Asking.{consumer_with}
 use Rattle.state_messages.specs.Messages.{consumer_of, lasts, payload_as}
 use Rattle.reply_transfers.specs.Transfers.{claimed_id, from_link, lasts_on}
-use Rattle.router_reply.specs.Acts.{book_found, book_in}
+use Rattle.router_reply.specs.Acts.{book_found, book_in, found_acts}
 use Rattle.router_reply.specs.Holding.{as_held}
 use Rattle.router_reply.specs.Replies.{row_found}
 use Rattle.theorems.specs.OneConsumer.{IsOfMessage}
@@ -212,9 +214,12 @@ pub record HoldsRow (t : Trace) (b : Binding) (q : Holding) : Type 0 where
   pub how : q ≡ as_held at row
   pub holds : b ≡ joined_by t q row.number row.outcome
 
--- The link that has a row like this has it settled once the acts of an event forget it.
+-- The link that has a row like this has it settled once the acts of the last event forget it.
 pub record SettlesRow (t : Trace) (b : Binding) (q : Holding) : Type 0 where
   pub row : RowNumber
+  pub earlier : List Act
+  pub later : List Act
+  pub forgets : found_acts (last_found t) ≡ earlier ++ Forget row ∷ later
   pub owner : Origin
   pub owned : owned_in (called t (Row row)) ≡ Some owner
   pub how : q ≡ holding.Settled owner.link
