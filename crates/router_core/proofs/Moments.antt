@@ -16,13 +16,13 @@ use Rattle.router_core.specs.Handling.{Fits, BeforeOrAfterEvent, store_of, kept_
 use Rattle.router_core.proofs.Books.{before_or_after_event}
 
 -- the book before these acts, or the book after them
-abbrev pub BeforeOrAfter : {T : Type 0} → Core T → List Act → Contents → Type 0
-BeforeOrAfter core acts contents = OpensTo contents (kept_book core) ⊎ OpensTo contents (effects (kept_book core) acts)
+abbrev pub EitherBook : {T : Type 0} → Core T → List Act → Contents → Type 0
+EitherBook core acts contents = OpensTo contents (kept_book core) ⊎ OpensTo contents (effects (kept_book core) acts)
 
 module _ {T : Type 0} (seen : T → Contents) (may_leave : T → Contents → Type 0) (moment : T → ℕ) (left_since : T → ℕ → Contents → Type 0) where
   -- these are the event's
   pub known_moment : (core : Core T) (twin : T) (t : List Entry) (e : Event) (acts : List Act) → Fits core t → acts ≡ acts_of t e
-      → LeavesOnly moment left_since (twin_of (store_of core)) twin (BeforeOrAfter core acts) → LeavesOnly moment left_since (twin_of (store_of core)) twin (BeforeOrAfterEvent t e)
+      → LeavesOnly moment left_since (twin_of (store_of core)) twin (EitherBook core acts) → LeavesOnly moment left_since (twin_of (store_of core)) twin (BeforeOrAfterEvent t e)
   known_moment core twin t e acts f are run =
       widened moment left_since _ _ _ _ run (λ contents. before_or_after_event core t e acts contents f are)
 
