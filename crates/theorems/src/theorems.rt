@@ -89,11 +89,12 @@ pub fn frames_carry_what_was_bound()
 
 /// In every trace of the router a message is bound when it is complete: the last frame of its delivery has just been
 /// received. What is bound is what its frames carried, and it is bound once, with the row that the acts of that event
-/// admit; on a durable link it has one, unless its producer has settled it. Only a row that a consumer's durable link
-/// takes up again is bound once more, to that link: the attach found it in the book for that link, and it is bound as
-/// it stood there, with its outcome if it is decided, or the one that the acts of the attach give it (where the router
-/// was opened on a sound book, or after other runs). So each delivery is of such a message, or of such a row (AMQP 1.0
-/// part 2, sections 2.6.13, 2.6.14 and 2.7.5). Lists of events have such traces.
+/// admit; on a durable link it has one, unless its producer has settled it. A row that a consumer's durable link takes
+/// up again is bound once more, to that link: the attach found it in the book for that link, and it is bound as it stood
+/// there, with its outcome if it is decided, or the one that the acts of the attach give it (where the router was opened
+/// on a sound book, or after other runs). A row that the book has for a producer's durable link is joined to that link,
+/// by a delivery that it resumes or without one, and nothing is sent for it. So each delivery is of such a message, or of
+/// such a row (AMQP 1.0 part 2, sections 2.6.13, 2.6.14 and 2.7.5). Lists of events have such traces.
 pub fn messages_are_bound_once()
     ensures { MessagesAreBoundOnce }
 {}
