@@ -1,6 +1,7 @@
 -- Fields of a list that is written.
-use Rattle.std.proofs.Common.{◌≡◌, ℕ, ◌+◌, ◌<◌, true, false, List, [], ◌∷◌, ◌++◌, length, take, get_or, Some, None, is_none, refl, sym, ap, ◌∙◌, append_assoc, true≢false, arith}
-use Rattle.std.proofs.lemmas.List.{append-nil, take_more}
+use Rattle.std.proofs.Common.{◌≡◌, ℕ, ◌+◌, ◌<◌, true, false, List, [], ◌∷◌, ◌++◌, length, take, drop, get_or, Some, None, is_none, refl, sym, ap, ◌∙◌, append_assoc, true≢false, arith}
+use Rattle.std.proofs.Math.Seq.{take-append_seam}
+use Rattle.std.proofs.lemmas.List.{append-nil, take_more, take-append-drop}
 use Rattle.amqp_perf.specs.declared.text.Field.{Field}
 use Rattle.amqp_model.specs.Texts.{FieldText, given, given_by, field_bytes, joined}
 use Rattle.amqp_perf.specs.TextViews.{field_view, fields_view}
@@ -63,3 +64,9 @@ pub given_nothing : (all : List Field) → length all ≡ 0 → fields_view all 
 unfolding given
 given_nothing [] h = refl
 given_nothing (f ∷ fs) h = absurd (omega (arith, h))
+
+-- what stood before goes on standing, as long as each step keeps what it finds
+pub still_kept : (old mid new more : List ℕ) → mid ≡ old ++ more → take (length mid) new ≡ mid → take (length old) new ≡ old
+still_kept old mid new more is kept =
+    ap (take (length old)) (sym (take-append-drop (length mid) new) ∙ ap (λ l. l ++ drop (length mid) new) (kept ∙ is) ∙ append_assoc old more (drop (length mid) new))
+    ∙ take-append_seam old (more ++ drop (length mid) new)

@@ -1,5 +1,5 @@
 //! Writing a described list from a slice of its fields, each in its canonical encoding and without the nulls at the end.
-ghost use Rattle.std.specs.Prelude.{◌≡◌, ◌+◌, ◌-◌, ◌^◌, ◌<◌, ◌&&◌, ◌++◌, ◌∷◌, nat_lt, ℕ, List, [], length, min, is_none, option_map, IfOk, OnOk};
+ghost use Rattle.std.specs.Prelude.{◌≡◌, ◌+◌, ◌-◌, ◌^◌, ◌<◌, ◌&&◌, ◌++◌, ◌∷◌, nat_lt, ℕ, List, [], length, min, take, is_none, option_map, IfOk, OnOk, OnErr};
 ghost use Rattle.amqp_model.specs.Data as d;
 ghost use Rattle.amqp_model.specs.View.{items_view};
 ghost use Rattle.amqp_model.specs.ValueSpelling.{list_text, wide_sizes};
@@ -237,7 +237,8 @@ pub(crate) fn given_of<'a, 'b>(fields: &'b [Field<'a>]) -> &'b [Field<'a>]
 }
 
 fn put_field(out: &mut Vec<u8>, field: Field<'_>) -> Result<(), AllocError>
-    ensures { OnOk result (out.new.items ≡ out.old.items ++ texts.field_bytes (field_view field.entry)) }
+    ensures ok { OnOk result (out.new.items ≡ out.old.items ++ texts.field_bytes (field_view field.entry)) }
+    ensures kept { OnErr result (take (length out.old.items) out.new.items ≡ out.old.items) }
 {
     match field {
         Field::Null => out.extend_from_slice(&[0x40]),
@@ -247,7 +248,8 @@ fn put_field(out: &mut Vec<u8>, field: Field<'_>) -> Result<(), AllocError>
 }
 
 fn put_fields(out: &mut Vec<u8>, fields: &[Field<'_>]) -> Result<(), AllocError>
-    ensures { OnOk result (out.new.items ≡ out.old.items ++ texts.joined (fields_view fields.now)) }
+    ensures ok { OnOk result (out.new.items ≡ out.old.items ++ texts.joined (fields_view fields.now)) }
+    ensures kept { OnErr result (take (length out.old.items) out.new.items ≡ out.old.items) }
 {
     for field in fields {
         put_field(out, *field)?;
@@ -266,6 +268,7 @@ fn is_short_list(count: usize, len: usize) -> bool
 fn put_long_head(out: &mut Vec<u8>, count: usize, len: usize) -> Result<(), AllocError>
     ensures head { OnOk result (out.new.items ≡ out.old.items ++ 0xD0 ∷ wide_sizes count len) }
     ensures small { OnOk result (len + 4 < 2 ^ 32) }
+    ensures kept { OnErr result (take (length out.old.items) out.new.items ≡ out.old.items) }
 {
     let (Some(size), Ok(count)) = (len.checked_add(4), u32::try_from(count)) else {
         return Err(AllocError);
@@ -280,7 +283,8 @@ fn put_long_head(out: &mut Vec<u8>, count: usize, len: usize) -> Result<(), Allo
 
 /// Appends what stands before the values of a list, of which there are `count` with `len` bytes, or `usize::MAX` if there are more.
 fn put_list_head(out: &mut Vec<u8>, count: usize, len: usize) -> Result<(), AllocError>
-    ensures { OnOk result ((values : List ℕ) → len ≡ min (length values) (2 ^ 64 - 1) → (count ≡ 0 → values ≡ []) → out.new.items ++ values ≡ out.old.items ++ list_text count values) }
+    ensures ok { OnOk result ((values : List ℕ) → len ≡ min (length values) (2 ^ 64 - 1) → (count ≡ 0 → values ≡ []) → out.new.items ++ values ≡ out.old.items ++ list_text count values) }
+    ensures kept { OnErr result (take (length out.old.items) out.new.items ≡ out.old.items) }
 {
     if count == 0 {
         return out.push(0x45).map_err(|_| AllocError);
@@ -291,19 +295,36 @@ fn put_list_head(out: &mut Vec<u8>, count: usize, len: usize) -> Result<(), Allo
     put_long_head(out, count, len)
 }
 
-/// Appends the described list of these fields. It allocates nothing but room in `out`.
+/// Appends the described list of these fields, or leaves `out` as it was. It allocates nothing but room in `out`.
 #[tactic(auto, unfolding(amqp_model::specs::Texts::described_text))]
 pub(crate) fn put_described(
     out: &mut Vec<u8>,
     descriptor: Descriptor,
     fields: &[Field<'_>],
 ) -> Result<(), AllocError>
-    ensures { OnOk result (out.new.items ≡ out.old.items ++ texts.described_text descriptor (fields_view fields.now)) }
+    ensures ok { OnOk result (out.new.items ≡ out.old.items ++ texts.described_text descriptor (fields_view fields.now)) }
+    ensures err { OnErr result (out.new.items ≡ out.old.items) }
 {
-    let given = given_of(fields);
+    let start = out.len();
+    let put = put_parts(out, descriptor, given_of(fields));
+    if put.is_err() {
+        out.truncate(start);
+    }
+    put
+}
+
+/// Appends the described list of these fields, all of them, or a beginning of it.
+fn put_parts(
+    out: &mut Vec<u8>,
+    descriptor: Descriptor,
+    fields: &[Field<'_>],
+) -> Result<(), AllocError>
+    ensures ok { OnOk result (out.new.items ≡ out.old.items ++ 0x00 ∷ 0x53 ∷ code_of descriptor ∷ list_text (length (fields_view fields.now)) (texts.joined (fields_view fields.now))) }
+    ensures kept { OnErr result (take (length out.old.items) out.new.items ≡ out.old.items) }
+{
     out.extend_from_slice(&[0x00, 0x53, descriptor.code()])?;
-    put_list_head(out, given.len(), fields_len(given))?;
-    put_fields(out, given)
+    put_list_head(out, fields.len(), fields_len(fields))?;
+    put_fields(out, fields)
 }
 
 /// The encoding of symbols, if there are any: always an array.

@@ -17,50 +17,10 @@ use std::alloc::{AllocError, Global};
 /// # Errors
 ///
 /// `AllocError` where memory was refused, or a length doesn't fit in four bytes; the vector is then as it was.
+#[tactic(auto, unfolding(amqp_model::specs::PerfSpelling::spelling))]
 pub fn write_perf(alloc: Global, perf: &Perf, out: &mut Vec<u8>) -> Result<(), AllocError>
     ensures ok { OnOk result (out.new.items ≡ out.old.items ++ spelling perf.now) }
     ensures err { OnErr result (out.new.items ≡ out.old.items) }
-{
-    if out.is_empty() {
-        let written = put_perf(alloc, out, perf);
-        if written.is_err() {
-            out.clear();
-        }
-        return written;
-    }
-    let mut text = Vec::new(alloc);
-    put_perf(alloc, &mut text, perf)?;
-    out.extend_from_slice(&text)
-}
-
-/// Appends the canonical encoding of a delivery state.
-///
-/// # Errors
-///
-/// `AllocError` where memory was refused, or a length doesn't fit in four bytes; the vector is then as it was.
-pub fn write_state(
-    alloc: Global,
-    state: &DeliveryState,
-    out: &mut Vec<u8>,
-) -> Result<(), AllocError>
-    ensures ok { OnOk result (out.new.items ≡ out.old.items ++ state_spelling state.now) }
-    ensures err { OnErr result (out.new.items ≡ out.old.items) }
-{
-    if out.is_empty() {
-        let written = put_state(alloc, out, state);
-        if written.is_err() {
-            out.clear();
-        }
-        return written;
-    }
-    let mut text = Vec::new(alloc);
-    put_state(alloc, &mut text, state)?;
-    out.extend_from_slice(&text)
-}
-
-#[tactic(auto, unfolding(amqp_model::specs::PerfSpelling::spelling))]
-fn put_perf(alloc: Global, out: &mut Vec<u8>, perf: &Perf) -> Result<(), AllocError>
-    ensures { OnOk result (out.new.items ≡ out.old.items ++ spelling perf.now) }
 {
     match perf {
         Perf::Open(open) => put_open(alloc, out, open.as_ref()),
@@ -78,4 +38,20 @@ fn put_perf(alloc: Global, out: &mut Vec<u8>, perf: &Perf) -> Result<(), AllocEr
         Perf::SaslResponse(response) => put_sasl_response(out, response),
         Perf::SaslOutcome(outcome) => put_sasl_outcome(out, outcome),
     }
+}
+
+/// Appends the canonical encoding of a delivery state.
+///
+/// # Errors
+///
+/// `AllocError` where memory was refused, or a length doesn't fit in four bytes; the vector is then as it was.
+pub fn write_state(
+    alloc: Global,
+    state: &DeliveryState,
+    out: &mut Vec<u8>,
+) -> Result<(), AllocError>
+    ensures ok { OnOk result (out.new.items ≡ out.old.items ++ state_spelling state.now) }
+    ensures err { OnErr result (out.new.items ≡ out.old.items) }
+{
+    put_state(alloc, out, state)
 }

@@ -17,7 +17,8 @@ use amqp_types::Plain;
 use std::alloc::{AllocError, Global};
 
 pub(crate) fn put_open(alloc: Global, out: &mut Vec<u8>, opening: &Open) -> Result<(), AllocError>
-    ensures { OnOk result (out.new.items ≡ out.old.items ++ texts.described_text is.Open (spellings.open_texts opening.now)) }
+    ensures ok { OnOk result (out.new.items ≡ out.old.items ++ texts.described_text is.Open (spellings.open_texts opening.now)) }
+    ensures err { OnErr result (out.new.items ≡ out.old.items) }
 {
     let outgoing_locales = symbols_text(alloc, &opening.outgoing_locales)?;
     let incoming_locales = symbols_text(alloc, &opening.incoming_locales)?;
@@ -46,7 +47,8 @@ fn put_open_with<'a>(
     requires incoming { option_map (λ v. v.items) incoming_locales.now ≡ texts.symbols_text opening.now.incoming_locales }
     requires offered { option_map (λ v. v.items) offered.now ≡ texts.symbols_text opening.now.offered_capabilities }
     requires desired { option_map (λ v. v.items) desired.now ≡ texts.symbols_text opening.now.desired_capabilities }
-    ensures { OnOk result (out.new.items ≡ out.old.items ++ texts.described_text is.Open (spellings.open_texts opening.now)) }
+    ensures ok { OnOk result (out.new.items ≡ out.old.items ++ texts.described_text is.Open (spellings.open_texts opening.now)) }
+    ensures err { OnErr result (out.new.items ≡ out.old.items) }
 {
     let fields = [
         Field::Plain(Plain::String(opening.container_id.as_str())),
@@ -64,7 +66,8 @@ fn put_open_with<'a>(
 }
 
 pub(crate) fn put_begin(alloc: Global, out: &mut Vec<u8>, begin: &Begin) -> Result<(), AllocError>
-    ensures { OnOk result (out.new.items ≡ out.old.items ++ texts.described_text is.Begin (spellings.begin_texts begin.now)) }
+    ensures ok { OnOk result (out.new.items ≡ out.old.items ++ texts.described_text is.Begin (spellings.begin_texts begin.now)) }
+    ensures err { OnErr result (out.new.items ≡ out.old.items) }
 {
     let offered = symbols_text(alloc, &begin.offered_capabilities)?;
     let desired = symbols_text(alloc, &begin.desired_capabilities)?;
@@ -80,7 +83,8 @@ fn put_begin_with<'a>(
 ) -> Result<(), AllocError>
     requires offered { option_map (λ v. v.items) offered.now ≡ texts.symbols_text begin.now.offered_capabilities }
     requires desired { option_map (λ v. v.items) desired.now ≡ texts.symbols_text begin.now.desired_capabilities }
-    ensures { OnOk result (out.new.items ≡ out.old.items ++ texts.described_text is.Begin (spellings.begin_texts begin.now)) }
+    ensures ok { OnOk result (out.new.items ≡ out.old.items ++ texts.described_text is.Begin (spellings.begin_texts begin.now)) }
+    ensures err { OnErr result (out.new.items ≡ out.old.items) }
 {
     let fields = [
         Field::ushort(begin.remote_channel),
@@ -131,7 +135,8 @@ pub(crate) fn put_attach(
     out: &mut Vec<u8>,
     attach: &Attach,
 ) -> Result<(), AllocError>
-    ensures { OnOk result (out.new.items ≡ out.old.items ++ texts.described_text is.Attach (spellings.attach_texts attach.now)) }
+    ensures ok { OnOk result (out.new.items ≡ out.old.items ++ texts.described_text is.Attach (spellings.attach_texts attach.now)) }
+    ensures err { OnErr result (out.new.items ≡ out.old.items) }
 {
     let parts = attach_parts(alloc, attach)?;
     put_attach_with(out, attach, &parts)
@@ -148,7 +153,8 @@ fn put_attach_with<'a>(
     requires unsettled { option_map (λ v. v.items) parts.now.unsettled ≡ spellings.unsettled_text attach.now.unsettled }
     requires offered { option_map (λ v. v.items) parts.now.offered_capabilities ≡ texts.symbols_text attach.now.offered_capabilities }
     requires desired { option_map (λ v. v.items) parts.now.desired_capabilities ≡ texts.symbols_text attach.now.desired_capabilities }
-    ensures { OnOk result (out.new.items ≡ out.old.items ++ texts.described_text is.Attach (spellings.attach_texts attach.now)) }
+    ensures ok { OnOk result (out.new.items ≡ out.old.items ++ texts.described_text is.Attach (spellings.attach_texts attach.now)) }
+    ensures err { OnErr result (out.new.items ≡ out.old.items) }
 {
     let fields = [
         Field::Plain(Plain::String(attach.name.as_str())),
@@ -170,7 +176,8 @@ fn put_attach_with<'a>(
 }
 
 pub(crate) fn put_flow(out: &mut Vec<u8>, flow: &Flow) -> Result<(), AllocError>
-    ensures { OnOk result (out.new.items ≡ out.old.items ++ texts.described_text is.Flow (spellings.flow_texts flow.now)) }
+    ensures ok { OnOk result (out.new.items ≡ out.old.items ++ texts.described_text is.Flow (spellings.flow_texts flow.now)) }
+    ensures err { OnErr result (out.new.items ≡ out.old.items) }
 {
     let fields = [
         Field::uint(flow.next_incoming_id),
@@ -193,7 +200,8 @@ pub(crate) fn put_transfer(
     out: &mut Vec<u8>,
     transfer: &Transfer,
 ) -> Result<(), AllocError>
-    ensures { OnOk result (out.new.items ≡ out.old.items ++ texts.described_text is.Transfer (spellings.transfer_texts transfer.now)) }
+    ensures ok { OnOk result (out.new.items ≡ out.old.items ++ texts.described_text is.Transfer (spellings.transfer_texts transfer.now)) }
+    ensures err { OnErr result (out.new.items ≡ out.old.items) }
 {
     let state = boxed_state_text(alloc, &transfer.state)?;
     put_transfer_with(out, transfer, &state)
@@ -206,7 +214,8 @@ fn put_transfer_with<'a>(
     state: &'a Option<Nested>,
 ) -> Result<(), AllocError>
     requires { option_map nested_view state.now ≡ spellings.state_text transfer.now.state }
-    ensures { OnOk result (out.new.items ≡ out.old.items ++ texts.described_text is.Transfer (spellings.transfer_texts transfer.now)) }
+    ensures ok { OnOk result (out.new.items ≡ out.old.items ++ texts.described_text is.Transfer (spellings.transfer_texts transfer.now)) }
+    ensures err { OnErr result (out.new.items ≡ out.old.items) }
 {
     put_described(out, Descriptor::Transfer, &transfer_fields(transfer, state))
 }
@@ -239,7 +248,8 @@ pub(crate) fn put_disposition(
     out: &mut Vec<u8>,
     disposition: &Disposition,
 ) -> Result<(), AllocError>
-    ensures { OnOk result (out.new.items ≡ out.old.items ++ texts.described_text is.Disposition (spellings.disposition_texts disposition.now)) }
+    ensures ok { OnOk result (out.new.items ≡ out.old.items ++ texts.described_text is.Disposition (spellings.disposition_texts disposition.now)) }
+    ensures err { OnErr result (out.new.items ≡ out.old.items) }
 {
     let state = state_text(alloc, &disposition.state)?;
     put_disposition_with(out, disposition, &state)
@@ -252,7 +262,8 @@ fn put_disposition_with<'a>(
     state: &'a Option<Nested>,
 ) -> Result<(), AllocError>
     requires { option_map nested_view state.now ≡ spellings.state_text disposition.now.state }
-    ensures { OnOk result (out.new.items ≡ out.old.items ++ texts.described_text is.Disposition (spellings.disposition_texts disposition.now)) }
+    ensures ok { OnOk result (out.new.items ≡ out.old.items ++ texts.described_text is.Disposition (spellings.disposition_texts disposition.now)) }
+    ensures err { OnErr result (out.new.items ≡ out.old.items) }
 {
     let fields = [
         Field::role(disposition.role),
@@ -270,7 +281,8 @@ pub(crate) fn put_detach(
     out: &mut Vec<u8>,
     detach: &Detach,
 ) -> Result<(), AllocError>
-    ensures { OnOk result (out.new.items ≡ out.old.items ++ texts.described_text is.Detach (spellings.detach_texts detach.now)) }
+    ensures ok { OnOk result (out.new.items ≡ out.old.items ++ texts.described_text is.Detach (spellings.detach_texts detach.now)) }
+    ensures err { OnErr result (out.new.items ≡ out.old.items) }
 {
     let error = error_text(alloc, &detach.error)?;
     let fields = [
@@ -282,7 +294,8 @@ pub(crate) fn put_detach(
 }
 
 pub(crate) fn put_end(alloc: Global, out: &mut Vec<u8>, end: &End) -> Result<(), AllocError>
-    ensures { OnOk result (out.new.items ≡ out.old.items ++ texts.described_text is.End (spellings.end_texts end.now)) }
+    ensures ok { OnOk result (out.new.items ≡ out.old.items ++ texts.described_text is.End (spellings.end_texts end.now)) }
+    ensures err { OnErr result (out.new.items ≡ out.old.items) }
 {
     let error = error_text(alloc, &end.error)?;
     let fields = [Field::spelt(&error)];
@@ -290,7 +303,8 @@ pub(crate) fn put_end(alloc: Global, out: &mut Vec<u8>, end: &End) -> Result<(),
 }
 
 pub(crate) fn put_close(alloc: Global, out: &mut Vec<u8>, close: &Close) -> Result<(), AllocError>
-    ensures { OnOk result (out.new.items ≡ out.old.items ++ texts.described_text is.Close (spellings.close_texts close.now)) }
+    ensures ok { OnOk result (out.new.items ≡ out.old.items ++ texts.described_text is.Close (spellings.close_texts close.now)) }
+    ensures err { OnErr result (out.new.items ≡ out.old.items) }
 {
     let error = error_text(alloc, &close.error)?;
     let fields = [Field::spelt(&error)];
@@ -302,7 +316,8 @@ pub(crate) fn put_sasl_mechanisms(
     out: &mut Vec<u8>,
     mechanisms: &SaslMechanisms,
 ) -> Result<(), AllocError>
-    ensures { OnOk result (out.new.items ≡ out.old.items ++ texts.described_text is.SaslMechanisms (spellings.sasl_mechanisms_texts mechanisms.now)) }
+    ensures ok { OnOk result (out.new.items ≡ out.old.items ++ texts.described_text is.SaslMechanisms (spellings.sasl_mechanisms_texts mechanisms.now)) }
+    ensures err { OnErr result (out.new.items ≡ out.old.items) }
 {
     let mechanisms = symbols_text(alloc, &mechanisms.mechanisms)?;
     let fields = [Field::spelt(&mechanisms)];
@@ -310,7 +325,8 @@ pub(crate) fn put_sasl_mechanisms(
 }
 
 pub(crate) fn put_sasl_init(out: &mut Vec<u8>, init: &SaslInit) -> Result<(), AllocError>
-    ensures { OnOk result (out.new.items ≡ out.old.items ++ texts.described_text is.SaslInit (spellings.sasl_init_texts init.now)) }
+    ensures ok { OnOk result (out.new.items ≡ out.old.items ++ texts.described_text is.SaslInit (spellings.sasl_init_texts init.now)) }
+    ensures err { OnErr result (out.new.items ≡ out.old.items) }
 {
     let fields = [
         Field::Plain(Plain::Symbol(init.mechanism.as_str())),
@@ -324,7 +340,8 @@ pub(crate) fn put_sasl_challenge(
     out: &mut Vec<u8>,
     challenge: &SaslChallenge,
 ) -> Result<(), AllocError>
-    ensures { OnOk result (out.new.items ≡ out.old.items ++ texts.described_text is.SaslChallenge (spellings.sasl_challenge_texts challenge.now)) }
+    ensures ok { OnOk result (out.new.items ≡ out.old.items ++ texts.described_text is.SaslChallenge (spellings.sasl_challenge_texts challenge.now)) }
+    ensures err { OnErr result (out.new.items ≡ out.old.items) }
 {
     let fields = [Field::Plain(Plain::Binary(challenge.challenge.as_slice()))];
     put_described(out, Descriptor::SaslChallenge, &fields)
@@ -334,14 +351,16 @@ pub(crate) fn put_sasl_response(
     out: &mut Vec<u8>,
     response: &SaslResponse,
 ) -> Result<(), AllocError>
-    ensures { OnOk result (out.new.items ≡ out.old.items ++ texts.described_text is.SaslResponse (spellings.sasl_response_texts response.now)) }
+    ensures ok { OnOk result (out.new.items ≡ out.old.items ++ texts.described_text is.SaslResponse (spellings.sasl_response_texts response.now)) }
+    ensures err { OnErr result (out.new.items ≡ out.old.items) }
 {
     let fields = [Field::Plain(Plain::Binary(response.response.as_slice()))];
     put_described(out, Descriptor::SaslResponse, &fields)
 }
 
 pub(crate) fn put_sasl_outcome(out: &mut Vec<u8>, outcome: &SaslOutcome) -> Result<(), AllocError>
-    ensures { OnOk result (out.new.items ≡ out.old.items ++ texts.described_text is.SaslOutcome (spellings.sasl_outcome_texts outcome.now)) }
+    ensures ok { OnOk result (out.new.items ≡ out.old.items ++ texts.described_text is.SaslOutcome (spellings.sasl_outcome_texts outcome.now)) }
+    ensures err { OnErr result (out.new.items ≡ out.old.items) }
 {
     let fields = [
         Field::Plain(Plain::Ubyte(outcome.code)),

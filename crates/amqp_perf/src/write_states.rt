@@ -24,7 +24,8 @@ pub(crate) enum Nested {
 }
 
 fn put_error(out: &mut Vec<u8>, fault: &Fault) -> Result<(), AllocError>
-    ensures { OnOk result (out.new.items ≡ out.old.items ++ texts.described_text is.Error (spellings.error_texts fault.now)) }
+    ensures ok { OnOk result (out.new.items ≡ out.old.items ++ texts.described_text is.Error (spellings.error_texts fault.now)) }
+    ensures err { OnErr result (out.new.items ≡ out.old.items) }
 {
     let fields = [
         Field::Plain(Plain::Symbol(fault.condition.as_str())),
@@ -35,7 +36,8 @@ fn put_error(out: &mut Vec<u8>, fault: &Fault) -> Result<(), AllocError>
 }
 
 fn put_received(out: &mut Vec<u8>, received: &Received) -> Result<(), AllocError>
-    ensures { OnOk result (out.new.items ≡ out.old.items ++ texts.described_text is.Received (spellings.received_texts received.now)) }
+    ensures ok { OnOk result (out.new.items ≡ out.old.items ++ texts.described_text is.Received (spellings.received_texts received.now)) }
+    ensures err { OnErr result (out.new.items ≡ out.old.items) }
 {
     let fields = [
         Field::Plain(Plain::Uint(received.section_number)),
@@ -45,7 +47,8 @@ fn put_received(out: &mut Vec<u8>, received: &Received) -> Result<(), AllocError
 }
 
 fn put_rejected(alloc: Global, out: &mut Vec<u8>, rejected: &Rejected) -> Result<(), AllocError>
-    ensures { OnOk result (out.new.items ≡ out.old.items ++ texts.described_text is.Rejected (spellings.rejected_texts rejected.now)) }
+    ensures ok { OnOk result (out.new.items ≡ out.old.items ++ texts.described_text is.Rejected (spellings.rejected_texts rejected.now)) }
+    ensures err { OnErr result (out.new.items ≡ out.old.items) }
 {
     let error = error_text(alloc, &rejected.error)?;
     let fields = [Field::spelt(&error)];
@@ -53,7 +56,8 @@ fn put_rejected(alloc: Global, out: &mut Vec<u8>, rejected: &Rejected) -> Result
 }
 
 fn put_modified(out: &mut Vec<u8>, modified: &Modified) -> Result<(), AllocError>
-    ensures { OnOk result (out.new.items ≡ out.old.items ++ texts.described_text is.Modified (spellings.modified_texts modified.now)) }
+    ensures ok { OnOk result (out.new.items ≡ out.old.items ++ texts.described_text is.Modified (spellings.modified_texts modified.now)) }
+    ensures err { OnErr result (out.new.items ≡ out.old.items) }
 {
     let fields = [
         Field::flag(modified.delivery_failed),
@@ -87,7 +91,8 @@ pub(crate) fn put_state(
     out: &mut Vec<u8>,
     state: &DeliveryState,
 ) -> Result<(), AllocError>
-    ensures { OnOk result (out.new.items ≡ out.old.items ++ spellings.state_spelling state.now) }
+    ensures ok { OnOk result (out.new.items ≡ out.old.items ++ spellings.state_spelling state.now) }
+    ensures err { OnErr result (out.new.items ≡ out.old.items) }
 {
     match state {
         DeliveryState::Received(received) => put_received(out, received),

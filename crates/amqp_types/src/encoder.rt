@@ -1,6 +1,6 @@
 //! Encoding values: each in its one canonical encoding.
 
-ghost use Rattle.std.specs.Prelude.{◌≡◌, ◌++◌, ◌∷◌, [], ◌*◌, OnOk, OnErr, IfOk};
+ghost use Rattle.std.specs.Prelude.{◌≡◌, ◌++◌, ◌∷◌, [], ◌*◌, length, take, OnOk, OnErr, IfOk};
 ghost use Rattle.amqp_model.specs.Data as d;
 ghost use Rattle.amqp_model.specs.View.{view, items_view, pairs_view, plain_view};
 ghost use Rattle.amqp_types.specs.Pieces.{pieces_view};
@@ -174,7 +174,8 @@ fn put_piece(alloc: Global, all: &mut Pieces, value: &Value) -> Result<(), Alloc
 #[inline(always)]
 #[tactic(auto, unfolding(amqp_model::specs::ValueSpelling::spelling))]
 pub fn put_plain(out: &mut Vec<u8>, plain: Plain<'_>) -> Result<(), AllocError>
-    ensures { OnOk result (out.new.items ≡ out.old.items ++ spelling (plain_view plain.entry)) }
+    ensures ok { OnOk result (out.new.items ≡ out.old.items ++ spelling (plain_view plain.entry)) }
+    ensures kept { OnErr result (take (length out.old.items) out.new.items ≡ out.old.items) }
 {
     match plain {
         Plain::Null => put_code(out, 0x40),
@@ -204,7 +205,8 @@ pub fn put_plain(out: &mut Vec<u8>, plain: Plain<'_>) -> Result<(), AllocError>
 
 #[inline(always)]
 fn put_code(out: &mut Vec<u8>, code: u8) -> Result<(), AllocError>
-    ensures { OnOk result (out.new.items ≡ out.old.items ++ code ∷ []) }
+    ensures ok { OnOk result (out.new.items ≡ out.old.items ++ code ∷ []) }
+    ensures kept { OnErr result (take (length out.old.items) out.new.items ≡ out.old.items) }
 {
     out.push(code)?;
     Ok(())
@@ -212,7 +214,8 @@ fn put_code(out: &mut Vec<u8>, code: u8) -> Result<(), AllocError>
 
 #[inline(always)]
 fn put_bytes(out: &mut Vec<u8>, code: u8, bytes: &[u8]) -> Result<(), AllocError>
-    ensures { OnOk result (out.new.items ≡ out.old.items ++ code ∷ bytes.now) }
+    ensures ok { OnOk result (out.new.items ≡ out.old.items ++ code ∷ bytes.now) }
+    ensures kept { OnErr result (take (length out.old.items) out.new.items ≡ out.old.items) }
 {
     out.push(code)?;
     out.extend_from_slice(bytes)
@@ -221,7 +224,8 @@ fn put_bytes(out: &mut Vec<u8>, code: u8, bytes: &[u8]) -> Result<(), AllocError
 #[inline(always)]
 #[tactic(auto, unfolding(amqp_model::specs::ValueSpelling::spelling))]
 fn put_uint(out: &mut Vec<u8>, number: u32) -> Result<(), AllocError>
-    ensures { OnOk result (out.new.items ≡ out.old.items ++ spelling (d.uint number)) }
+    ensures ok { OnOk result (out.new.items ≡ out.old.items ++ spelling (d.uint number)) }
+    ensures kept { OnErr result (take (length out.old.items) out.new.items ≡ out.old.items) }
 {
     if number == 0 {
         put_code(out, 0x43)
@@ -235,7 +239,8 @@ fn put_uint(out: &mut Vec<u8>, number: u32) -> Result<(), AllocError>
 #[inline(always)]
 #[tactic(auto, unfolding(amqp_model::specs::ValueSpelling::spelling))]
 fn put_ulong(out: &mut Vec<u8>, number: u64) -> Result<(), AllocError>
-    ensures { OnOk result (out.new.items ≡ out.old.items ++ spelling (d.ulong number)) }
+    ensures ok { OnOk result (out.new.items ≡ out.old.items ++ spelling (d.ulong number)) }
+    ensures kept { OnErr result (take (length out.old.items) out.new.items ≡ out.old.items) }
 {
     if number == 0 {
         put_code(out, 0x44)
@@ -249,7 +254,8 @@ fn put_ulong(out: &mut Vec<u8>, number: u64) -> Result<(), AllocError>
 #[inline(always)]
 #[tactic(auto, unfolding(amqp_model::specs::ValueSpelling::spelling))]
 fn put_int(out: &mut Vec<u8>, number: i32) -> Result<(), AllocError>
-    ensures { OnOk result (out.new.items ≡ out.old.items ++ spelling (d.int number)) }
+    ensures ok { OnOk result (out.new.items ≡ out.old.items ++ spelling (d.int number)) }
+    ensures kept { OnErr result (take (length out.old.items) out.new.items ≡ out.old.items) }
 {
     if -128 <= number && number <= 127 {
         put_bytes(out, 0x54, &[(number as i8).cast_unsigned()])
@@ -261,7 +267,8 @@ fn put_int(out: &mut Vec<u8>, number: i32) -> Result<(), AllocError>
 #[inline(always)]
 #[tactic(auto, unfolding(amqp_model::specs::ValueSpelling::spelling))]
 fn put_long(out: &mut Vec<u8>, number: i64) -> Result<(), AllocError>
-    ensures { OnOk result (out.new.items ≡ out.old.items ++ spelling (d.long number)) }
+    ensures ok { OnOk result (out.new.items ≡ out.old.items ++ spelling (d.long number)) }
+    ensures kept { OnErr result (take (length out.old.items) out.new.items ≡ out.old.items) }
 {
     if -128 <= number && number <= 127 {
         put_bytes(out, 0x55, &[(number as i8).cast_unsigned()])
@@ -272,7 +279,8 @@ fn put_long(out: &mut Vec<u8>, number: i64) -> Result<(), AllocError>
 
 #[inline(always)]
 fn put_sized(out: &mut Vec<u8>, kind: Kind, bytes: &[u8]) -> Result<(), AllocError>
-    ensures { OnOk result (out.new.items ≡ out.old.items ++ constructed kind (sized_piece bytes.now)) }
+    ensures ok { OnOk result (out.new.items ≡ out.old.items ++ constructed kind (sized_piece bytes.now)) }
+    ensures kept { OnErr result (take (length out.old.items) out.new.items ≡ out.old.items) }
 {
     let Ok(size) = u32::try_from(bytes.len()) else {
         return Err(AllocError);
