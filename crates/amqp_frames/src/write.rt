@@ -1,9 +1,10 @@
 //! Writes items.
-ghost use Rattle.std.specs.Prelude.{◌≡◌, ◌++◌, length, take, OnOk, OnErr};
-ghost use Rattle.amqp_model.specs.ItemSpelling.{head_spelling, item_spelling};
+ghost use Rattle.std.specs.Prelude.{◌≡◌, ◌++◌, length, take, IfOk, OnOk, OnErr};
+ghost use Rattle.amqp_model.specs.PerfSpelling.{spelling};
+ghost use Rattle.amqp_model.specs.ItemSpelling.{frame_spelling, head_spelling, item_spelling};
 
 use crate::extent::MIN_SIZE;
-use amqp_model::Item;
+use amqp_model::{Item, Perf};
 use amqp_perf::write_perf;
 use std::alloc::{AllocError, Global};
 
@@ -45,22 +46,38 @@ fn put_item(alloc: Global, item: &Item, out: &mut Vec<u8>) -> Result<(), AllocEr
             channel,
             perf,
             payload,
-        } => {
-            let mut body = Vec::new(alloc);
-            write_perf(alloc, perf, &mut body)?;
-            put_head(out, *sasl, *channel, body.len() + payload.len())?;
-            out.extend_from_slice(body.as_slice())?;
-            out.extend_from_slice(payload.as_slice())
-        }
-        Item::Beat { channel } => put_head(out, false, *channel, 0),
+        } => put_frame(alloc, out, *sasl, *channel, perf, payload.as_slice()),
+        Item::Beat { channel } => out.extend_from_slice(&head(false, *channel, 0)?),
         Item::Bad(_) => Ok(()),
     }
 }
 
-/// Appends what stands before a body of this length.
-fn put_head(out: &mut Vec<u8>, sasl: bool, channel: u16, len: usize) -> Result<(), AllocError>
-    ensures ok { OnOk result (out.new.items ≡ out.old.items ++ head_spelling sasl channel len) }
-    ensures err { OnErr result (out.new.items ≡ out.old.items) }
+/// Appends a frame with this body, or a beginning of it. Room for its head is left before the body, and filled in once
+/// the body's length is known, so that nothing is written twice.
+fn put_frame(
+    alloc: Global,
+    out: &mut Vec<u8>,
+    sasl: bool,
+    channel: u16,
+    perf: &Perf,
+    payload: &[u8],
+) -> Result<(), AllocError>
+    ensures ok { OnOk result (out.new.items ≡ out.old.items ++ frame_spelling sasl channel (spelling perf.now ++ payload.now)) }
+    ensures kept { OnErr result (take (length out.old.items) out.new.items ≡ out.old.items) }
+{
+    let start = out.len();
+    out.extend_from_slice(&[0; MIN_SIZE])?;
+    write_perf(alloc, perf, out)?;
+    out.extend_from_slice(payload)?;
+    let body = start + MIN_SIZE;
+    let head = head(sasl, channel, out.len() - body)?;
+    out[start..body].copy_from_slice(&head);
+    Ok(())
+}
+
+/// What stands before a body of this length.
+fn head(sasl: bool, channel: u16, len: usize) -> Result<[u8; MIN_SIZE], AllocError>
+    ensures { IfOk result (λ head. head ≡ head_spelling sasl channel len) }
 {
     let Ok(size) = u32::try_from(len.saturating_add(MIN_SIZE)) else {
         return Err(AllocError);
@@ -68,5 +85,5 @@ fn put_head(out: &mut Vec<u8>, sasl: bool, channel: u16, len: usize) -> Result<(
     let channel = if sasl { 0 } else { channel };
     let [a, b, c, d] = size.to_be_bytes();
     let [high, low] = channel.to_be_bytes();
-    out.extend_from_slice(&[a, b, c, d, 2, u8::from(sasl), high, low])
+    Ok([a, b, c, d, 2, u8::from(sasl), high, low])
 }
