@@ -1,5 +1,5 @@
 -- Fields of a list that is written.
-use Rattle.std.proofs.Common.{◌≡◌, ℕ, ◌+◌, ◌<◌, true, false, List, [], ◌∷◌, ◌++◌, length, take, drop, get_or, Some, None, is_none, refl, sym, ap, ◌∙◌, append_assoc, true≢false, arith}
+use Rattle.std.proofs.Common.{◌≡◌, ℕ, ◌+◌, ◌<◌, true, false, List, [], ◌∷◌, ◌++◌, length, take, drop, get_or, Some, None, is_none, refl, sym, ap, ◌∙◌, append_assoc, true≢false, arith, Result, Ok, Err, OnErr}
 use Rattle.std.proofs.Math.Seq.{take-append_seam}
 use Rattle.std.proofs.lemmas.List.{append-nil, take_more, take-append-drop}
 use Rattle.amqp_perf.specs.declared.text.Field.{Field}
@@ -70,3 +70,15 @@ pub still_kept : (old mid new more : List ℕ) → mid ≡ old ++ more → take 
 still_kept old mid new more is kept =
     ap (take (length old)) (sym (take-append-drop (length mid) new) ∙ ap (λ l. l ++ drop (length mid) new) (kept ∙ is) ∙ append_assoc old more (drop (length mid) new))
     ∙ take-append_seam old (more ++ drop (length mid) new)
+
+pub on_err : {X Y : Type 0} (r : Result X Y) (P : Type 0) → P → OnErr r P
+on_err (Ok x) P p = tt
+on_err (Err y) P p = p
+
+pub kept_on : (old mid new : List ℕ) → take (length old) mid ≡ old → take (length mid) new ≡ mid → take (length old) new ≡ old
+kept_on old mid new first second =
+    still_kept old mid new (drop (length old) mid) (sym (take-append-drop (length old) mid) ∙ ap (λ l. l ++ drop (length old) mid) first) second
+
+pub on_err_map : {X Y : Type 0} (r : Result X Y) (P Q : Type 0) → (P → Q) → OnErr r P → OnErr r Q
+on_err_map (Ok x) P Q f is = tt
+on_err_map (Err y) P Q f is = f is

@@ -1,6 +1,7 @@
 //! Writing a described list from a slice of its fields, each in its canonical encoding and without the nulls at the end.
 ghost use Rattle.std.specs.Prelude.{◌≡◌, ◌+◌, ◌-◌, ◌^◌, ◌<◌, ◌&&◌, ◌++◌, ◌∷◌, nat_lt, ℕ, List, [], length, min, take, is_none, option_map, IfOk, OnOk, OnErr};
 ghost use Rattle.amqp_model.specs.Data as d;
+ghost use Rattle.amqp_model.specs.Descriptors.{code_of};
 ghost use Rattle.amqp_model.specs.View.{items_view};
 ghost use Rattle.amqp_model.specs.ValueSpelling.{list_text, wide_sizes};
 ghost use Rattle.amqp_model.specs.Texts as texts;
@@ -285,6 +286,7 @@ fn put_long_head(out: &mut Vec<u8>, count: usize, len: usize) -> Result<(), Allo
 fn put_list_head(out: &mut Vec<u8>, count: usize, len: usize) -> Result<(), AllocError>
     ensures ok { OnOk result ((values : List ℕ) → len ≡ min (length values) (2 ^ 64 - 1) → (count ≡ 0 → values ≡ []) → out.new.items ++ values ≡ out.old.items ++ list_text count values) }
     ensures kept { OnErr result (take (length out.old.items) out.new.items ≡ out.old.items) }
+    ensures begun { OnOk result (take (length out.old.items) out.new.items ≡ out.old.items) }
 {
     if count == 0 {
         return out.push(0x45).map_err(|_| AllocError);

@@ -4,8 +4,8 @@ use Rattle.amqp_model.specs.declared.descriptor.Descriptor.TheVariants as is
 use Rattle.amqp_model.specs.Texts.{FieldText, described_text, spelt}
 use Rattle.amqp_perf.proofs.write_perfs.put_attach_with.Goals as goal
 
-pub returns-ok : goal.returns-ok
-returns-ok c =
+pub returns-clause-ok : goal.returns-clause-ok
+returns-clause-ok c =
     subst (λ (fs : List FieldText). OnOk c.put_described.result (c.put_described.new.out.items ≡ c.args.out.now.items ++ described_text is.Attach fs))
     (λ i. spelt (d.string (c.as_str.ensures i)) ∷ spelt (d.uint c.args.attach.now.handle) ∷ c.role.ensures i ∷ c.ubyte_unless.ensures i ∷ c.ubyte_unless-2.ensures i
     ∷ (c.spelt.ensures ∙ c.requires.source) i ∷ (c.spelt-2.ensures ∙ c.requires.target) i ∷ (c.spelt-3.ensures ∙ c.requires.unsettled) i
