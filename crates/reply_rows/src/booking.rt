@@ -1,5 +1,5 @@
 //! Durable links and the book of durable deliveries: why a link, or a delivery on one, that its row would take is refused after all.
-ghost use Rattle.std.specs.Prelude.{◌≡◌, ◌||◌, ◌&&◌, [], List, not, option_map, unwrap_or, IfOk};
+ghost use Rattle.std.specs.Prelude.{◌≡◌, ◌||◌, ◌&&◌, [], List, not, option_map, unwrap_or, ℕ, IfOk};
 ghost use Rattle.std.specs.Option.{option_copied};
 ghost use Rattle.router_trace.specs.Trace.{Entry};
 ghost use Rattle.router_trace.specs.LinkFrames.{other};
@@ -17,8 +17,8 @@ use amqp_link::Delivery;
 use amqp_model::{Attach, DeliveryTag, Role, Text, Transfer};
 use book_core::Book;
 use book_model::{LinkKey, LinkRole, Terminus};
-use router_state::State;
-use router_trace::{Condition, is_durable};
+use router_state::{LinkPlace, State};
+use router_trace::{Condition, ConnectionId, is_durable};
 use state_links::address_by;
 use std::alloc::{AllocError, Global};
 
@@ -197,36 +197,31 @@ fn stands_from(book: &Book, terminus: Option<&Terminus>, tag: &DeliveryTag) -> b
 fn repeats_tag(
     state: &State,
     book: &Book,
-    conn: u64,
-    own: u16,
-    handle: u32,
+    at: LinkPlace,
     resume: bool,
     key: &LinkKey,
     tag: &DeliveryTag,
 ) -> bool
-    ensures { (t : List Entry) → TablesFind state.now t → result ≡ repeats_tag book.now t conn own handle resume key.now tag.now.items }
+    ensures { (t : List Entry) → TablesFind state.now t → result ≡ repeats_tag book.now t at.conn.0 at.own at.handle resume key.now tag.now.items }
 {
-    state.uses_tag(conn, own, handle, tag.as_slice())
-        || (!resume && stands_from(book, book.terminus_of(key), tag))
+    state.uses_tag(at, tag.as_slice()) || (!resume && stands_from(book, book.terminus_of(key), tag))
 }
 
 /// The same of the link with this key, if it is durable, and the tag, if there is one.
 fn repeats(
     state: &State,
     book: &Book,
-    conn: u64,
-    own: u16,
-    handle: u32,
+    at: LinkPlace,
     key: Option<&LinkKey>,
     transfer: &Transfer,
 ) -> bool
-    ensures { (t : List Entry) → TablesFind state.now t → result ≡ repeats book.now t conn own handle transfer.now.resume (option_map (λ k. k.now) key.entry) (tag_in transfer.now) }
+    ensures { (t : List Entry) → TablesFind state.now t → result ≡ repeats book.now t at.conn.0 at.own at.handle transfer.now.resume (option_map (λ k. k.now) key.entry) (tag_in transfer.now) }
 {
     match key {
         None => false,
         Some(key) => match &transfer.delivery_tag {
             None => false,
-            Some(tag) => { repeats_tag(state, book, conn, own, handle, transfer.resume, key, tag) }
+            Some(tag) => { repeats_tag(state, book, at, transfer.resume, key, tag) }
         },
     }
 }
@@ -236,16 +231,14 @@ fn repeats(
 fn starts_again(
     state: &State,
     book: &Book,
-    conn: u64,
-    own: u16,
-    handle: u32,
+    at: LinkPlace,
     middle: Option<&Delivery>,
     key: Option<&LinkKey>,
     transfer: &Transfer,
 ) -> bool
-    ensures { (t : List Entry) → TablesFind state.now t → result ≡ starts_again book.now t conn own handle (option_map (λ d. d.now) middle.entry) (option_map (λ k. k.now) key.entry) transfer.now }
+    ensures { (t : List Entry) → TablesFind state.now t → result ≡ starts_again book.now t at.conn.0 at.own at.handle (option_map (λ d. d.now) middle.entry) (option_map (λ k. k.now) key.entry) transfer.now }
 {
-    middle.is_none() && repeats(state, book, conn, own, handle, key, transfer)
+    middle.is_none() && repeats(state, book, at, key, transfer)
 }
 
 /// The answer to a transfer on a session whose row gave this one, on a link with this delivery in the middle, and with this key if it is durable: if
@@ -255,21 +248,21 @@ pub(crate) fn booked_transfer(
     state: &State,
     book: &Book,
     conn: u64,
-    own: u16,
     middle: Option<&Delivery>,
     key: Option<&LinkKey>,
     transfer: &Transfer,
     answer: Answer,
 ) -> Answer
-    ensures { (t : List Entry) → TablesFind state.now t → TakesOn own (link_place t conn own transfer.now.handle) answer
-        → option_map (λ d. d.now) middle.entry ≡ middle_on (link_place t conn own transfer.now.handle)
-        → option_map (λ k. k.now) key.entry ≡ key_on (link_place t conn own transfer.now.handle)
+    ensures { (t : List Entry) (on : ℕ) → TablesFind state.now t → TakesOn on (link_place t conn on transfer.now.handle) answer
+        → option_map (λ d. d.now) middle.entry ≡ middle_on (link_place t conn on transfer.now.handle)
+        → option_map (λ k. k.now) key.entry ≡ key_on (link_place t conn on transfer.now.handle)
         → result ≡ booked_transfer book.now t conn transfer.now answer }
 {
     let Answer::Taken { own, handle } = answer else {
         return answer;
     };
-    if starts_again(state, book, conn, own, handle, middle, key, transfer) {
+    let at = LinkPlace::new(ConnectionId(conn), own, handle);
+    if starts_again(state, book, at, middle, key, transfer) {
         return Answer::Detach {
             own,
             handle,

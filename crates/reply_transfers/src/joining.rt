@@ -8,7 +8,8 @@ ghost use Rattle.reply_transfers.specs.Joining.{named_row, row_joined, row_claim
 use amqp_model::DeliveryTag;
 use book_core::Book;
 use book_model::{LinkKey, Row, Terminus};
-use router_state::State;
+use router_state::{LinkPlace, State};
+use router_trace::ConnectionId;
 use state_unsettled::IncomingDelivery;
 
 /// The unforgotten row of a terminus with this tag.
@@ -52,7 +53,8 @@ fn row_claimed<'a>(
     match claim {
         None => None,
         Some(claim) => {
-            let key = state.durable_key(conn, own, claim.handle);
+            let at = LinkPlace::new(ConnectionId(conn), own, claim.handle);
+            let key = state.durable_key(at);
             row_joined(book, key, claim.tag.as_ref())
         }
     }

@@ -18,7 +18,7 @@ use book_core::Book;
 use book_model::{Row, RowNumber};
 use bytes::Bytes;
 use reply_frames::outcome_item;
-use router_state::State;
+use router_state::{LinkPlace, State};
 use router_trace::{Attachment, Condition, Holding, Origin, RouterId};
 use std::alloc::AllocError;
 
@@ -26,11 +26,11 @@ use std::alloc::AllocError;
 pub const UNBOUND: usize = 1024;
 
 /// The delivery's id, if its producer hasn't settled it.
-pub fn claimed_id(state: &State, conn: u64, own: u16, handle: u32, id: Option<u32>) -> Option<u32>
-    ensures { (t : List Entry) → TablesFit state.now t → result ≡ claimed_id t conn own handle id }
+pub fn claimed_id(state: &State, at: LinkPlace, id: Option<u32>) -> Option<u32>
+    ensures { (t : List Entry) → TablesFit state.now t → result ≡ claimed_id t at.conn.0 at.own at.handle id }
 {
     let id = id?;
-    if state.is_claimed_on(conn, own, handle, id) {
+    if state.is_claimed_on(at, id) {
         Some(id)
     } else {
         None
@@ -79,54 +79,43 @@ fn put_outcome(
 fn let_go(
     state: &mut State,
     id: &RouterId,
-    conn: u64,
-    own: u16,
-    handle: u32,
+    at: LinkPlace,
     error: Condition,
 ) -> Result<(), AllocError>
-    ensures { OnOk result ((t : List Entry) → TablesFit state.old t → TablesFit state.new (puts conn (let_go t conn own handle error) t)) }
+    ensures { OnOk result ((t : List Entry) → TablesFit state.old t → TablesFit state.new (puts at.conn.0 (let_go t at.conn.0 at.own at.handle error) t)) }
 {
-    let closed = !state.is_durable(conn, own, handle);
-    let item = id.detach_item(own, handle, closed, Some(error))?;
-    state.put(conn, item)?;
+    let closed = !state.is_durable(at);
+    let item = id.detach_item(at.own, at.handle, closed, Some(error))?;
+    state.put(at.conn.0, item)?;
     Ok(())
 }
 
 /// Whether a link has more unsettled deliveries that are bound to no consumer than the router allows.
-fn has_many(state: &State, conn: u64, own: u16, handle: u32) -> bool
-    ensures { (t : List Entry) → TablesFit state.now t → result ≡ nat_lt 1024 (unbound t conn own handle) }
+fn has_many(state: &State, at: LinkPlace) -> bool
+    ensures { (t : List Entry) → TablesFit state.now t → result ≡ nat_lt 1024 (unbound t at.conn.0 at.own at.handle) }
 {
-    state.unbound(conn, own, handle) > UNBOUND
+    state.unbound(at) > UNBOUND
 }
 
 /// Releases a delivery of a durable link: its producer settles it.
 fn release_unsettled(
     state: &mut State,
     id: &RouterId,
-    conn: u64,
-    own: u16,
-    handle: u32,
+    at: LinkPlace,
     delivery: u32,
 ) -> Result<(), AllocError>
-    ensures { OnOk result ((t : List Entry) → TablesFit state.old t → TablesFit state.new (puts conn (released_by t conn own handle true delivery) t)) }
+    ensures { OnOk result ((t : List Entry) → TablesFit state.old t → TablesFit state.new (puts at.conn.0 (released_by t at.conn.0 at.own at.handle true delivery) t)) }
 {
-    if has_many(state, conn, own, handle) {
-        let_go(
-            state,
-            id,
-            conn,
-            own,
-            handle,
-            Condition::ResourceLimitExceeded,
-        )?;
+    if has_many(state, at) {
+        let_go(state, id, at, Condition::ResourceLimitExceeded)?;
         return Ok(());
     }
     let outcome = DeliveryState::Released;
     put_outcome(
         state,
         id,
-        conn,
-        own,
+        at.conn.0,
+        at.own,
         Role::Receiver,
         delivery,
         false,
@@ -139,26 +128,24 @@ fn release_unsettled(
 fn release(
     state: &mut State,
     id: &RouterId,
-    conn: u64,
-    own: u16,
-    handle: u32,
+    at: LinkPlace,
     claimed: Option<u32>,
 ) -> Result<(), AllocError>
-    ensures { OnOk result ((t : List Entry) → TablesFit state.old t → TablesFit state.new (puts conn (released t conn own handle claimed) t)) }
+    ensures { OnOk result ((t : List Entry) → TablesFit state.old t → TablesFit state.new (puts at.conn.0 (released t at.conn.0 at.own at.handle claimed) t)) }
 {
     let Some(delivery) = claimed else {
         return Ok(());
     };
-    if state.is_durable(conn, own, handle) {
-        release_unsettled(state, id, conn, own, handle, delivery)?;
+    if state.is_durable(at) {
+        release_unsettled(state, id, at, delivery)?;
         return Ok(());
     }
     let outcome = DeliveryState::Released;
     put_outcome(
         state,
         id,
-        conn,
-        own,
+        at.conn.0,
+        at.own,
         Role::Receiver,
         delivery,
         true,
@@ -171,27 +158,18 @@ fn release(
 fn ignore(
     state: &mut State,
     id: &RouterId,
-    conn: u64,
-    own: u16,
-    handle: u32,
+    at: LinkPlace,
     claimed: Option<u32>,
 ) -> Result<(), AllocError>
-    ensures { OnOk result ((t : List Entry) → TablesFit state.old t → TablesFit state.new (puts conn (ignored_put t conn own handle claimed) t)) }
+    ensures { OnOk result ((t : List Entry) → TablesFit state.old t → TablesFit state.new (puts at.conn.0 (ignored_put t at.conn.0 at.own at.handle claimed) t)) }
 {
     if claimed.is_none() {
         return Ok(());
     }
-    if !has_many(state, conn, own, handle) {
+    if !has_many(state, at) {
         return Ok(());
     }
-    let_go(
-        state,
-        id,
-        conn,
-        own,
-        handle,
-        Condition::ResourceLimitExceeded,
-    )?;
+    let_go(state, id, at, Condition::ResourceLimitExceeded)?;
     Ok(())
 }
 
@@ -212,7 +190,7 @@ fn bind(
     if chosen {
         return Ok(());
     }
-    release(state, id, from.conn.0, from.channel, from.handle, claimed)?;
+    release(state, id, LinkPlace::of(from), claimed)?;
     Ok(())
 }
 
@@ -220,25 +198,23 @@ fn bind(
 fn pass_fresh(
     state: &mut State,
     id: &RouterId,
-    conn: u64,
-    own: u16,
-    handle: u32,
+    at: LinkPlace,
     delivery: &Delivery,
     row: Option<RowNumber>,
     payload: Bytes,
 ) -> Result<(), AllocError>
-    ensures { OnOk result ((t : List Entry) → TablesFit state.old t → TablesFit state.new (puts conn (unbound_put t conn own handle (claimed_id t conn own handle delivery.now.id) (consumer_for t conn own handle delivery.now row))
-        (with_bound (fresh_bound t conn own handle delivery.now row payload (link t conn own handle)) t))) }
+    ensures { OnOk result ((t : List Entry) → TablesFit state.old t → TablesFit state.new (puts at.conn.0 (unbound_put t at.conn.0 at.own at.handle (claimed_id t at.conn.0 at.own at.handle delivery.now.id) (consumer_for t at.conn.0 at.own at.handle delivery.now row))
+        (with_bound (fresh_bound t at.conn.0 at.own at.handle delivery.now row payload (link t at.conn.0 at.own at.handle)) t))) }
 {
-    let claimed = claimed_id(state, conn, own, handle, delivery.id);
-    if !may_pass(state.is_durable(conn, own, handle), claimed, row) {
+    let claimed = claimed_id(state, at, delivery.id);
+    if !may_pass(state.is_durable(at), claimed, row) {
         drop(payload);
-        release(state, id, conn, own, handle, claimed)?;
+        release(state, id, at, claimed)?;
         return Ok(());
     }
-    let Some(from) = state.attachment(conn, own, handle) else {
+    let Some(from) = state.attachment(at) else {
         drop(payload);
-        release(state, id, conn, own, handle, claimed)?;
+        release(state, id, at, claimed)?;
         return Ok(());
     };
     let format = delivery.format.unwrap_or(0);
@@ -247,17 +223,10 @@ fn pass_fresh(
 }
 
 /// A resumed delivery joins a row: from now on the row's outcome is reported to it.
-fn join(
-    state: &mut State,
-    conn: u64,
-    own: u16,
-    handle: u32,
-    delivery: u32,
-    row: &Row,
-) -> Result<(), AllocError>
-    ensures { OnOk result ((t : List Entry) → TablesFit state.old t → TablesFit state.new (with_bound (joined_on t conn own handle delivery row.now (link t conn own handle)) t)) }
+fn join(state: &mut State, at: LinkPlace, delivery: u32, row: &Row) -> Result<(), AllocError>
+    ensures { OnOk result ((t : List Entry) → TablesFit state.old t → TablesFit state.new (with_bound (joined_on t at.conn.0 at.own at.handle delivery row.now (link t at.conn.0 at.own at.handle)) t)) }
 {
-    match state.attachment(conn, own, handle) {
+    match state.attachment(at) {
         None => Ok(()),
         Some(link) => {
             let holding = Holding::Resumed(Origin { link, id: delivery });
@@ -271,20 +240,18 @@ fn pass_resumed(
     state: &mut State,
     id: &RouterId,
     book: &Book,
-    conn: u64,
-    own: u16,
-    handle: u32,
+    at: LinkPlace,
     claimed: Option<u32>,
 ) -> Result<(), AllocError>
-    ensures { OnOk result ((t : List Entry) → TablesFit state.old t → TablesFit state.new (puts conn (resumed_put book.now t conn own handle claimed)
-        (with_bound (resumed_bound book.now t conn own handle claimed (link t conn own handle)) t))) }
+    ensures { OnOk result ((t : List Entry) → TablesFit state.old t → TablesFit state.new (puts at.conn.0 (resumed_put book.now t at.conn.0 at.own at.handle claimed)
+        (with_bound (resumed_bound book.now t at.conn.0 at.own at.handle claimed (link t at.conn.0 at.own at.handle)) t))) }
 {
     let Some(delivery) = claimed else {
         return Ok(());
     };
-    match row_under(state, book, conn, own, delivery) {
-        None => ignore(state, id, conn, own, handle, claimed),
-        Some(row) => join(state, conn, own, handle, delivery, row),
+    match row_under(state, book, at.conn.0, at.own, delivery) {
+        None => ignore(state, id, at, claimed),
+        Some(row) => join(state, at, delivery, row),
     }
 }
 
@@ -293,23 +260,21 @@ fn pass_whole(
     state: &mut State,
     id: &RouterId,
     book: &Book,
-    conn: u64,
-    own: u16,
-    handle: u32,
+    at: LinkPlace,
     delivery: &Delivery,
     row: Option<RowNumber>,
     payload: Bytes,
 ) -> Result<(), AllocError>
-    ensures { OnOk result ((t : List Entry) → TablesFit state.old t → TablesFit state.new (puts conn (whole_put book.now t conn own handle delivery.now row)
-        (with_bound (whole_bound book.now t conn own handle delivery.now row payload) t))) }
+    ensures { OnOk result ((t : List Entry) → TablesFit state.old t → TablesFit state.new (puts at.conn.0 (whole_put book.now t at.conn.0 at.own at.handle delivery.now row)
+        (with_bound (whole_bound book.now t at.conn.0 at.own at.handle delivery.now row payload) t))) }
 {
     if delivery.resume {
         drop(payload);
-        let claimed = claimed_id(state, conn, own, handle, delivery.id);
-        pass_resumed(state, id, book, conn, own, handle, claimed)?;
+        let claimed = claimed_id(state, at, delivery.id);
+        pass_resumed(state, id, book, at, claimed)?;
         return Ok(());
     }
-    pass_fresh(state, id, conn, own, handle, delivery, row, payload)?;
+    pass_fresh(state, id, at, delivery, row, payload)?;
     Ok(())
 }
 
@@ -320,22 +285,20 @@ pub fn take_part(
     state: &mut State,
     id: &RouterId,
     book: &Book,
-    conn: u64,
-    own: u16,
-    handle: u32,
+    at: LinkPlace,
     row: Option<RowNumber>,
     part: Option<Part>,
 ) -> Result<(), AllocError>
-    ensures { OnOk result ((t : List Entry) → TablesFit state.old t → TablesFit state.new (puts conn (part_put book.now t conn own handle row part)
-        (with_bound (part_bound book.now t conn own handle row part) t))) }
+    ensures { OnOk result ((t : List Entry) → TablesFit state.old t → TablesFit state.new (puts at.conn.0 (part_put book.now t at.conn.0 at.own at.handle row part)
+        (with_bound (part_bound book.now t at.conn.0 at.own at.handle row part) t))) }
 {
     match part {
         None => {}
         Some(Part::Whole(delivery, payload)) => {
-            pass_whole(state, id, book, conn, own, handle, &delivery, row, payload)?;
+            pass_whole(state, id, book, at, &delivery, row, payload)?;
         }
         Some(Part::TooLarge) => {
-            let_go(state, id, conn, own, handle, Condition::MessageSizeExceeded)?;
+            let_go(state, id, at, Condition::MessageSizeExceeded)?;
         }
         Some(Part::More) => {}
         Some(Part::Aborted) => {}

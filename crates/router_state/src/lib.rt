@@ -3,7 +3,9 @@
 
 mod durable;
 mod finding;
+mod place;
 mod tables;
 
 pub use durable::none_if_ended;
+pub use place::LinkPlace;
 pub use tables::State;

@@ -37,6 +37,7 @@ ghost use Rattle.router_trace.specs.declared.event.Event.{Event as E};
 ghost use Rattle.router_trace.specs.declared.event.Event.TheVariants as event;
 
 use crate::durable::none_if_ended;
+use crate::place::LinkPlace;
 use amqp_conn::Conn;
 use amqp_link::{Delivery, Part};
 use amqp_model::{Attach, DeliveryState, Item, Perf};
@@ -126,11 +127,11 @@ impl State {
             .free_channel(conn, self.clocks.channel_max(conn))
     }
 
-    /// What is on a handle of the peer, as an event finds it, on the session with the router's channel `own`.
-    pub fn link_place(&self, conn: u64, own: u16, handle: u32) -> LinkAt
-        ensures { (t : List Entry) → TablesFind self.now t → result ≡ found_link (link_place t conn own handle) }
+    /// What is on a handle of the peer, as an event finds it.
+    pub fn link_place(&self, at: LinkPlace) -> LinkAt
+        ensures { (t : List Entry) → TablesFind self.now t → result ≡ found_link (link_place t at.conn.0 at.own at.handle) }
     {
-        self.messages.links().place(conn, own, handle)
+        self.messages.links().place(at.conn.0, at.own, at.handle)
     }
 
     /// The router's lowest handle, of 64, that the session's peer accepts too and on which nothing is attached.
@@ -166,11 +167,13 @@ impl State {
     }
 
     /// The key of the durable link on a handle of the router.
-    pub fn durable_key(&self, conn: u64, own: u16, handle: u32) -> Option<&LinkKey>
-        ensures now { (t : List Entry) → TablesFit self.now t → option_map (λ k. k.now) result ≡ durable_key (link t conn own handle) }
-        ensures found { (t : List Entry) → TablesFind self.now t → option_map (λ k. k.now) result ≡ durable_key (link t conn own handle) }
+    pub fn durable_key(&self, at: LinkPlace) -> Option<&LinkKey>
+        ensures now { (t : List Entry) → TablesFit self.now t → option_map (λ k. k.now) result ≡ durable_key (link t at.conn.0 at.own at.handle) }
+        ensures found { (t : List Entry) → TablesFind self.now t → option_map (λ k. k.now) result ≡ durable_key (link t at.conn.0 at.own at.handle) }
     {
-        self.messages.links().durable_key(conn, own, handle)
+        self.messages
+            .links()
+            .durable_key(at.conn.0, at.own, at.handle)
     }
 
     /// The key of the link that an attach names on a connection. Fails if memory is refused.
@@ -398,12 +401,12 @@ impl State {
     }
 
     /// Whether a peer has not settled the delivery with this id of its own, on the link at a handle of the router.
-    pub fn is_claimed_on(&self, conn: u64, own: u16, handle: u32, id: u32) -> bool
-        ensures { (t : List Entry) → TablesFit self.now t → result ≡ is_claimed_on t conn own handle id }
+    pub fn is_claimed_on(&self, at: LinkPlace, id: u32) -> bool
+        ensures { (t : List Entry) → TablesFit self.now t → result ≡ is_claimed_on t at.conn.0 at.own at.handle id }
     {
         self.messages
             .incoming()
-            .is_claimed_on(conn, own, handle, id)
+            .is_claimed_on(at.conn.0, at.own, at.handle, id)
     }
 
     /// The ids in a range that name undecided deliveries of a session, in order, as an event finds them.
@@ -434,17 +437,21 @@ impl State {
     }
 
     /// How many unsettled deliveries of a link came whole and are bound to no consumer.
-    pub fn unbound(&self, conn: u64, own: u16, handle: u32) -> usize
-        ensures { (t : List Entry) → TablesFit self.now t → result ≡ unbound t conn own handle }
+    pub fn unbound(&self, at: LinkPlace) -> usize
+        ensures { (t : List Entry) → TablesFit self.now t → result ≡ unbound t at.conn.0 at.own at.handle }
     {
-        self.messages.incoming().unbound(conn, own, handle)
+        self.messages
+            .incoming()
+            .unbound(at.conn.0, at.own, at.handle)
     }
 
     /// The attachment on a handle of the router.
-    pub fn attachment(&self, conn: u64, own: u16, handle: u32) -> Option<Attachment>
-        ensures { (t : List Entry) → TablesFit self.now t → result ≡ attachment_at t conn own handle }
+    pub fn attachment(&self, at: LinkPlace) -> Option<Attachment>
+        ensures { (t : List Entry) → TablesFit self.now t → result ≡ attachment_at t at.conn.0 at.own at.handle }
     {
-        self.messages.links().attachment(conn, own, handle)
+        self.messages
+            .links()
+            .attachment(at.conn.0, at.own, at.handle)
     }
 
     /// Binds a message of a producer's link to the chosen consumer of its address; returns whether there is one. A durable message comes with

@@ -13,6 +13,6 @@ returns c = λ t h fit is.
     let ids = is_claimed t c.args.conn c.args.own in
     let reply : c.session_transfer_reply-answer.result ≡ session_transfer_reply c.args.own h ids place c.args.transfer.now =
     c.session_transfer_reply-answer.ensures h place ids is (c.find_link-found.ensures.place t fit) (c.is_among-claimed.ensures t fit) (c.find_link-found.ensures.middle t fit) in
-    c.booked_transfer.ensures t fit (subst (λ (a : Answer). TakesOn c.args.own place a) (sym reply) (takes_on c.args.own h ids place c.args.transfer.now))
+    c.booked_transfer.ensures t c.args.own fit (subst (λ (a : Answer). TakesOn c.args.own place a) (sym reply) (takes_on c.args.own h ids place c.args.transfer.now))
     (c.find_link-found.ensures.middle t fit) (c.find_link-found.ensures.key t fit)
     ∙ ap (λ (a : Answer). booked_transfer c.args.book.now t c.args.conn c.args.transfer.now a) reply

@@ -10,17 +10,17 @@ pub returns : goal.returns
 returns c = λ t fit.
     let claimed = c.claimed_id-claimed.ensures t fit in
     let passes : c.may_pass.result ≡ true = search rules in
-    let may : may_pass (lasts_on (link t c.args.conn c.args.own c.args.handle)) (claimed_id t c.args.conn c.args.own c.args.handle c.args.delivery.now.id) c.args.row ≡ true =
-    ap (λ (d : Bool). may_pass d (claimed_id t c.args.conn c.args.own c.args.handle c.args.delivery.now.id) c.args.row) (sym (c.is_durable.ensures t fit))
+    let may : may_pass (lasts_on (link t c.args.at.conn.0 c.args.at.own c.args.at.handle)) (claimed_id t c.args.at.conn.0 c.args.at.own c.args.at.handle c.args.delivery.now.id) c.args.row ≡ true =
+    ap (λ (d : Bool). may_pass d (claimed_id t c.args.at.conn.0 c.args.at.own c.args.at.handle c.args.delivery.now.id) c.args.row) (sym (c.is_durable.ensures t fit))
     ∙ ap (λ (q : Option ℕ). may_pass c.is_durable.result q c.args.row) (sym claimed) ∙ sym c.may_pass.ensures ∙ passes in
-    fresh_given c.bind.new.state t c.args.conn c.args.own c.args.handle c.args.delivery.now c.args.row c.args.payload _ _ c.in-Some.from (link t c.args.conn c.args.own c.args.handle)
+    fresh_given c.bind.new.state t c.args.at.conn.0 c.args.at.own c.args.at.handle c.args.delivery.now c.args.row c.args.payload _ _ c.in-Some.from (link t c.args.at.conn.0 c.args.at.own c.args.at.handle)
     claimed may c.unwrap_or-format.ensures (sym c.in-Some.is ∙ c.attachment.ensures t fit) refl (c.in_ok-bind.ensures t fit)
 
 pub returns-in_default : goal.returns-in_default
 returns-in_default c = λ t fit.
-    linkless_given c.release-in_default.new.state t c.args.conn c.args.own c.args.handle c.args.delivery.now c.args.row c.args.payload _ (c.claimed_id-claimed.ensures t fit)
-    (unlinked (link t c.args.conn c.args.own c.args.handle) (sym c.in_default.is ∙ c.attachment.ensures t fit)) (c.in_ok-release-2.ensures t fit)
+    linkless_given c.release-in_default.new.state t c.args.at.conn.0 c.args.at.own c.args.at.handle c.args.delivery.now c.args.row c.args.payload _ (c.claimed_id-claimed.ensures t fit)
+    (unlinked (link t c.args.at.conn.0 c.args.at.own c.args.at.handle) (sym c.in_default.is ∙ c.attachment.ensures t fit)) (c.in_ok-release-2.ensures t fit)
   where
-    unlinked : (l : Option Link) → None ≡ option_map (standing_at c.args.conn c.args.own c.args.handle) l → l ≡ None
+    unlinked : (l : Option Link) → None ≡ option_map (standing_at c.args.at.conn.0 c.args.at.own c.args.at.handle) l → l ≡ None
     unlinked None e = refl
     unlinked (Some l) e = absurd cc
