@@ -2,6 +2,7 @@ pub mod Acts
 pub mod Admitting
 pub mod Asking
 pub mod Deciding
+pub mod Doing
 pub mod Heard
 pub mod Holding
 pub mod Joining

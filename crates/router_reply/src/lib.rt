@@ -8,7 +8,6 @@ mod deciding;
 mod events;
 mod heard;
 mod holding;
-mod joining;
 mod planning;
 mod resuming;
 

@@ -1,24 +1,37 @@
-//! What an event is answered with and what it does to the book of durable deliveries, before any of it is done.
-ghost use Rattle.std.specs.Prelude.{◌≡◌, ℕ, [], List, option_map, unwrap_or, IfOk};
+//! What an event is answered with and what it does to the book of durable deliveries, before any of it is done. A frame is taken apart
+//! here, once: what the router does with a performative stands in the module of that name.
+ghost use Rattle.std.specs.Prelude.{◌≡◌, ◌++◌, ℕ, [], List, Some, None, map, option_map, IfOk};
+ghost use Rattle.amqp_model.specs.Parts.{attach_of};
+ghost use Rattle.reply_rows.specs.declared.answer.Answer.TheVariants as answer;
 ghost use Rattle.router_trace.specs.Trace.{Entry};
 ghost use Rattle.router_trace.specs.Connection.{phase_found};
+ghost use Rattle.router_trace.specs.declared.event.Event.TheVariants as event;
 ghost use Rattle.router_state.specs.Tables.{TablesFind, TablesAt};
-ghost use Rattle.reply_rows.specs.Booking.{wanted_key, wanted_address, new_terminus};
-ghost use Rattle.router_reply.specs.Acts.{event_answer};
-ghost use Rattle.router_reply.specs.Resuming.{Resumes};
-ghost use Rattle.router_reply.specs.Deciding.{decided, forgotten, made_for, made_by, terminus_by, terminus_of_event};
+ghost use Rattle.state_deliveries.specs.Deciding.{decided_rows};
+ghost use Rattle.router_reply.specs.Acts.{live_answer, event_answer};
+ghost use Rattle.router_reply.specs.Deciding.{as_kept, listed, lost, stolen_from, stolen_for, stolen_in, decided, forgotten, forgotten_by, forgotten_in, terminus_by, terminus_in, terminus_of_event};
+ghost use Rattle.router_reply.specs.Doing.{TakesUp};
+ghost use Rattle.router_reply.specs.Resuming.{Resumes, attach_within, key_by, key_in};
 
-use crate::deciding::{closed_terminus, decided, forgotten};
-use crate::resuming::{Resumption, planned_decisions, planned_forgotten, resumption_of};
+mod attach;
+mod detach;
+mod disposition;
+mod doings;
+mod transfer;
+
+use crate::deciding::{changes, changes_lost, decided, ended_by, joined, session_found};
+use crate::planning::doings::Doings;
+use crate::resuming::{Resumption, planned_decisions, planned_forgotten};
 use amqp_conn::Conn;
-use amqp_model::{Attach, Item, Perf, Text};
+use amqp_model::{Item, Perf};
 use book_core::Book;
-use book_model::{Decision, LinkKey, RowNumber, Terminus};
+use book_model::{Decision, RowNumber};
 use journal_store::TerminusAct;
-use reply_rows::{Answer, item_answer, wanted_address, wanted_key, wants_durable};
+use reply_rows::{Answer, item_answer};
 use router_state::State;
-use router_trace::Event;
-use std::alloc::{AllocError, Global};
+use router_trace::{ConnectionId, Event};
+use state_deliveries::Change;
+use std::alloc::AllocError;
 
 /// What an event is answered with, and what it does to the book but for an admission.
 #[derive(Drop)]
@@ -35,152 +48,148 @@ pub struct Plan {
     pub resumption: Option<Resumption>,
 }
 
-/// A copy of a text; the empty one if there is none.
-fn copied(alloc: Global, text: Option<&Text>) -> Result<Text, AllocError>
-    ensures { IfOk result (λ copy. copy ≡ unwrap_or (option_map (λ a. a.now) text.entry) []) }
-{
-    match text {
-        None => Ok(Text::new(String::new(alloc))),
-        Some(text) => text.clone(),
-    }
-}
-
-/// The terminus that is made for a durable link with this key.
-fn new_terminus(
-    alloc: Global,
-    book: &Book,
-    key: LinkKey,
-    attach: &Attach,
-) -> Result<Terminus, AllocError>
-    ensures { IfOk result (λ terminus. terminus ≡ new_terminus book.now key (wanted_address attach.now)) }
-{
-    let Ok(address) = copied(alloc, wanted_address(attach)) else {
-        drop(key);
-        return Err(AllocError);
-    };
-    Ok(Terminus {
-        number: book.next_terminus(),
-        key,
-        address,
-    })
-}
-
-/// The terminus that an attach makes, if its link is durable.
-fn made_for(
+/// What a performative with this answer does, on its session, but for a SASL frame.
+fn done_by(
     state: &State,
     book: &Book,
     conn: u64,
-    attach: &Attach,
-) -> Result<Option<TerminusAct>, AllocError>
-    ensures { IfOk result (λ made. (t : List Entry) → TablesFind state.now t → made ≡ made_for book.now (wanted_key t conn attach.now) attach.now) }
-{
-    if !wants_durable(attach) {
-        return Ok(None);
-    }
-    let key = wanted_key(state, conn, attach)?;
-    let terminus = new_terminus(state.alloc(), book, key, attach)?;
-    Ok(Some(TerminusAct::Make(terminus)))
-}
-
-/// The terminus that an attach with this answer makes.
-fn made_by(
-    state: &State,
-    book: &Book,
-    conn: u64,
-    attach: &Attach,
-    answer: &Answer,
-) -> Result<Option<TerminusAct>, AllocError>
-    ensures { IfOk result (λ made. (t : List Entry) → TablesFind state.now t → made ≡ made_by book.now t conn attach.now answer.now) }
-{
-    match answer {
-        Answer::Attach { own: _own } => made_for(state, book, conn, attach),
-        _ => Ok(None),
-    }
-}
-
-/// The terminus that a performative with this answer makes or drops.
-fn terminus_by(
-    state: &State,
-    book: &Book,
-    conn: u64,
+    own: Option<u16>,
     perf: &Perf,
     answer: &Answer,
-) -> Result<Option<TerminusAct>, AllocError>
-    ensures { IfOk result (λ terminus. (t : List Entry) → TablesFind state.now t → terminus ≡ terminus_by book.now t conn perf.now answer.now) }
+) -> Result<Doings, AllocError>
+    ensures stolen { IfOk result (λ does. (t : List Entry) (on : ℕ) → TablesFind state.now t → answer.now ≡ answer.Attach on → stolen_from does.stolen ≡ stolen_in t conn perf.now) }
+    ensures forgotten { IfOk result (λ does. (t : List Entry) → TablesFind state.now t → does.forgotten.items ≡ forgotten_by book.now t conn own perf.now answer.now) }
+    ensures terminus { IfOk result (λ does. (t : List Entry) → TablesFind state.now t → does.terminus ≡ terminus_by book.now t conn perf.now answer.now) }
+    ensures resumed { IfOk result (λ does. (t : List Entry) → TablesFind state.now t → TakesUp book.now (attach_of perf.now) (key_by t conn perf.now answer.now) does.resumption) }
 {
     match perf {
-        Perf::Attach(attach) => made_by(state, book, conn, attach.as_ref(), answer),
-        Perf::Detach(_) => match closed_terminus(state, book, conn, answer) {
-            None => Ok(None),
-            Some(terminus) => Ok(Some(TerminusAct::Drop(terminus.number))),
-        },
-        _ => Ok(None),
+        Perf::Attach(attach) => attach::does(state, book, conn, attach.as_ref(), answer),
+        Perf::Transfer(transfer) => transfer::does(state, book, conn, transfer, answer),
+        Perf::Disposition(disposition) => disposition::does(state, book, conn, own, disposition),
+        Perf::Detach(_) => detach::does(state, book, conn, answer),
+        _ => Ok(Doings::nothing(state.alloc())),
     }
 }
 
-/// The terminus that an event with this answer makes or drops.
-fn terminus_of_event(
+/// What an item with this answer does, on its session.
+fn done_in(
     state: &State,
     book: &Book,
-    event: &Event,
+    conn: u64,
+    own: Option<u16>,
+    item: &Item,
     answer: &Answer,
-) -> Result<Option<TerminusAct>, AllocError>
-    ensures { IfOk result (λ terminus. (t : List Entry) → TablesFind state.now t → terminus ≡ terminus_of_event book.now t event.now answer.now) }
+) -> Result<Doings, AllocError>
+    ensures stolen { IfOk result (λ does. (t : List Entry) (on : ℕ) → TablesFind state.now t → answer.now ≡ answer.Attach on → stolen_from does.stolen ≡ stolen_for t conn item.now) }
+    ensures forgotten { IfOk result (λ does. (t : List Entry) → TablesFind state.now t → does.forgotten.items ≡ forgotten_in book.now t conn own item.now answer.now) }
+    ensures terminus { IfOk result (λ does. (t : List Entry) → TablesFind state.now t → does.terminus ≡ terminus_in book.now t conn item.now answer.now) }
+    ensures resumed { IfOk result (λ does. (t : List Entry) → TablesFind state.now t → TakesUp book.now (attach_within item.now) (key_in t conn item.now answer.now) does.resumption) }
 {
-    match event {
-        Event::Item(conn, item) => match item {
-            Item::Frame { perf, .. } => terminus_by(state, book, conn.0, perf, answer),
-            _ => Ok(None),
-        },
-        _ => Ok(None),
+    match item {
+        Item::Frame { sasl, perf, .. } => {
+            let does = done_by(state, book, conn, own, perf, answer)?;
+            if *sasl {
+                return Ok(does.without_rows(state.alloc()));
+            }
+            Ok(does)
+        }
+        _ => Ok(Doings::nothing(state.alloc())),
     }
 }
 
-/// The answer to an event's item; `phase` is the phase of its connection as the event finds it.
-fn event_answer(
-    state: &State,
-    book: &Book,
-    full: bool,
-    phase: Option<Conn>,
-    event: &Event,
-) -> Result<Answer, AllocError>
-    ensures { IfOk result (λ answer. (t : List Entry) (ends : List ℕ) → TablesAt state.now t event.now ends → phase ≡ phase_found t event.now → answer ≡ event_answer full book.now t event.now) }
-{
-    match event {
-        Event::Item(conn, item) => match phase {
-            Some(phase) => item_answer(state, book, full, conn.0, phase, item),
-            None => Ok(Answer::Nothing),
-        },
-        _ => Ok(Answer::Nothing),
-    }
-}
-
-/// What an event with this answer does to the book but for an admission.
+/// The plan of an item with this answer, by an event that ends these connections first.
 fn planned(
     state: &State,
     book: &Book,
     ends: &[u64],
-    event: &Event,
+    conn: ConnectionId,
+    item: &Item,
     answer: Answer,
 ) -> Result<Plan, AllocError>
     ensures answer { IfOk result (λ plan. plan.answer ≡ answer) }
-    ensures decided { IfOk result (λ plan. (t : List Entry) → TablesAt state.now t event.now ends.now → plan.decided.items ≡ decided book.now t event.now answer) }
-    ensures forgotten { IfOk result (λ plan. (t : List Entry) → TablesAt state.now t event.now ends.now → plan.forgotten.items ≡ forgotten book.now t event.now answer) }
-    ensures terminus { IfOk result (λ plan. (t : List Entry) → TablesAt state.now t event.now ends.now → plan.terminus ≡ terminus_of_event book.now t event.now answer) }
-    ensures resumed { IfOk result (λ plan. (t : List Entry) → TablesAt state.now t event.now ends.now → Resumes book.now t event.now answer plan.resumption) }
+    ensures decided { IfOk result (λ plan. (t : List Entry) → TablesAt state.now t (event.Item conn item.now) ends.now → plan.decided.items ≡ decided book.now t (event.Item conn item.now) answer) }
+    ensures forgotten { IfOk result (λ plan. (t : List Entry) → TablesAt state.now t (event.Item conn item.now) ends.now → plan.forgotten.items ≡ forgotten book.now t (event.Item conn item.now) answer) }
+    ensures terminus { IfOk result (λ plan. (t : List Entry) → TablesAt state.now t (event.Item conn item.now) ends.now → plan.terminus ≡ terminus_of_event book.now t (event.Item conn item.now) answer) }
+    ensures resumed { IfOk result (λ plan. (t : List Entry) → TablesAt state.now t (event.Item conn item.now) ends.now → Resumes book.now t (event.Item conn item.now) answer plan.resumption) }
 {
-    let mut resumption = resumption_of(state, book, event, &answer)?;
+    let own = session_found(state, ends, conn.0, item);
+    let change = Change::of_item(conn.0, own, item)?;
+    let does = done_in(state, book, conn.0, own, item, &answer)?;
+    let ended = ended_by(conn.0, &answer, does.stolen);
+    let changes = changes(state.alloc(), change, ends, ended)?;
+    let Doings {
+        stolen: _stolen,
+        forgotten,
+        terminus,
+        resumption,
+    } = does;
+    let mut resumption = resumption;
     let by_map = planned_decisions(state.alloc(), &mut resumption);
-    let decided = decided(state, ends, event, &answer, by_map)?;
+    let decided = decided(state, changes, by_map)?;
     let lacking = planned_forgotten(state.alloc(), &mut resumption);
-    let forgotten = forgotten(state, book, ends, event, &answer, lacking)?;
-    let terminus = terminus_of_event(state, book, event, &answer)?;
+    let forgotten = joined(forgotten, lacking)?;
     Ok(Plan {
         answer,
         decided,
         forgotten,
         terminus,
         resumption,
+    })
+}
+
+/// The answer to an item on a connection in this phase, as an event finds it; nothing if the connection isn't live then.
+fn answered(
+    state: &State,
+    book: &Book,
+    full: bool,
+    phase: Option<Conn>,
+    conn: u64,
+    item: &Item,
+) -> Result<Answer, AllocError>
+    ensures { IfOk result (λ answer. (t : List Entry) → TablesFind state.now t → answer ≡ live_answer full book.now t conn item.now phase) }
+{
+    match phase {
+        Some(phase) => item_answer(state, book, full, conn, phase, item),
+        None => Ok(Answer::Nothing),
+    }
+}
+
+/// Plans an item.
+fn item_plan(
+    state: &State,
+    book: &Book,
+    full: bool,
+    ends: &[u64],
+    phase: Option<Conn>,
+    conn: ConnectionId,
+    item: &Item,
+) -> Result<Plan, AllocError>
+    ensures answer { IfOk result (λ plan. (t : List Entry) → TablesAt state.now t (event.Item conn item.now) ends.now → phase ≡ phase_found t (event.Item conn item.now) → plan.answer ≡ event_answer full book.now t (event.Item conn item.now)) }
+    ensures decided { IfOk result (λ plan. (t : List Entry) → TablesAt state.now t (event.Item conn item.now) ends.now → phase ≡ phase_found t (event.Item conn item.now) → plan.decided.items ≡ decided book.now t (event.Item conn item.now) (event_answer full book.now t (event.Item conn item.now))) }
+    ensures forgotten { IfOk result (λ plan. (t : List Entry) → TablesAt state.now t (event.Item conn item.now) ends.now → phase ≡ phase_found t (event.Item conn item.now) → plan.forgotten.items ≡ forgotten book.now t (event.Item conn item.now) (event_answer full book.now t (event.Item conn item.now))) }
+    ensures terminus { IfOk result (λ plan. (t : List Entry) → TablesAt state.now t (event.Item conn item.now) ends.now → phase ≡ phase_found t (event.Item conn item.now) → plan.terminus ≡ terminus_of_event book.now t (event.Item conn item.now) (event_answer full book.now t (event.Item conn item.now))) }
+    ensures resumed { IfOk result (λ plan. (t : List Entry) → TablesAt state.now t (event.Item conn item.now) ends.now → phase ≡ phase_found t (event.Item conn item.now) → Resumes book.now t (event.Item conn item.now) (event_answer full book.now t (event.Item conn item.now)) plan.resumption) }
+{
+    let answer = answered(state, book, full, phase, conn.0, item)?;
+    planned(state, book, ends, conn, item, answer)
+}
+
+/// Plans an event that is no item: it loses a connection, if it is the loss of one, and those that it ends first.
+fn lost_plan(state: &State, down: Option<u64>, ends: &[u64]) -> Result<Plan, AllocError>
+    ensures answer { IfOk result (λ plan. plan.answer ≡ answer.Nothing) }
+    ensures decided { IfOk result (λ plan. (t : List Entry) → TablesFind state.now t → plan.decided.items ≡ map as_kept (decided_rows t (listed (option_map lost down) ++ map lost ends.now)) ++ []) }
+    ensures forgotten { IfOk result (λ plan. plan.forgotten.items ≡ []) }
+    ensures terminus { IfOk result (λ plan. plan.terminus ≡ None) }
+    ensures resumption { IfOk result (λ plan. plan.resumption ≡ None) }
+{
+    let changes = changes_lost(state.alloc(), down, ends)?;
+    let decided = decided(state, changes, Vec::new(state.alloc()))?;
+    Ok(Plan {
+        answer: Answer::Nothing,
+        decided,
+        forgotten: Vec::new(state.alloc()),
+        terminus: None,
+        resumption: None,
     })
 }
 
@@ -206,6 +215,9 @@ pub fn make_plan(
     ensures terminus { IfOk result (λ plan. (t : List Entry) → TablesAt state.now t event.now ends.now → phase ≡ phase_found t event.now → plan.terminus ≡ terminus_of_event book.now t event.now (event_answer full book.now t event.now)) }
     ensures resumed { IfOk result (λ plan. (t : List Entry) → TablesAt state.now t event.now ends.now → phase ≡ phase_found t event.now → Resumes book.now t event.now (event_answer full book.now t event.now) plan.resumption) }
 {
-    let answer = event_answer(state, book, full, phase, event)?;
-    planned(state, book, ends, event, answer)
+    match event {
+        Event::Item(conn, item) => item_plan(state, book, full, ends, phase, *conn, item),
+        Event::Down(conn) => lost_plan(state, Some(conn.0), ends),
+        _ => lost_plan(state, None, ends),
+    }
 }

@@ -3,20 +3,19 @@
 ghost use Rattle.std.specs.Prelude.{◌≡◌, ◌∷◌, not, List, Some, IfOk, OnOk};
 ghost use Rattle.std.specs.Option.{option_copied};
 ghost use Rattle.router_trace.specs.Trace.{Bound, Entry};
-ghost use Rattle.router_state.specs.Tables.{TablesFind, TablesFit};
+ghost use Rattle.router_state.specs.Tables.{TablesFit};
 ghost use Rattle.state_messages.specs.Messages.{taken_up_by};
 ghost use Rattle.book_model.specs.Book.{terminus_of};
 ghost use Rattle.resume_core.specs.Resuming.{entries_of, forgotten_rows, producer_map, decisions, consumer_map, sendings};
-ghost use Rattle.router_reply.specs.Resuming.{asked_key, key_taken, key_by, key_in, taken_key, attach_within, attach_in, receives, if_receives, resumed_key, rows_with, decided_by, decided_for, map_decides, forgotten_with, forgotten_for, map_forgets, all_rows, sent_by, map_by, rows_for, map_for, bound_to, bound_if, with_rows, if_sends, held_key, with_held, key_resumed, key_held, forgotten_resumed, decisions_resumed, map_resumed, rows_resumed};
+ghost use Rattle.router_reply.specs.Resuming.{if_receives, rows_with, decided_for, forgotten_for, all_rows, rows_for, map_for, bound_to, bound_if, with_rows, if_sends, with_held, key_resumed, key_held, forgotten_resumed, decisions_resumed, map_resumed, rows_resumed};
 
 use crate::holding::hold_rows;
-use amqp_model::{Attach, Item, Perf, Role, UnsettledDelivery};
+use amqp_model::{Attach, Role, UnsettledDelivery};
 use book_core::Book;
 use book_model::{Decision, LinkKey, RowNumber};
-use reply_rows::{Answer, wanted_key, wants_durable};
 use resume_core::{ConsumerPlan, ProducerPlan, Sending, consumer_plan, producer_plan};
 use router_state::State;
-use router_trace::{Attachment, Event};
+use router_trace::Attachment;
 use std::alloc::{AllocError, Global};
 use std::mem;
 
@@ -51,95 +50,6 @@ pub struct ConsumerResumption {
     pub map: Vec<UnsettledDelivery>,
     /// What is sent of the rows of its terminus, by number.
     pub rows: Vec<Sending>,
-}
-
-/// The key of the durable link that an attach asks for.
-fn asked_key(state: &State, conn: u64, attach: &Attach) -> Result<Option<LinkKey>, AllocError>
-    ensures { IfOk result (λ key. (t : List Entry) → TablesFind state.now t → key ≡ asked_key t conn attach.now) }
-{
-    if wants_durable(attach) {
-        let key = wanted_key(state, conn, attach)?;
-        return Ok(Some(key));
-    }
-    Ok(None)
-}
-
-/// The same, if the answer to the attach takes the link.
-fn key_taken(
-    state: &State,
-    conn: u64,
-    attach: &Attach,
-    answer: &Answer,
-) -> Result<Option<LinkKey>, AllocError>
-    ensures { IfOk result (λ key. (t : List Entry) → TablesFind state.now t → key ≡ key_taken t conn attach.now answer.now) }
-{
-    match answer {
-        Answer::Attach { own: _own } => asked_key(state, conn, attach),
-        _ => Ok(None),
-    }
-}
-
-/// The same of a performative.
-fn key_by(
-    state: &State,
-    conn: u64,
-    perf: &Perf,
-    answer: &Answer,
-) -> Result<Option<LinkKey>, AllocError>
-    ensures { IfOk result (λ key. (t : List Entry) → TablesFind state.now t → key ≡ key_by t conn perf.now answer.now) }
-{
-    match perf {
-        Perf::Attach(attach) => key_taken(state, conn, attach.as_ref(), answer),
-        _ => Ok(None),
-    }
-}
-
-/// The same of an item.
-fn key_in(
-    state: &State,
-    conn: u64,
-    item: &Item,
-    answer: &Answer,
-) -> Result<Option<LinkKey>, AllocError>
-    ensures { IfOk result (λ key. (t : List Entry) → TablesFind state.now t → key ≡ key_in t conn item.now answer.now) }
-{
-    match item {
-        Item::Frame { perf, .. } => key_by(state, conn, perf, answer),
-        _ => Ok(None),
-    }
-}
-
-/// The same of an event.
-fn taken_key(state: &State, event: &Event, answer: &Answer) -> Result<Option<LinkKey>, AllocError>
-    ensures { IfOk result (λ key. (t : List Entry) → TablesFind state.now t → key ≡ taken_key t event.now answer.now) }
-{
-    match event {
-        Event::Item(conn, item) => key_in(state, conn.0, item, answer),
-        _ => Ok(None),
-    }
-}
-
-/// The attach in an item, if it brings one.
-fn attach_within(item: &Item) -> Option<&Attach>
-    ensures { option_copied result ≡ attach_within item.now }
-{
-    match item {
-        Item::Frame { perf, .. } => match perf {
-            Perf::Attach(attach) => Some(attach.as_ref()),
-            _ => None,
-        },
-        _ => None,
-    }
-}
-
-/// The attach that an event brings, if it brings one.
-fn attach_in(event: &Event) -> Option<&Attach>
-    ensures { option_copied result ≡ attach_in event.now }
-{
-    match event {
-        Event::Item(_, item) => attach_within(item),
-        _ => None,
-    }
 }
 
 /// What a producer's attach does to the rows of the terminus with this key; nothing if there is no terminus.
@@ -259,7 +169,7 @@ fn consumer_taken(
 }
 
 /// What the link with this key takes up again after an attach.
-fn resumption_by(
+pub(crate) fn resumption_by(
     alloc: Global,
     book: &Book,
     attach: &Attach,
@@ -282,55 +192,6 @@ fn resumption_by(
             Ok(Resumption::Consumer(taken))
         }
     }
-}
-
-/// The same, if there is an attach and a key.
-fn resumption_with(
-    alloc: Global,
-    book: &Book,
-    attach: Option<&Attach>,
-    key: Option<LinkKey>,
-) -> Result<Option<Resumption>, AllocError>
-    ensures key { IfOk result (λ r. key_resumed r ≡ if_receives (option_copied attach.entry) key) }
-    ensures held { IfOk result (λ r. key_held r ≡ if_sends (option_copied attach.entry) key) }
-    ensures forgotten { IfOk result (λ r. forgotten_resumed r ≡ forgotten_for book.now (option_copied attach.entry) key) }
-    ensures decisions { IfOk result (λ r. decisions_resumed r ≡ decided_for book.now (option_copied attach.entry) (if_receives (option_copied attach.entry) key)) }
-    ensures map { IfOk result (λ r. map_resumed r ≡ map_for book.now (option_copied attach.entry) key) }
-    ensures rows { IfOk result (λ r. rows_resumed r ≡ rows_for book.now (option_copied attach.entry) (if_receives (option_copied attach.entry) key)) }
-{
-    let Some(key) = key else {
-        return Ok(None);
-    };
-    let Some(attach) = attach else {
-        drop(key);
-        return Ok(None);
-    };
-    let resumption = resumption_by(alloc, book, attach, key)?;
-    Ok(Some(resumption))
-}
-
-/// What an event takes up again, before any of it is done: if its item is the attach of a durable link, which this answer takes,
-/// what the map of the attach forgets and decides of the rows of the link's terminus, the router's map, and what is left to send
-/// of them.
-///
-/// # Errors
-///
-/// `AllocError` if memory was refused.
-pub(crate) fn resumption_of(
-    state: &State,
-    book: &Book,
-    event: &Event,
-    answer: &Answer,
-) -> Result<Option<Resumption>, AllocError>
-    ensures key { IfOk result (λ resumption. (t : List Entry) → TablesFind state.now t → key_resumed resumption ≡ resumed_key t event.now answer.now) }
-    ensures held { IfOk result (λ resumption. (t : List Entry) → TablesFind state.now t → key_held resumption ≡ held_key t event.now answer.now) }
-    ensures forgotten { IfOk result (λ resumption. (t : List Entry) → TablesFind state.now t → forgotten_resumed resumption ≡ map_forgets book.now t event.now answer.now) }
-    ensures decisions { IfOk result (λ resumption. (t : List Entry) → TablesFind state.now t → decisions_resumed resumption ≡ map_decides book.now t event.now answer.now) }
-    ensures map { IfOk result (λ resumption. (t : List Entry) → TablesFind state.now t → map_resumed resumption ≡ map_for book.now (attach_in event.now) (taken_key t event.now answer.now)) }
-    ensures rows { IfOk result (λ resumption. (t : List Entry) → TablesFind state.now t → rows_resumed resumption ≡ rows_for book.now (attach_in event.now) (resumed_key t event.now answer.now)) }
-{
-    let key = taken_key(state, event, answer)?;
-    resumption_with(state.alloc(), book, attach_in(event), key)
 }
 
 /// What the map of an attach decides, of what it takes up again, which is planned by it; nothing if that is nothing.

@@ -1,28 +1,47 @@
-use Rattle.std.proofs.Common.{◌∙◌, ◌++◌, ap, List}
-use Rattle.std.specs.Prelude.{map}
+use Rattle.std.proofs.Common.{◌∙◌, ◌++◌, ap, ℕ, List}
+use Rattle.std.specs.Prelude.{Option, map}
 use Rattle.book_model.specs.declared.act.Decision.{Decision}
-use Rattle.state_deliveries.specs.Deciding.{decided_rows}
-use Rattle.router_state.specs.Tables.{at_finds}
 use Rattle.book_model.specs.declared.row.RowNumber.{RowNumber}
-use Rattle.router_reply.specs.Deciding.{as_kept, event_changes, item_forgets}
+use Rattle.router_state.specs.Tables.{at_finds}
+use Rattle.router_trace.specs.declared.event.Event.TheVariants as event
+use Rattle.state_deliveries.specs.Deciding.{decided_rows}
+use Rattle.state_deliveries.specs.declared.change.Change.{Change}
+use Rattle.router_reply.specs.Deciding.{as_kept, event_changes, forgotten_in, session_found}
+use Rattle.router_reply.proofs.Planned.{found_as, changed_as}
 use Rattle.router_reply.proofs.planning.planned.Goals as goal
 
 pub returns-clause-decided : goal.returns-clause-decided
 returns-clause-decided c = λ t at.
-    c.in_ok-decided.ensures t (at_finds at) at.are_due
-    ∙ ap (λ (ds : List Decision). map as_kept (decided_rows t (event_changes t c.args.event.now c.args.answer)) ++ ds)
-    (c.planned_decisions-by_map.ensures.decisions ∙ c.in_ok-resumption.ensures.decisions t (at_finds at))
+    let conn = c.args.conn in
+    let item = c.args.item.now in
+    let own = c.session_found-own.result in
+    let found = found_as t conn item own c.args.ends.now (c.session_found-own.ensures t (at_finds at)) at.are_due in
+    c.in_ok-decided.ensures t (at_finds at)
+    ∙ ap (λ (cs : List Change). map as_kept (decided_rows t cs) ++ c.planned_decisions-by_map.result.items)
+    (c.in_ok-changes.ensures
+        ∙ changed_as t conn item c.args.answer own c.args.ends.now c.in_ok-change.change c.ended_by-ended.result found at.are_due c.in_ok-change.ensures
+        (c.ended_by-ended.ensures t item (λ on is. c.in_ok-does.ensures.stolen t on (at_finds at) is)))
+    ∙ ap (λ (ds : List Decision). map as_kept (decided_rows t (event_changes t (event.Item conn item) c.args.answer)) ++ ds)
+    (c.planned_decisions-by_map.ensures.decisions ∙ (c.in_ok-does.ensures.resumed t (at_finds at)).decisions)
 
 pub returns-clause-forgotten : goal.returns-clause-forgotten
 returns-clause-forgotten c = λ t at.
-    c.in_ok-forgotten.ensures t (at_finds at) at.are_due
-    ∙ ap (λ (ns : List RowNumber). item_forgets c.args.book.now t c.args.event.now c.args.answer ++ ns)
-    (c.planned_forgotten-lacking.ensures.forgotten ∙ c.planned_decisions-by_map.ensures.forgotten ∙ c.in_ok-resumption.ensures.forgotten t (at_finds at))
+    let conn = c.args.conn in
+    let item = c.args.item.now in
+    let own = c.session_found-own.result in
+    let found = found_as t conn item own c.args.ends.now (c.session_found-own.ensures t (at_finds at)) at.are_due in
+    c.in_ok-forgotten.ensures
+    ∙ ap (λ (ns : List RowNumber). ns ++ c.planned_forgotten-lacking.result.items)
+    (c.in_ok-does.ensures.forgotten t (at_finds at) ∙ ap (λ (o : Option ℕ). forgotten_in c.args.book.now t conn.0 o item c.args.answer) found)
+    ∙ ap (λ (ns : List RowNumber). forgotten_in c.args.book.now t conn.0 (session_found t conn item) item c.args.answer ++ ns)
+    (c.planned_forgotten-lacking.ensures.forgotten ∙ c.planned_decisions-by_map.ensures.forgotten ∙ (c.in_ok-does.ensures.resumed t (at_finds at)).forgotten)
 
 pub returns-clause-resumed : goal.returns-clause-resumed
-returns-clause-resumed c = λ t at. record {
-  key = c.planned_forgotten-lacking.ensures.key ∙ c.planned_decisions-by_map.ensures.key ∙ c.in_ok-resumption.ensures.key t (at_finds at);
-  held = c.planned_forgotten-lacking.ensures.held ∙ c.planned_decisions-by_map.ensures.held ∙ c.in_ok-resumption.ensures.held t (at_finds at);
-  map = c.planned_forgotten-lacking.ensures.map ∙ c.planned_decisions-by_map.ensures.map ∙ c.in_ok-resumption.ensures.map t (at_finds at);
-  rows = c.planned_forgotten-lacking.ensures.rows ∙ c.planned_decisions-by_map.ensures.rows ∙ c.in_ok-resumption.ensures.rows t (at_finds at);
-}
+returns-clause-resumed c = λ t at.
+    let taken = c.in_ok-does.ensures.resumed t (at_finds at) in
+    record {
+      key = c.planned_forgotten-lacking.ensures.key ∙ c.planned_decisions-by_map.ensures.key ∙ taken.key;
+      held = c.planned_forgotten-lacking.ensures.held ∙ c.planned_decisions-by_map.ensures.held ∙ taken.held;
+      map = c.planned_forgotten-lacking.ensures.map ∙ c.planned_decisions-by_map.ensures.map ∙ taken.map;
+      rows = c.planned_forgotten-lacking.ensures.rows ∙ c.planned_decisions-by_map.ensures.rows ∙ taken.rows;
+    }

@@ -2,7 +2,7 @@ use Rattle.std.proofs.Common.{◌≡◌, ◌++◌}
 use Rattle.std.specs.Prelude.{filter, map}
 use Rattle.book_model.specs.Book.{is_from}
 use Rattle.book_core.specs.Rows.{rows_left}
-use Rattle.router_reply.proofs.deciding.sent_by.Given as goal
+use Rattle.router_reply.proofs.planning.detach.sent_by.Given as goal
 
 -- those found so far, then those of the rest, are all
 abbrev pub invariant-loop-row : goal.invariant-loop-row

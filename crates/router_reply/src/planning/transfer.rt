@@ -1,11 +1,12 @@
-//! The rows that a producer settles: by a resumed delivery that comes whole and settled, and by a disposition.
-ghost use Rattle.std.specs.Prelude.{◌≡◌, List, filter_map, option_map, IfOk};
+//! What a transfer does to the book: one that makes a resumed delivery whole, and is settled, forgets its row.
+ghost use Rattle.std.specs.Prelude.{◌≡◌, List, None, option_map, IfOk};
 ghost use Rattle.std.specs.Option.{option_copied};
 ghost use Rattle.router_trace.specs.Trace.{Entry};
 ghost use Rattle.router_state.specs.Tables.{TablesFind};
-ghost use Rattle.router_reply.specs.Joining.{settled_again, settled_whole, row_alone, settled_on_link, settled_by_transfer, rows_claimed};
+ghost use Rattle.router_reply.specs.Joining.{settled_again, settled_whole, row_alone, settled_on_link, settled_by_transfer};
 
 use crate::deciding::add;
+use crate::planning::doings::Doings;
 use amqp_link::Delivery;
 use amqp_model::{DeliveryTag, Transfer};
 use book_core::Book;
@@ -84,11 +85,7 @@ fn settled_on_link(
 }
 
 /// The same of a transfer with this answer: one that isn't taken settles none.
-///
-/// # Errors
-///
-/// `AllocError` if memory was refused.
-pub(crate) fn settled_by_transfer(
+fn settled_by_transfer(
     state: &State,
     book: &Book,
     conn: u64,
@@ -105,27 +102,23 @@ pub(crate) fn settled_by_transfer(
     }
 }
 
-/// The rows of the deliveries with an id in a range, on a session, that its peer hasn't settled, in order of the ids.
+/// What a transfer with this answer does.
 ///
 /// # Errors
 ///
 /// `AllocError` if memory was refused.
-pub(crate) fn rows_claimed(
+pub(crate) fn does(
     state: &State,
     book: &Book,
     conn: u64,
-    own: u16,
-    first: u32,
-    last: u32,
-) -> Result<Vec<RowNumber>, AllocError>
-    ensures { IfOk result (λ rows. (t : List Entry) → TablesFind state.now t → rows.items ≡ rows_claimed book.now t conn own first last) }
+    transfer: &Transfer,
+    answer: &Answer,
+) -> Result<Doings, AllocError>
+    ensures forgotten { IfOk result (λ does. (t : List Entry) → TablesFind state.now t → does.forgotten.items ≡ settled_by_transfer book.now t conn transfer.now answer.now) }
+    ensures stolen { IfOk result (λ does. does.stolen ≡ None) }
+    ensures terminus { IfOk result (λ does. does.terminus ≡ None) }
+    ensures resumption { IfOk result (λ does. does.resumption ≡ None) }
 {
-    let mut rows = Vec::new(state.alloc());
-    let ids = state.ids_claimed(conn, own, first, last)?;
-    for id in &ids {
-        if let Some(row) = row_under(state, book, conn, own, *id) {
-            add(&mut rows, row.number)?;
-        }
-    }
-    Ok(rows)
+    let rows = settled_by_transfer(state, book, conn, transfer, answer)?;
+    Ok(Doings::forgetting(rows))
 }

@@ -3,7 +3,7 @@ use Rattle.std.specs.Prelude.{filter_map}
 use Rattle.router_trace.specs.Trace.{Entry}
 use Rattle.router_state.specs.Tables.{TablesFind}
 use Rattle.router_reply.specs.Joining.{number_under}
-use Rattle.router_reply.proofs.joining.rows_claimed.Given as goal
+use Rattle.router_reply.proofs.planning.disposition.rows_claimed.Given as goal
 
 -- those found so far, then those of the rest, are all
 abbrev pub invariant-loop-id : goal.invariant-loop-id
