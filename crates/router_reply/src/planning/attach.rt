@@ -110,12 +110,7 @@ fn volatile(alloc: Global, stolen: Option<Attachment>) -> Doings
 }
 
 /// What an attach does whose link is taken.
-fn taken(
-    state: &State,
-    book: &Book,
-    conn: u64,
-    attach: &Attach,
-) -> Result<Doings, AllocError>
+fn taken(state: &State, book: &Book, conn: u64, attach: &Attach) -> Result<Doings, AllocError>
     ensures stolen { IfOk result (λ does. (t : List Entry) → TablesFind state.now t → stolen_from does.stolen ≡ stolen_from (holder t (wanted_key t conn attach.now))) }
     ensures forgotten { IfOk result (λ does. does.forgotten.items ≡ []) }
     ensures terminus { IfOk result (λ does. (t : List Entry) → TablesFind state.now t → does.terminus ≡ made_for book.now (wanted_key t conn attach.now) attach.now) }

@@ -19,8 +19,8 @@ returns-clause-decided c = λ t at.
     c.in_ok-decided.ensures t (at_finds at)
     ∙ ap (λ (cs : List Change). map as_kept (decided_rows t cs) ++ c.planned_decisions-by_map.result.items)
     (c.in_ok-changes.ensures
-        ∙ changed_as t conn item c.args.answer own c.args.ends.now c.in_ok-change.change c.ended_by-ended.result found at.are_due c.in_ok-change.ensures
-        (c.ended_by-ended.ensures t item (λ on is. c.in_ok-does.ensures.stolen t on (at_finds at) is)))
+    ∙ changed_as t conn item c.args.answer own c.args.ends.now c.in_ok-change.change c.ended_by-ended.result found at.are_due c.in_ok-change.ensures
+    (c.ended_by-ended.ensures t item (λ on is. c.in_ok-does.ensures.stolen t on (at_finds at) is)))
     ∙ ap (λ (ds : List Decision). map as_kept (decided_rows t (event_changes t (event.Item conn item) c.args.answer)) ++ ds)
     (c.planned_decisions-by_map.ensures.decisions ∙ (c.in_ok-does.ensures.resumed t (at_finds at)).decisions)
 
