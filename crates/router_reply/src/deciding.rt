@@ -4,7 +4,7 @@ ghost use Rattle.amqp_model.specs.declared.item.Item.{Item};
 ghost use Rattle.router_trace.specs.Trace.{Entry};
 ghost use Rattle.router_trace.specs.Deliveries.{none_if_ended};
 ghost use Rattle.router_trace.specs.Sessions.{session_on};
-ghost use Rattle.reply_rows.specs.declared.answer.Answer.TheVariants as answer;
+ghost use Rattle.reply_rows.specs.declared.answer.Answer.TheVariants as reply;
 ghost use Rattle.router_state.specs.Tables.{TablesFind};
 ghost use Rattle.state_links.specs.Fits.{channel_of};
 ghost use Rattle.state_deliveries.specs.Deciding.{decided_rows};
@@ -59,7 +59,7 @@ fn steal(older: Option<Attachment>) -> Option<Change>
 
 /// The links that an answer ends; `stolen` is the older link that it ends if it takes an attach.
 pub(crate) fn ended_by(conn: u64, answer: &Answer, stolen: Option<Attachment>) -> Option<Change>
-    ensures { (t : List Entry) (item : Item) → ((on : ℕ) → answer.now ≡ answer.Attach on → stolen_from stolen ≡ stolen_for t conn item)
+    ensures { (t : List Entry) (item : Item) → ((on : ℕ) → answer.now ≡ reply.Attach on → stolen_from stolen ≡ stolen_for t conn item)
         → listed result ≡ ended_by t conn item answer.now }
 {
     match answer {

@@ -2,7 +2,7 @@
 //! here, once: what the router does with a performative stands in the module of that name.
 ghost use Rattle.std.specs.Prelude.{◌≡◌, ◌++◌, ℕ, [], List, Some, None, map, option_map, IfOk};
 ghost use Rattle.amqp_model.specs.Parts.{attach_of};
-ghost use Rattle.reply_rows.specs.declared.answer.Answer.TheVariants as answer;
+ghost use Rattle.reply_rows.specs.declared.answer.Answer.TheVariants as reply;
 ghost use Rattle.router_trace.specs.Trace.{Entry};
 ghost use Rattle.router_trace.specs.Connection.{phase_found};
 ghost use Rattle.router_trace.specs.declared.event.Event.TheVariants as event;
@@ -57,7 +57,7 @@ fn done_by(
     perf: &Perf,
     answer: &Answer,
 ) -> Result<Doings, AllocError>
-    ensures stolen { IfOk result (λ does. (t : List Entry) (on : ℕ) → TablesFind state.now t → answer.now ≡ answer.Attach on → stolen_from does.stolen ≡ stolen_in t conn perf.now) }
+    ensures stolen { IfOk result (λ does. (t : List Entry) (on : ℕ) → TablesFind state.now t → answer.now ≡ reply.Attach on → stolen_from does.stolen ≡ stolen_in t conn perf.now) }
     ensures forgotten { IfOk result (λ does. (t : List Entry) → TablesFind state.now t → does.forgotten.items ≡ forgotten_by book.now t conn own perf.now answer.now) }
     ensures terminus { IfOk result (λ does. (t : List Entry) → TablesFind state.now t → does.terminus ≡ terminus_by book.now t conn perf.now answer.now) }
     ensures resumed { IfOk result (λ does. (t : List Entry) → TablesFind state.now t → TakesUp book.now (attach_of perf.now) (key_by t conn perf.now answer.now) does.resumption) }
@@ -80,7 +80,7 @@ fn done_in(
     item: &Item,
     answer: &Answer,
 ) -> Result<Doings, AllocError>
-    ensures stolen { IfOk result (λ does. (t : List Entry) (on : ℕ) → TablesFind state.now t → answer.now ≡ answer.Attach on → stolen_from does.stolen ≡ stolen_for t conn item.now) }
+    ensures stolen { IfOk result (λ does. (t : List Entry) (on : ℕ) → TablesFind state.now t → answer.now ≡ reply.Attach on → stolen_from does.stolen ≡ stolen_for t conn item.now) }
     ensures forgotten { IfOk result (λ does. (t : List Entry) → TablesFind state.now t → does.forgotten.items ≡ forgotten_in book.now t conn own item.now answer.now) }
     ensures terminus { IfOk result (λ does. (t : List Entry) → TablesFind state.now t → does.terminus ≡ terminus_in book.now t conn item.now answer.now) }
     ensures resumed { IfOk result (λ does. (t : List Entry) → TablesFind state.now t → TakesUp book.now (attach_within item.now) (key_in t conn item.now answer.now) does.resumption) }
@@ -176,7 +176,7 @@ fn item_plan(
 
 /// Plans an event that is no item: it loses a connection, if it is the loss of one, and those that it ends first.
 fn lost_plan(state: &State, down: Option<u64>, ends: &[u64]) -> Result<Plan, AllocError>
-    ensures answer { IfOk result (λ plan. plan.answer ≡ answer.Nothing) }
+    ensures answer { IfOk result (λ plan. plan.answer ≡ reply.Nothing) }
     ensures decided { IfOk result (λ plan. (t : List Entry) → TablesFind state.now t → plan.decided.items ≡ map as_kept (decided_rows t (listed (option_map lost down) ++ map lost ends.now)) ++ []) }
     ensures forgotten { IfOk result (λ plan. plan.forgotten.items ≡ []) }
     ensures terminus { IfOk result (λ plan. plan.terminus ≡ None) }

@@ -1,12 +1,12 @@
 //! What an attach does to the book: one that is taken ends the older link with its key; if its link is durable, it makes the link's
 //! terminus, and what that has is taken up again.
 ghost use Rattle.std.specs.Prelude.{◌≡◌, ℕ, [], List, Some, None, option_map, unwrap_or, IfOk};
-ghost use Rattle.journal_store.specs.declared.acting.TerminusAct.TheVariants as terminus;
+ghost use Rattle.journal_store.specs.declared.acting.TerminusAct.TheVariants as act;
 ghost use Rattle.router_trace.specs.Trace.{Entry};
 ghost use Rattle.router_trace.specs.Links.{holder};
 ghost use Rattle.router_state.specs.Tables.{TablesFind};
 ghost use Rattle.reply_rows.specs.Booking.{wanted_key, wanted_address, new_terminus};
-ghost use Rattle.reply_rows.specs.declared.answer.Answer.TheVariants as answer;
+ghost use Rattle.reply_rows.specs.declared.answer.Answer.TheVariants as reply;
 ghost use Rattle.router_reply.specs.Deciding.{made_for, made_by, stolen_from};
 ghost use Rattle.router_reply.specs.Doing.{TakesUp};
 ghost use Rattle.router_reply.specs.Resuming.{asked_key, key_taken};
@@ -78,7 +78,7 @@ fn durable(
 ) -> Result<Doings, AllocError>
     ensures stolen { IfOk result (λ does. does.stolen ≡ stolen) }
     ensures forgotten { IfOk result (λ does. does.forgotten.items ≡ []) }
-    ensures terminus { IfOk result (λ does. does.terminus ≡ Some (terminus.Make (new_terminus book.now key (wanted_address attach.now)))) }
+    ensures terminus { IfOk result (λ does. does.terminus ≡ Some (act.Make (new_terminus book.now key (wanted_address attach.now)))) }
     ensures resumed { IfOk result (λ does. TakesUp book.now (Some attach.now) (Some key) does.resumption) }
 {
     let Ok(terminus) = new_terminus(alloc, book, &key, attach) else {
@@ -137,7 +137,7 @@ pub(crate) fn does(
     attach: &Attach,
     answer: &Answer,
 ) -> Result<Doings, AllocError>
-    ensures stolen { IfOk result (λ does. (t : List Entry) (on : ℕ) → TablesFind state.now t → answer.now ≡ answer.Attach on → stolen_from does.stolen ≡ stolen_from (holder t (wanted_key t conn attach.now))) }
+    ensures stolen { IfOk result (λ does. (t : List Entry) (on : ℕ) → TablesFind state.now t → answer.now ≡ reply.Attach on → stolen_from does.stolen ≡ stolen_from (holder t (wanted_key t conn attach.now))) }
     ensures forgotten { IfOk result (λ does. does.forgotten.items ≡ []) }
     ensures terminus { IfOk result (λ does. (t : List Entry) → TablesFind state.now t → does.terminus ≡ made_by book.now t conn attach.now answer.now) }
     ensures resumed { IfOk result (λ does. (t : List Entry) → TablesFind state.now t → TakesUp book.now (Some attach.now) (key_taken t conn attach.now answer.now) does.resumption) }

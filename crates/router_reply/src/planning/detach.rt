@@ -1,7 +1,7 @@
 //! What a detach does to the book: one that closes a durable link for good drops its terminus, and forgets the rows that came on it.
 ghost use Rattle.std.specs.Prelude.{◌≡◌, List, None, map, filter, option_map, IfOk};
 ghost use Rattle.book_model.specs.Book.{is_from};
-ghost use Rattle.journal_store.specs.declared.acting.TerminusAct.TheVariants as terminus;
+ghost use Rattle.journal_store.specs.declared.acting.TerminusAct.TheVariants as act;
 ghost use Rattle.router_trace.specs.Trace.{Entry};
 ghost use Rattle.router_state.specs.Tables.{TablesFind};
 ghost use Rattle.router_reply.specs.Deciding.{closed_terminus, sent_by, sent_from};
@@ -70,7 +70,7 @@ fn closed_terminus<'a>(
 
 /// The act that drops a terminus.
 fn dropped(terminus: Option<&Terminus>) -> Option<TerminusAct>
-    ensures { result ≡ option_map (λ x. terminus.Drop x.now.number) terminus.entry }
+    ensures { result ≡ option_map (λ x. act.Drop x.now.number) terminus.entry }
 {
     match terminus {
         None => None,
@@ -90,7 +90,7 @@ pub(crate) fn does(
     answer: &Answer,
 ) -> Result<Doings, AllocError>
     ensures forgotten { IfOk result (λ does. (t : List Entry) → TablesFind state.now t → does.forgotten.items ≡ sent_from book.now (closed_terminus book.now t conn answer.now)) }
-    ensures terminus { IfOk result (λ does. (t : List Entry) → TablesFind state.now t → does.terminus ≡ option_map (λ x. terminus.Drop x.number) (closed_terminus book.now t conn answer.now)) }
+    ensures terminus { IfOk result (λ does. (t : List Entry) → TablesFind state.now t → does.terminus ≡ option_map (λ x. act.Drop x.number) (closed_terminus book.now t conn answer.now)) }
     ensures stolen { IfOk result (λ does. does.stolen ≡ None) }
     ensures resumption { IfOk result (λ does. does.resumption ≡ None) }
 {
