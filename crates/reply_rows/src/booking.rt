@@ -261,7 +261,11 @@ pub(crate) fn booked_transfer(
     let Answer::Taken { own, handle } = answer else {
         return answer;
     };
-    let at = LinkPlace::new(ConnectionId(conn), own, handle);
+    let at = LinkPlace {
+        conn: ConnectionId(conn),
+        own,
+        handle,
+    };
     if starts_again(state, book, at, middle, key, transfer) {
         return Answer::Detach {
             own,

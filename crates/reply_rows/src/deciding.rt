@@ -42,7 +42,11 @@ fn attach_reply(state: &State, conn: u64, place: Place, attach: &Attach) -> Answ
         Place::Nowhere => no_session_reply(),
         Place::Ending => Answer::Nothing,
         Place::On { own, .. } => {
-            let at = state.link_place(LinkPlace::new(ConnectionId(conn), own, attach.handle));
+            let at = state.link_place(LinkPlace {
+                conn: ConnectionId(conn),
+                own,
+                handle: attach.handle,
+            });
             let free = state.free_handle(conn, own);
             let multicast = is_multicast_link(state, attach);
             session_attach_reply(own, at, free, multicast, attach)
@@ -77,7 +81,11 @@ fn flow_reply(state: &State, conn: u64, place: Place, flow: &Flow) -> Answer
         Place::On { own, window } => match flow.handle {
             None => session_flow_reply(own, window, flow),
             Some(handle) => {
-                let at = state.link_place(LinkPlace::new(ConnectionId(conn), own, handle));
+                let at = state.link_place(LinkPlace {
+                    conn: ConnectionId(conn),
+                    own,
+                    handle,
+                });
                 link_flow_reply(own, window, at, flow)
             }
         },
@@ -106,7 +114,11 @@ fn transfer_on(
     ensures { (t : List Entry) (h : Session) → TablesFind state.now t → window ≡ window_of h
         → result ≡ booked_transfer book.now t conn transfer.now (session_transfer_reply own h (is_claimed t conn own) (link_place t conn own transfer.now.handle) transfer.now) }
 {
-    let found = state.find_link(LinkPlace::new(ConnectionId(conn), own, transfer.handle));
+    let found = state.find_link(LinkPlace {
+        conn: ConnectionId(conn),
+        own,
+        handle: transfer.handle,
+    });
     let claimed = is_among(state, conn, own, transfer.delivery_id);
     let answer = session_transfer_reply(own, window, found.place, claimed, found.middle, transfer);
     booked_transfer(state, book, conn, found.middle, found.key, transfer, answer)
@@ -139,7 +151,11 @@ fn detach_reply(state: &State, conn: u64, place: Place, detach: &Detach) -> Answ
         Place::Nowhere => no_session_reply(),
         Place::Ending => Answer::Nothing,
         Place::On { own, .. } => {
-            let at = state.link_place(LinkPlace::new(ConnectionId(conn), own, detach.handle));
+            let at = state.link_place(LinkPlace {
+                conn: ConnectionId(conn),
+                own,
+                handle: detach.handle,
+            });
             session_detach_reply(own, at, detach)
         }
     }

@@ -53,7 +53,11 @@ fn row_claimed<'a>(
     match claim {
         None => None,
         Some(claim) => {
-            let at = LinkPlace::new(ConnectionId(conn), own, claim.handle);
+            let at = LinkPlace {
+                conn: ConnectionId(conn),
+                own,
+                handle: claim.handle,
+            };
             let key = state.durable_key(at);
             row_joined(book, key, claim.tag.as_ref())
         }

@@ -12,7 +12,7 @@ use book_model::{Act, Admission, LinkKey, RowNumber, TerminusNumber};
 use bytes::Bytes;
 use reply_rows::Answer;
 use reply_transfers::claimed_id;
-use router_state::State;
+use router_state::{LinkPlace, State};
 use router_trace::{Attachment, ConnectionId};
 use std::alloc::AllocError;
 
@@ -60,25 +60,23 @@ fn admission_of(
 fn whole_admission(
     state: &mut State,
     book: &Book,
-    conn: u64,
-    own: u16,
-    handle: u32,
+    at: LinkPlace,
     delivery: &Delivery,
     payload: &Bytes,
 ) -> Result<Option<Admission>, AllocError>
-    ensures admission { IfOk result (λ admission. (t : List Entry) → TablesFit state.old t → admission ≡ whole_admission book.now t conn own handle delivery.now payload.now) }
+    ensures admission { IfOk result (λ admission. (t : List Entry) → TablesFit state.old t → admission ≡ whole_admission book.now t at.conn.0 at.own at.handle delivery.now payload.now) }
     ensures fits { OnOk result ((t : List Entry) → TablesFit state.old t → TablesFit state.new t) }
 {
-    if delivery.resume || claimed_id(state, conn, own, handle, delivery.id).is_none() {
+    if delivery.resume || claimed_id(state, at, delivery.id).is_none() {
         return Ok(None);
     }
-    let Some(producer) = terminus_for(book, state.durable_key(conn, own, handle)) else {
+    let Some(producer) = terminus_for(book, state.durable_key(at)) else {
         return Ok(None);
     };
-    let Some(at) = state.consumer_for(conn, own, handle)? else {
+    let Some(chosen) = state.consumer_for(at)? else {
         return Ok(None);
     };
-    let consumer = terminus_for(book, state.durable_key(at.conn.0, at.channel, at.handle));
+    let consumer = terminus_for(book, state.durable_key(LinkPlace::of(chosen)));
     let admission = admission_of(book, producer, consumer, delivery, payload)?;
     Ok(Some(admission))
 }
@@ -101,7 +99,17 @@ pub fn admission_for(
 {
     match (answer, part) {
         (Answer::Taken { own, handle }, Some(Part::Whole(delivery, payload))) => {
-            whole_admission(state, book, conn.0, *own, *handle, delivery, payload)
+            whole_admission(
+                state,
+                book,
+                LinkPlace {
+                    conn,
+                    own: *own,
+                    handle: *handle,
+                },
+                delivery,
+                payload,
+            )
         }
         _ => Ok(None),
     }

@@ -23,7 +23,7 @@ use book_core::Book;
 use book_model::RowNumber;
 use reply_rows::Answer;
 use reply_transfers::{disposition_in, settle, take_part};
-use router_state::State;
+use router_state::{LinkPlace, State};
 use router_trace::{ConnectionId, Event, RouterId};
 use std::alloc::AllocError;
 use std::mem;
@@ -68,9 +68,11 @@ fn begin_item(
                 state,
                 id,
                 book,
-                conn.0,
-                *own,
-                *handle,
+                LinkPlace {
+                    conn,
+                    own: *own,
+                    handle: *handle,
+                },
                 row,
                 heard.part.take(),
             )

@@ -16,13 +16,6 @@ pub struct LinkPlace {
 }
 
 impl LinkPlace {
-    /// A handle on the session of a connection with this channel of the router.
-    pub fn new(conn: ConnectionId, own: u16, handle: u32) -> LinkPlace
-        ensures { result ≡ record { conn = conn; own = own; handle = handle } }
-    {
-        LinkPlace { conn, own, handle }
-    }
-
     /// The router's handle of a link.
     pub fn of(link: Attachment) -> LinkPlace
         ensures { result ≡ record { conn = link.conn; own = link.channel; handle = link.handle } }

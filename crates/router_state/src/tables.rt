@@ -6,9 +6,9 @@ ghost use Rattle.router_trace.specs.Trace.{Beginning, Trace};
 ghost use Rattle.router_trace.specs.Configuration.{opened, distribution, is_multicast};
 ghost use Rattle.router_trace.specs.Sessions.{theirs, maps, session};
 ghost use Rattle.router_trace.specs.Frames.{told_of};
-ghost use Rattle.router_trace.specs.Links.{link, place_of, is_attached, durable_key, holds_durable};
+ghost use Rattle.router_trace.specs.Links.{link, place_of, is_attached, durable_key};
 ghost use Rattle.router_trace.specs.Claims.{claims};
-ghost use Rattle.router_trace.specs.Settling.{part_of, middle_on, is_claimed, is_claimed_on, ids_claimed, open_ids, unbound};
+ghost use Rattle.router_trace.specs.Settling.{part_of, is_claimed, is_claimed_on, ids_claimed, open_ids, unbound};
 ghost use Rattle.router_trace.specs.Deliveries.{called, joined_by, owned_in, acts_found, delivery, rank_at, ended_first, giving, is_to_tell, sending, named, next_id};
 ghost use Rattle.router_trace.specs.declared.binding.DeliveryName.TheVariants.{Row};
 ghost use Rattle.router_trace.specs.Following.{link_of, first_delivery, is_unsent_on, is_wide, is_busy, is_used, takes_more};
@@ -39,7 +39,7 @@ ghost use Rattle.router_trace.specs.declared.event.Event.TheVariants as event;
 use crate::durable::none_if_ended;
 use crate::place::LinkPlace;
 use amqp_conn::Conn;
-use amqp_link::{Delivery, Part};
+use amqp_link::Part;
 use amqp_model::{Attach, DeliveryState, Item, Perf};
 use amqp_session::{FlowState, Window};
 use book_model::{Act, LinkKey, RowNumber};
@@ -156,14 +156,6 @@ impl State {
         ensures found { (t : List Entry) → TablesFind self.now t → result ≡ holder t key.now }
     {
         self.messages.links().holder(key)
-    }
-
-    /// Whether a durable link is attached with a key.
-    pub fn holds_durable(&self, key: &LinkKey) -> bool
-        ensures now { (t : List Entry) → TablesFit self.now t → result ≡ holds_durable t key.now }
-        ensures found { (t : List Entry) → TablesFind self.now t → result ≡ holds_durable t key.now }
-    {
-        self.messages.links().holds_durable(key)
     }
 
     /// The key of the durable link on a handle of the router.
@@ -375,13 +367,6 @@ impl State {
         ensures { (t : List Entry) → TablesFit self.now t → IsLeast (λ c. is_ready (known t c)) result }
     {
         self.ready.first()
-    }
-
-    /// The delivery in the middle of a link of the peer, as an event finds it.
-    pub fn middle(&self, conn: u64, own: u16, handle: u32) -> Option<&Delivery>
-        ensures { (t : List Entry) → TablesFind self.now t → option_map (λ d. d.now) result ≡ middle_on (link_place t conn own handle) }
-    {
-        self.messages.links().middle(conn, own, handle)
     }
 
     /// Whether a peer has not settled the delivery with this id of its own.

@@ -12,7 +12,8 @@ use book_core::Book;
 use book_model::{LinkRole, RowNumber, Terminus, TerminusNumber};
 use journal_store::TerminusAct;
 use reply_rows::Answer;
-use router_state::State;
+use router_state::{LinkPlace, State};
+use router_trace::ConnectionId;
 use std::alloc::{AllocError, Global};
 
 /// The rows that came on the link of a terminus.
@@ -60,7 +61,11 @@ fn closed_terminus<'a>(
             handle,
             closed: true,
             error: None,
-        } => match state.durable_key(conn, *own, *handle) {
+        } => match state.durable_key(LinkPlace {
+            conn: ConnectionId(conn),
+            own: *own,
+            handle: *handle,
+        }) {
             None => None,
             Some(key) => book.terminus_of(key),
         },

@@ -13,7 +13,8 @@ use book_core::Book;
 use book_model::{Row, RowNumber};
 use reply_rows::Answer;
 use reply_transfers::{row_joined, row_under};
-use router_state::State;
+use router_state::{LinkPlace, State};
+use router_trace::ConnectionId;
 use std::alloc::{AllocError, Global};
 
 /// The tag of the delivery to which a transfer belongs, if that is resumed and settled; `earlier` is what its earlier frames
@@ -72,15 +73,18 @@ fn row_alone(state: &State, row: Option<&Row>) -> Result<Vec<RowNumber>, AllocEr
 fn settled_on_link(
     state: &State,
     book: &Book,
-    conn: u64,
-    own: u16,
-    handle: u32,
+    at: LinkPlace,
     transfer: &Transfer,
 ) -> Result<Vec<RowNumber>, AllocError>
-    ensures { IfOk result (λ rows. (t : List Entry) → TablesFind state.now t → rows.items ≡ settled_on_link book.now t conn own handle transfer.now) }
+    ensures { IfOk result (λ rows. (t : List Entry) → TablesFind state.now t → rows.items ≡ settled_on_link book.now t at.conn.0 at.own at.handle transfer.now) }
 {
-    let tag = settled_whole(transfer, state.middle(conn, own, transfer.handle));
-    let row = row_joined(book, state.durable_key(conn, own, handle), tag);
+    let found = state.find_link(LinkPlace {
+        conn: at.conn,
+        own: at.own,
+        handle: transfer.handle,
+    });
+    let tag = settled_whole(transfer, found.middle);
+    let row = row_joined(book, state.durable_key(at), tag);
     row_alone(state, row)
 }
 
@@ -96,7 +100,16 @@ fn settled_by_transfer(
 {
     match answer {
         Answer::Taken { own, handle } => {
-            settled_on_link(state, book, conn, *own, *handle, transfer)
+            settled_on_link(
+                state,
+                book,
+                LinkPlace {
+                    conn: ConnectionId(conn),
+                    own: *own,
+                    handle: *handle,
+                },
+                transfer,
+            )
         }
         _ => Ok(Vec::new(state.alloc())),
     }
