@@ -54,21 +54,21 @@ returns-in-Down-clause-resumed c = IfOk-weaker c.lost_plan.result _ _
     (λ t at found. record { key = ap key_resumed is; held = ap key_held is; map = ap map_resumed is; rows = ap rows_resumed is })) c.lost_plan.ensures.resumption
 
 pub returns-in_default-clause-answer : goal.returns-in_default-clause-answer
-returns-in_default-clause-answer c = IfOk-weaker c.lost_plan.result _ _
-    (λ p is. other_answers c.args.state.now c.args.full c.args.book.now c.args.ends.now c.args.phase p c.args.event.now c.in_default.not-Item c.in_default.not-Down is) c.lost_plan.ensures.answer
+returns-in_default-clause-answer c = IfOk-weaker c.lost_plan-in_default.result _ _
+    (λ p is. other_answers c.args.state.now c.args.full c.args.book.now c.args.ends.now c.args.phase p c.args.event.now c.in_default.not-Item c.in_default.not-Down is) c.lost_plan-in_default.ensures.answer
 
 pub returns-in_default-clause-decided : goal.returns-in_default-clause-decided
-returns-in_default-clause-decided c = IfOk-weaker c.lost_plan.result _ _
-    (λ p is. other_decides c.args.state.now c.args.full c.args.book.now c.args.ends.now c.args.phase p c.args.event.now c.in_default.not-Item c.in_default.not-Down is) c.lost_plan.ensures.decided
+returns-in_default-clause-decided c = IfOk-weaker c.lost_plan-in_default.result _ _
+    (λ p is. other_decides c.args.state.now c.args.full c.args.book.now c.args.ends.now c.args.phase p c.args.event.now c.in_default.not-Item c.in_default.not-Down is) c.lost_plan-in_default.ensures.decided
 
 pub returns-in_default-clause-forgotten : goal.returns-in_default-clause-forgotten
-returns-in_default-clause-forgotten c = IfOk-weaker c.lost_plan.result _ _
-    (λ p is. other_forgets c.args.state.now c.args.full c.args.book.now c.args.ends.now c.args.phase p c.args.event.now c.in_default.not-Item c.in_default.not-Down is) c.lost_plan.ensures.forgotten
+returns-in_default-clause-forgotten c = IfOk-weaker c.lost_plan-in_default.result _ _
+    (λ p is. other_forgets c.args.state.now c.args.full c.args.book.now c.args.ends.now c.args.phase p c.args.event.now c.in_default.not-Item c.in_default.not-Down is) c.lost_plan-in_default.ensures.forgotten
 
 pub returns-in_default-clause-terminus : goal.returns-in_default-clause-terminus
-returns-in_default-clause-terminus c = IfOk-weaker c.lost_plan.result _ _
-    (λ p is. other_ends c.args.state.now c.args.full c.args.book.now c.args.ends.now c.args.phase p c.args.event.now c.in_default.not-Item c.in_default.not-Down is) c.lost_plan.ensures.terminus
+returns-in_default-clause-terminus c = IfOk-weaker c.lost_plan-in_default.result _ _
+    (λ p is. other_ends c.args.state.now c.args.full c.args.book.now c.args.ends.now c.args.phase p c.args.event.now c.in_default.not-Item c.in_default.not-Down is) c.lost_plan-in_default.ensures.terminus
 
 pub returns-in_default-clause-resumed : goal.returns-in_default-clause-resumed
-returns-in_default-clause-resumed c = IfOk-weaker c.lost_plan.result _ _
-    (λ p is. other_resumes c.args.state.now c.args.full c.args.book.now c.args.ends.now c.args.phase p c.args.event.now c.in_default.not-Item c.in_default.not-Down is) c.lost_plan.ensures.resumption
+returns-in_default-clause-resumed c = IfOk-weaker c.lost_plan-in_default.result _ _
+    (λ p is. other_resumes c.args.state.now c.args.full c.args.book.now c.args.ends.now c.args.phase p c.args.event.now c.in_default.not-Item c.in_default.not-Down is) c.lost_plan-in_default.ensures.resumption
