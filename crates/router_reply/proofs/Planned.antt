@@ -20,24 +20,30 @@ use Rattle.state_deliveries.specs.Hearing.{heard_change}
 use Rattle.state_deliveries.specs.declared.change.Change.{Change}
 use Rattle.state_links.specs.Fits.{channel_of}
 use Rattle.router_reply.specs.Acts.{event_answer}
-use Rattle.router_reply.specs.Deciding.{as_kept, listed, lost, ended_by, session_found, event_changes, decided, forgotten, terminus_of_event}
+use Rattle.router_reply.specs.Deciding.{as_kept, listed, lost, ended_by, session_found, event_changes, decided}
+use Rattle.router_reply.specs.Deciding.{forgotten, terminus_of_event}
 use Rattle.router_reply.specs.Resuming.{Resumes, key_resumed, key_held, map_resumed, rows_resumed}
 use Rattle.router_reply.specs.declared.planning.Plan.{Plan}
 
 -- the session of an item, by the connections that its event ends first
 pub found_as : (t : List Entry) (d : ConnectionId) (i : Item) (own : Option ℕ) (ends : List ℕ)
-    → own ≡ none_if_ended ends d.0 (session_on t d.0 (channel_of i)) → ends ≡ due t (event.Item d i) → own ≡ session_found t d i
-found_as t d i own ends is are_due = is ∙ ap (λ (es : List ℕ). none_if_ended es d.0 (session_on t d.0 (channel_of i))) are_due
+    → own ≡ none_if_ended ends d.0 (session_on t d.0 (channel_of i)) → ends ≡ due t (event.Item d i)
+    → own ≡ session_found t d i
+found_as t d i own ends is are_due = is
+    ∙ ap (λ (es : List ℕ). none_if_ended es d.0 (session_on t d.0 (channel_of i))) are_due
 
 -- the changes of deliveries that an item brings
-pub changed_as : (t : List Entry) (d : ConnectionId) (i : Item) (a : Answer) (own : Option ℕ) (ends : List ℕ) (change ended : Option Change)
-    → own ≡ session_found t d i → ends ≡ due t (event.Item d i) → change ≡ heard_change d.0 own i → listed ended ≡ ended_by t d.0 i a
+pub changed_as : (t : List Entry) (d : ConnectionId) (i : Item) (a : Answer) (own : Option ℕ) (ends : List ℕ)
+    (change ended : Option Change)
+    → own ≡ session_found t d i → ends ≡ due t (event.Item d i) → change ≡ heard_change d.0 own i
+    → listed ended ≡ ended_by t d.0 i a
     → listed change ++ map lost ends ++ listed ended ≡ event_changes t (event.Item d i) a
 changed_as t d i a own ends change ended is_own are_due is_change is_ended =
     ap (λ (xs : List Change). listed change ++ map lost ends ++ xs) is_ended
     ∙ ap (λ (x : Option Change). listed x ++ map lost ends ++ ended_by t d.0 i a) is_change
     ∙ ap (λ (o : Option ℕ). listed (heard_change d.0 o i) ++ map lost ends ++ ended_by t d.0 i a) is_own
-    ∙ ap (λ (es : List ℕ). listed (heard_change d.0 (session_found t d i) i) ++ map lost es ++ ended_by t d.0 i a) are_due
+    ∙ ap (λ (es : List ℕ). listed (heard_change d.0 (session_found t d i) i) ++ map lost es
+    ++ ended_by t d.0 i a) are_due
 
 -- What the plan of an event promises, one clause of `make_plan` each.
 abbrev pub PlanFor : State → List ℕ → Option Conn → (List Entry → Event → Type 0) → Event → Type 0
@@ -65,33 +71,46 @@ NoItem e = (d : ConnectionId) (i : Item) → e ≡ event.Item d i → ⊥
 abbrev pub NoLoss : Event → Type 0
 NoLoss e = (d : ConnectionId) → e ≡ event.Down d → ⊥
 
-pub other_answers : (s : State) (full : Bool) (b : BookView) (ends : List ℕ) (phase : Option Conn) (p : Plan) (e : Event) → NoItem e → NoLoss e
+pub other_answers : (s : State) (full : Bool) (b : BookView) (ends : List ℕ) (phase : Option Conn) (p : Plan)
+    (e : Event) → NoItem e → NoLoss e
     → p.answer ≡ Nothing → PlanFor s ends phase (Answers full b p) e
 other_answers s full b ends phase p (event.Item d i) item loss is = absurd (item d i refl)
 other_answers s full b ends phase p (event.Down d) item loss is = absurd (loss d refl)
 other_answers s full b ends phase p _ item loss is = λ t at found. is
 
-pub other_decides : (s : State) (full : Bool) (b : BookView) (ends : List ℕ) (phase : Option Conn) (p : Plan) (e : Event) → NoItem e → NoLoss e
-    → ((t : List Entry) → TablesFind s t → p.decided.items ≡ map as_kept (decided_rows t (map lost ends)) ++ []) → PlanFor s ends phase (Decides full b p) e
+pub other_decides : (s : State) (full : Bool) (b : BookView) (ends : List ℕ) (phase : Option Conn) (p : Plan)
+    (e : Event) → NoItem e → NoLoss e
+    → ((t : List Entry) → TablesFind s t → p.decided.items ≡ map as_kept (decided_rows t (map lost ends)) ++ [])
+    → PlanFor s ends phase (Decides full b p) e
 other_decides s full b ends phase p (event.Item d i) item loss is = absurd (item d i refl)
 other_decides s full b ends phase p (event.Down d) item loss is = absurd (loss d refl)
-other_decides s full b ends phase p _ item loss is = λ t at found. is t (at_finds at) ∙ ap (λ (es : List ℕ). map as_kept (decided_rows t (map lost es)) ++ []) at.are_due
+other_decides s full b ends phase p _ item loss is = λ t at found. is t (at_finds at)
+    ∙ ap (λ (es : List ℕ). map as_kept (decided_rows t (map lost es)) ++ []) at.are_due
 
-pub other_forgets : (s : State) (full : Bool) (b : BookView) (ends : List ℕ) (phase : Option Conn) (p : Plan) (e : Event) → NoItem e → NoLoss e
+pub other_forgets : (s : State) (full : Bool) (b : BookView) (ends : List ℕ) (phase : Option Conn) (p : Plan)
+    (e : Event) → NoItem e → NoLoss e
     → p.forgotten.items ≡ [] → PlanFor s ends phase (Forgets full b p) e
 other_forgets s full b ends phase p (event.Item d i) item loss is = absurd (item d i refl)
 other_forgets s full b ends phase p (event.Down d) item loss is = absurd (loss d refl)
 other_forgets s full b ends phase p _ item loss is = λ t at found. is
 
-pub other_ends : (s : State) (full : Bool) (b : BookView) (ends : List ℕ) (phase : Option Conn) (p : Plan) (e : Event) → NoItem e → NoLoss e
+pub other_ends : (s : State) (full : Bool) (b : BookView) (ends : List ℕ) (phase : Option Conn) (p : Plan) (e : Event)
+    → NoItem e → NoLoss e
     → p.terminus ≡ None → PlanFor s ends phase (Ends full b p) e
 other_ends s full b ends phase p (event.Item d i) item loss is = absurd (item d i refl)
 other_ends s full b ends phase p (event.Down d) item loss is = absurd (loss d refl)
 other_ends s full b ends phase p _ item loss is = λ t at found. is
 
-pub other_resumes : (s : State) (full : Bool) (b : BookView) (ends : List ℕ) (phase : Option Conn) (p : Plan) (e : Event) → NoItem e → NoLoss e
+pub other_resumes : (s : State) (full : Bool) (b : BookView) (ends : List ℕ) (phase : Option Conn) (p : Plan)
+    (e : Event) → NoItem e → NoLoss e
     → p.resumption ≡ None → PlanFor s ends phase (Resuming full b p) e
 other_resumes s full b ends phase p (event.Item d i) item loss is = absurd (item d i refl)
 other_resumes s full b ends phase p (event.Down d) item loss is = absurd (loss d refl)
 other_resumes s full b ends phase p _ item loss is =
-    λ t at found. record { key = ap key_resumed is; held = ap key_held is; map = ap map_resumed is; rows = ap rows_resumed is }
+    λ t at found. record {
+      key = ap key_resumed is;
+      held = ap key_held is;
+      map = ap map_resumed is;
+      rows
+          = ap rows_resumed is;
+    }

@@ -99,17 +99,12 @@ pub fn admission_for(
 {
     match (answer, part) {
         (Answer::Taken { own, handle }, Some(Part::Whole(delivery, payload))) => {
-            whole_admission(
-                state,
-                book,
-                LinkPlace {
-                    conn,
-                    own: *own,
-                    handle: *handle,
-                },
-                delivery,
-                payload,
-            )
+            let at = LinkPlace {
+                conn,
+                own: *own,
+                handle: *handle,
+            };
+            whole_admission(state, book, at, delivery, payload)
         }
         _ => Ok(None),
     }

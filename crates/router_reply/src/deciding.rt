@@ -59,7 +59,8 @@ fn steal(older: Option<Attachment>) -> Option<Change>
 
 /// The links that an answer ends; `stolen` is the older link that it ends if it takes an attach.
 pub(crate) fn ended_by(conn: u64, answer: &Answer, stolen: Option<Attachment>) -> Option<Change>
-    ensures { (t : List Entry) (item : Item) → ((on : ℕ) → answer.now ≡ reply.Attach on → stolen_from stolen ≡ stolen_for t conn item)
+    ensures { (t : List Entry) (item : Item) → ((on : ℕ) → answer.now ≡ reply.Attach on
+        → stolen_from stolen ≡ stolen_for t conn item)
         → listed result ≡ ended_by t conn item answer.now }
 {
     match answer {
@@ -97,7 +98,8 @@ fn add_some(changes: &mut Vec<Change>, change: Option<Change>) -> Result<(), All
     }
 }
 
-/// Changes of deliveries: that by an item, if there is one, those by the loss of these connections, and that by an answer.
+/// Changes of deliveries: that by an item, if there is one, those by the loss of these connections, and that by an
+/// answer.
 pub(crate) fn changes(
     alloc: Global,
     first: Option<Change>,
@@ -131,7 +133,8 @@ pub(crate) fn changes_lost(
 
 /// The session of an item, as an event finds it that ends these connections first.
 pub(crate) fn session_found(state: &State, ends: &[u64], conn: u64, item: &Item) -> Option<u16>
-    ensures { (t : List Entry) → TablesFind state.now t → result ≡ none_if_ended ends.now conn (session_on t conn (channel_of item.now)) }
+    ensures { (t : List Entry) → TablesFind state.now t
+        → result ≡ none_if_ended ends.now conn (session_on t conn (channel_of item.now)) }
 {
     none_if_ended(ends, conn, state.own_channel(conn, channel_of(item)))
 }
@@ -178,8 +181,8 @@ fn all_kept(alloc: Global, rows: &[Decision]) -> Result<Vec<Decision>, AllocErro
     Ok(kept)
 }
 
-/// The rows that these changes of deliveries decide, each with its outcome as the router keeps it; then `by_map`, those that the map of
-/// an attach decides.
+/// The rows that these changes of deliveries decide, each with its outcome as the router keeps it; then `by_map`, those
+/// that the map of an attach decides.
 ///
 /// # Errors
 ///
@@ -189,7 +192,8 @@ pub(crate) fn decided(
     changes: Vec<Change>,
     by_map: Vec<Decision>,
 ) -> Result<Vec<Decision>, AllocError>
-    ensures { IfOk result (λ rows. (t : List Entry) → TablesFind state.now t → rows.items ≡ map as_kept (decided_rows t changes.items) ++ by_map.items) }
+    ensures { IfOk result (λ rows. (t : List Entry) → TablesFind state.now t
+        → rows.items ≡ map as_kept (decided_rows t changes.items) ++ by_map.items) }
 {
     let Ok(rows) = changed_rows(state, changes) else {
         drop(by_map);
@@ -200,7 +204,8 @@ pub(crate) fn decided(
 
 /// The rows that these changes of deliveries decide, each with its outcome as the router keeps it.
 fn changed_rows(state: &State, changes: Vec<Change>) -> Result<Vec<Decision>, AllocError>
-    ensures { IfOk result (λ rows. (t : List Entry) → TablesFind state.now t → rows.items ≡ map as_kept (decided_rows t changes.items)) }
+    ensures { IfOk result (λ rows. (t : List Entry) → TablesFind state.now t
+        → rows.items ≡ map as_kept (decided_rows t changes.items)) }
 {
     let rows = state.decided_rows(&changes)?;
     drop(changes);

@@ -64,18 +64,12 @@ fn begin_item(
 {
     match answer {
         Answer::Taken { own, handle } => {
-            take_part(
-                state,
-                id,
-                book,
-                LinkPlace {
-                    conn,
-                    own: *own,
-                    handle: *handle,
-                },
-                row,
-                heard.part.take(),
-            )
+            let at = LinkPlace {
+                conn,
+                own: *own,
+                handle: *handle,
+            };
+            take_part(state, id, book, at, row, heard.part.take())
         }
         Answer::Settle { own } => on_settle(state, id, conn, *own, item, &heard.ids),
         _ => say(state, id, conn.0, phase, answer),

@@ -1,5 +1,5 @@
-//! What an event is answered with and what it does to the book of durable deliveries, before any of it is done. A frame is taken apart
-//! here, once: what the router does with a performative stands in the module of that name.
+//! What an event is answered with and what it does to the book of durable deliveries, before any of it is done. A frame
+//! is taken apart here, once: what the router does with a performative stands in the module of that name.
 ghost use Rattle.std.specs.Prelude.{◌≡◌, ◌++◌, ℕ, [], List, Some, None, map, option_map, IfOk};
 ghost use Rattle.amqp_model.specs.Parts.{attach_of};
 ghost use Rattle.reply_rows.specs.declared.answer.Answer.TheVariants as reply;
@@ -9,7 +9,9 @@ ghost use Rattle.router_trace.specs.declared.event.Event.TheVariants as event;
 ghost use Rattle.router_state.specs.Tables.{TablesFind, TablesAt};
 ghost use Rattle.state_deliveries.specs.Deciding.{decided_rows};
 ghost use Rattle.router_reply.specs.Acts.{live_answer, event_answer};
-ghost use Rattle.router_reply.specs.Deciding.{as_kept, listed, lost, stolen_from, stolen_for, stolen_in, decided, forgotten, forgotten_by, forgotten_in, terminus_by, terminus_in, terminus_of_event};
+ghost use Rattle.router_reply.specs.Deciding.{as_kept, listed, lost, stolen_from, stolen_for, stolen_in, decided};
+ghost use Rattle.router_reply.specs.Deciding.{forgotten, forgotten_by, forgotten_in, terminus_by, terminus_in};
+ghost use Rattle.router_reply.specs.Deciding.{terminus_of_event};
 ghost use Rattle.router_reply.specs.Doing.{TakesUp};
 ghost use Rattle.router_reply.specs.Resuming.{Resumes, attach_within, key_by, key_in};
 
@@ -36,7 +38,8 @@ use std::alloc::AllocError;
 /// What an event is answered with, and what it does to the book but for an admission.
 #[derive(Drop)]
 pub struct Plan {
-    /// The answer to its item; `Nothing` if the item's connection isn't live as the event finds it, and for any other event.
+    /// The answer to its item; `Nothing` if the item's connection isn't live as the event finds it, and for any other
+    /// event.
     pub answer: Answer,
     /// The rows that it decides, each with its outcome.
     pub decided: Vec<Decision>,
@@ -44,7 +47,8 @@ pub struct Plan {
     pub forgotten: Vec<RowNumber>,
     /// The terminus that it makes or drops.
     pub terminus: Option<TerminusAct>,
-    /// What it takes up again; what the map of its attach decides and forgets is among the rows that it decides and forgets.
+    /// What it takes up again; what the map of its attach decides and forgets is among the rows that it decides and
+    /// forgets.
     pub resumption: Option<Resumption>,
 }
 
@@ -57,10 +61,14 @@ fn done_by(
     perf: &Perf,
     answer: &Answer,
 ) -> Result<Doings, AllocError>
-    ensures stolen { IfOk result (λ does. (t : List Entry) (on : ℕ) → TablesFind state.now t → answer.now ≡ reply.Attach on → stolen_from does.stolen ≡ stolen_in t conn perf.now) }
-    ensures forgotten { IfOk result (λ does. (t : List Entry) → TablesFind state.now t → does.forgotten.items ≡ forgotten_by book.now t conn own perf.now answer.now) }
-    ensures terminus { IfOk result (λ does. (t : List Entry) → TablesFind state.now t → does.terminus ≡ terminus_by book.now t conn perf.now answer.now) }
-    ensures resumed { IfOk result (λ does. (t : List Entry) → TablesFind state.now t → TakesUp book.now (attach_of perf.now) (key_by t conn perf.now answer.now) does.resumption) }
+    ensures stolen { IfOk result (λ does. (t : List Entry) (on : ℕ) → TablesFind state.now t
+        → answer.now ≡ reply.Attach on → stolen_from does.stolen ≡ stolen_in t conn perf.now) }
+    ensures forgotten { IfOk result (λ does. (t : List Entry) → TablesFind state.now t
+        → does.forgotten.items ≡ forgotten_by book.now t conn own perf.now answer.now) }
+    ensures terminus { IfOk result (λ does. (t : List Entry) → TablesFind state.now t
+        → does.terminus ≡ terminus_by book.now t conn perf.now answer.now) }
+    ensures resumed { IfOk result (λ does. (t : List Entry) → TablesFind state.now t
+        → TakesUp book.now (attach_of perf.now) (key_by t conn perf.now answer.now) does.resumption) }
 {
     match perf {
         Perf::Attach(attach) => attach::does(state, book, conn, attach.as_ref(), answer),
@@ -80,10 +88,14 @@ fn done_in(
     item: &Item,
     answer: &Answer,
 ) -> Result<Doings, AllocError>
-    ensures stolen { IfOk result (λ does. (t : List Entry) (on : ℕ) → TablesFind state.now t → answer.now ≡ reply.Attach on → stolen_from does.stolen ≡ stolen_for t conn item.now) }
-    ensures forgotten { IfOk result (λ does. (t : List Entry) → TablesFind state.now t → does.forgotten.items ≡ forgotten_in book.now t conn own item.now answer.now) }
-    ensures terminus { IfOk result (λ does. (t : List Entry) → TablesFind state.now t → does.terminus ≡ terminus_in book.now t conn item.now answer.now) }
-    ensures resumed { IfOk result (λ does. (t : List Entry) → TablesFind state.now t → TakesUp book.now (attach_within item.now) (key_in t conn item.now answer.now) does.resumption) }
+    ensures stolen { IfOk result (λ does. (t : List Entry) (on : ℕ) → TablesFind state.now t
+        → answer.now ≡ reply.Attach on → stolen_from does.stolen ≡ stolen_for t conn item.now) }
+    ensures forgotten { IfOk result (λ does. (t : List Entry) → TablesFind state.now t
+        → does.forgotten.items ≡ forgotten_in book.now t conn own item.now answer.now) }
+    ensures terminus { IfOk result (λ does. (t : List Entry) → TablesFind state.now t
+        → does.terminus ≡ terminus_in book.now t conn item.now answer.now) }
+    ensures resumed { IfOk result (λ does. (t : List Entry) → TablesFind state.now t
+        → TakesUp book.now (attach_within item.now) (key_in t conn item.now answer.now) does.resumption) }
 {
     match item {
         Item::Frame { sasl, perf, .. } => {
@@ -107,10 +119,15 @@ fn planned(
     answer: Answer,
 ) -> Result<Plan, AllocError>
     ensures answer { IfOk result (λ plan. plan.answer ≡ answer) }
-    ensures decided { IfOk result (λ plan. (t : List Entry) → TablesAt state.now t (event.Item conn item.now) ends.now → plan.decided.items ≡ decided book.now t (event.Item conn item.now) answer) }
-    ensures forgotten { IfOk result (λ plan. (t : List Entry) → TablesAt state.now t (event.Item conn item.now) ends.now → plan.forgotten.items ≡ forgotten book.now t (event.Item conn item.now) answer) }
-    ensures terminus { IfOk result (λ plan. (t : List Entry) → TablesAt state.now t (event.Item conn item.now) ends.now → plan.terminus ≡ terminus_of_event book.now t (event.Item conn item.now) answer) }
-    ensures resumed { IfOk result (λ plan. (t : List Entry) → TablesAt state.now t (event.Item conn item.now) ends.now → Resumes book.now t (event.Item conn item.now) answer plan.resumption) }
+    ensures decided { IfOk result (λ plan. (t : List Entry) → TablesAt state.now t (event.Item conn item.now) ends.now
+        → plan.decided.items ≡ decided book.now t (event.Item conn item.now) answer) }
+    ensures forgotten { IfOk result (λ plan. (t : List Entry)
+        → TablesAt state.now t (event.Item conn item.now) ends.now
+        → plan.forgotten.items ≡ forgotten book.now t (event.Item conn item.now) answer) }
+    ensures terminus { IfOk result (λ plan. (t : List Entry) → TablesAt state.now t (event.Item conn item.now) ends.now
+        → plan.terminus ≡ terminus_of_event book.now t (event.Item conn item.now) answer) }
+    ensures resumed { IfOk result (λ plan. (t : List Entry) → TablesAt state.now t (event.Item conn item.now) ends.now
+        → Resumes book.now t (event.Item conn item.now) answer plan.resumption) }
 {
     let own = session_found(state, ends, conn.0, item);
     let change = Change::of_item(conn.0, own, item)?;
@@ -137,7 +154,8 @@ fn planned(
     })
 }
 
-/// The answer to an item on a connection in this phase, as an event finds it; nothing if the connection isn't live then.
+/// The answer to an item on a connection in this phase, as an event finds it; nothing if the connection isn't live
+/// then.
 fn answered(
     state: &State,
     book: &Book,
@@ -146,7 +164,8 @@ fn answered(
     conn: u64,
     item: &Item,
 ) -> Result<Answer, AllocError>
-    ensures { IfOk result (λ answer. (t : List Entry) → TablesFind state.now t → answer ≡ live_answer full book.now t conn item.now phase) }
+    ensures { IfOk result (λ answer. (t : List Entry) → TablesFind state.now t
+        → answer ≡ live_answer full book.now t conn item.now phase) }
 {
     match phase {
         Some(phase) => item_answer(state, book, full, conn, phase, item),
@@ -164,11 +183,24 @@ fn item_plan(
     conn: ConnectionId,
     item: &Item,
 ) -> Result<Plan, AllocError>
-    ensures answer { IfOk result (λ plan. (t : List Entry) → TablesAt state.now t (event.Item conn item.now) ends.now → phase ≡ phase_found t (event.Item conn item.now) → plan.answer ≡ event_answer full book.now t (event.Item conn item.now)) }
-    ensures decided { IfOk result (λ plan. (t : List Entry) → TablesAt state.now t (event.Item conn item.now) ends.now → phase ≡ phase_found t (event.Item conn item.now) → plan.decided.items ≡ decided book.now t (event.Item conn item.now) (event_answer full book.now t (event.Item conn item.now))) }
-    ensures forgotten { IfOk result (λ plan. (t : List Entry) → TablesAt state.now t (event.Item conn item.now) ends.now → phase ≡ phase_found t (event.Item conn item.now) → plan.forgotten.items ≡ forgotten book.now t (event.Item conn item.now) (event_answer full book.now t (event.Item conn item.now))) }
-    ensures terminus { IfOk result (λ plan. (t : List Entry) → TablesAt state.now t (event.Item conn item.now) ends.now → phase ≡ phase_found t (event.Item conn item.now) → plan.terminus ≡ terminus_of_event book.now t (event.Item conn item.now) (event_answer full book.now t (event.Item conn item.now))) }
-    ensures resumed { IfOk result (λ plan. (t : List Entry) → TablesAt state.now t (event.Item conn item.now) ends.now → phase ≡ phase_found t (event.Item conn item.now) → Resumes book.now t (event.Item conn item.now) (event_answer full book.now t (event.Item conn item.now)) plan.resumption) }
+    ensures answer { IfOk result (λ plan. (t : List Entry) → TablesAt state.now t (event.Item conn item.now) ends.now
+        → phase ≡ phase_found t (event.Item conn item.now)
+        → plan.answer ≡ event_answer full book.now t (event.Item conn item.now)) }
+    ensures decided { IfOk result (λ plan. (t : List Entry) → TablesAt state.now t (event.Item conn item.now) ends.now
+        → phase ≡ phase_found t (event.Item conn item.now)
+        → plan.decided.items
+        ≡ decided book.now t (event.Item conn item.now) (event_answer full book.now t (event.Item conn item.now))) }
+    ensures forgotten { IfOk result (λ plan. (t : List Entry)
+        → TablesAt state.now t (event.Item conn item.now) ends.now → phase ≡ phase_found t (event.Item conn item.now)
+        → plan.forgotten.items
+        ≡ forgotten book.now t (event.Item conn item.now) (event_answer full book.now t (event.Item conn item.now))) }
+    ensures terminus { IfOk result (λ plan. (t : List Entry) → TablesAt state.now t (event.Item conn item.now) ends.now
+        → phase ≡ phase_found t (event.Item conn item.now)
+        → plan.terminus
+        ≡ terminus_of_event book.now t (event.Item conn item.now) (event_answer full book.now t (event.Item conn item.now))) }
+    ensures resumed { IfOk result (λ plan. (t : List Entry) → TablesAt state.now t (event.Item conn item.now) ends.now
+        → phase ≡ phase_found t (event.Item conn item.now)
+        → Resumes book.now t (event.Item conn item.now) (event_answer full book.now t (event.Item conn item.now)) plan.resumption) }
 {
     let answer = answered(state, book, full, phase, conn.0, item)?;
     planned(state, book, ends, conn, item, answer)
@@ -177,7 +209,9 @@ fn item_plan(
 /// Plans an event that is no item: it loses a connection, if it is the loss of one, and those that it ends first.
 fn lost_plan(state: &State, down: Option<u64>, ends: &[u64]) -> Result<Plan, AllocError>
     ensures answer { IfOk result (λ plan. plan.answer ≡ reply.Nothing) }
-    ensures decided { IfOk result (λ plan. (t : List Entry) → TablesFind state.now t → plan.decided.items ≡ map as_kept (decided_rows t (listed (option_map lost down) ++ map lost ends.now)) ++ []) }
+    ensures decided { IfOk result (λ plan. (t : List Entry) → TablesFind state.now t
+        → plan.decided.items
+        ≡ map as_kept (decided_rows t (listed (option_map lost down) ++ map lost ends.now)) ++ []) }
     ensures forgotten { IfOk result (λ plan. plan.forgotten.items ≡ []) }
     ensures terminus { IfOk result (λ plan. plan.terminus ≡ None) }
     ensures resumption { IfOk result (λ plan. plan.resumption ≡ None) }
@@ -193,9 +227,10 @@ fn lost_plan(state: &State, down: Option<u64>, ends: &[u64]) -> Result<Plan, All
     })
 }
 
-/// Plans an event that isn't refused, after the turn that ended these connections because their outboxes were full (`State::turn`): what its item is
-/// answered with, by the tables as the event finds them and by the book, what the event decides, forgets, makes or drops, and what it takes up again. `full` says that
-/// the journal has no room for the acts that the event would have else; `phase` is the phase of the item's connection as the event finds it
+/// Plans an event that isn't refused, after the turn that ended these connections because their outboxes were full
+/// (`State::turn`): what its item is answered with, by the tables as the event finds them and by the book, what the
+/// event decides, forgets, makes or drops, and what it takes up again. `full` says that the journal has no room for the
+/// acts that the event would have else; `phase` is the phase of the item's connection as the event finds it
 /// (`state_connections::phase_found`).
 ///
 /// # Errors
@@ -209,11 +244,20 @@ pub fn make_plan(
     phase: Option<Conn>,
     event: &Event,
 ) -> Result<Plan, AllocError>
-    ensures answer { IfOk result (λ plan. (t : List Entry) → TablesAt state.now t event.now ends.now → phase ≡ phase_found t event.now → plan.answer ≡ event_answer full book.now t event.now) }
-    ensures decided { IfOk result (λ plan. (t : List Entry) → TablesAt state.now t event.now ends.now → phase ≡ phase_found t event.now → plan.decided.items ≡ decided book.now t event.now (event_answer full book.now t event.now)) }
-    ensures forgotten { IfOk result (λ plan. (t : List Entry) → TablesAt state.now t event.now ends.now → phase ≡ phase_found t event.now → plan.forgotten.items ≡ forgotten book.now t event.now (event_answer full book.now t event.now)) }
-    ensures terminus { IfOk result (λ plan. (t : List Entry) → TablesAt state.now t event.now ends.now → phase ≡ phase_found t event.now → plan.terminus ≡ terminus_of_event book.now t event.now (event_answer full book.now t event.now)) }
-    ensures resumed { IfOk result (λ plan. (t : List Entry) → TablesAt state.now t event.now ends.now → phase ≡ phase_found t event.now → Resumes book.now t event.now (event_answer full book.now t event.now) plan.resumption) }
+    ensures answer { IfOk result (λ plan. (t : List Entry) → TablesAt state.now t event.now ends.now
+        → phase ≡ phase_found t event.now → plan.answer ≡ event_answer full book.now t event.now) }
+    ensures decided { IfOk result (λ plan. (t : List Entry) → TablesAt state.now t event.now ends.now
+        → phase ≡ phase_found t event.now
+        → plan.decided.items ≡ decided book.now t event.now (event_answer full book.now t event.now)) }
+    ensures forgotten { IfOk result (λ plan. (t : List Entry) → TablesAt state.now t event.now ends.now
+        → phase ≡ phase_found t event.now
+        → plan.forgotten.items ≡ forgotten book.now t event.now (event_answer full book.now t event.now)) }
+    ensures terminus { IfOk result (λ plan. (t : List Entry) → TablesAt state.now t event.now ends.now
+        → phase ≡ phase_found t event.now
+        → plan.terminus ≡ terminus_of_event book.now t event.now (event_answer full book.now t event.now)) }
+    ensures resumed { IfOk result (λ plan. (t : List Entry) → TablesAt state.now t event.now ends.now
+        → phase ≡ phase_found t event.now
+        → Resumes book.now t event.now (event_answer full book.now t event.now) plan.resumption) }
 {
     match event {
         Event::Item(conn, item) => item_plan(state, book, full, ends, phase, *conn, item),

@@ -1,5 +1,5 @@
-//! What an attach does to the book: one that is taken ends the older link with its key; if its link is durable, it makes the link's
-//! terminus, and what that has is taken up again.
+//! What an attach does to the book: one that is taken ends the older link with its key; if its link is durable, it
+//! makes the link's terminus, and what that has is taken up again.
 ghost use Rattle.std.specs.Prelude.{◌≡◌, ℕ, [], List, Some, None, option_map, unwrap_or, IfOk};
 ghost use Rattle.journal_store.specs.declared.acting.TerminusAct.TheVariants as act;
 ghost use Rattle.router_trace.specs.Trace.{Entry};
@@ -78,7 +78,8 @@ fn durable(
 ) -> Result<Doings, AllocError>
     ensures stolen { IfOk result (λ does. does.stolen ≡ stolen) }
     ensures forgotten { IfOk result (λ does. does.forgotten.items ≡ []) }
-    ensures terminus { IfOk result (λ does. does.terminus ≡ Some (act.Make (new_terminus book.now key (wanted_address attach.now)))) }
+    ensures terminus { IfOk result (λ does. does.terminus
+        ≡ Some (act.Make (new_terminus book.now key (wanted_address attach.now)))) }
     ensures resumed { IfOk result (λ does. TakesUp book.now (Some attach.now) (Some key) does.resumption) }
 {
     let Ok(terminus) = new_terminus(alloc, book, &key, attach) else {
@@ -111,10 +112,13 @@ fn volatile(alloc: Global, stolen: Option<Attachment>) -> Doings
 
 /// What an attach does whose link is taken.
 fn taken(state: &State, book: &Book, conn: u64, attach: &Attach) -> Result<Doings, AllocError>
-    ensures stolen { IfOk result (λ does. (t : List Entry) → TablesFind state.now t → stolen_from does.stolen ≡ stolen_from (holder t (wanted_key t conn attach.now))) }
+    ensures stolen { IfOk result (λ does. (t : List Entry) → TablesFind state.now t
+        → stolen_from does.stolen ≡ stolen_from (holder t (wanted_key t conn attach.now))) }
     ensures forgotten { IfOk result (λ does. does.forgotten.items ≡ []) }
-    ensures terminus { IfOk result (λ does. (t : List Entry) → TablesFind state.now t → does.terminus ≡ made_for book.now (wanted_key t conn attach.now) attach.now) }
-    ensures resumed { IfOk result (λ does. (t : List Entry) → TablesFind state.now t → TakesUp book.now (Some attach.now) (asked_key t conn attach.now) does.resumption) }
+    ensures terminus { IfOk result (λ does. (t : List Entry) → TablesFind state.now t
+        → does.terminus ≡ made_for book.now (wanted_key t conn attach.now) attach.now) }
+    ensures resumed { IfOk result (λ does. (t : List Entry) → TablesFind state.now t
+        → TakesUp book.now (Some attach.now) (asked_key t conn attach.now) does.resumption) }
 {
     let key = wanted_key(state, conn, attach)?;
     let stolen = state.holder(&key);
@@ -137,10 +141,14 @@ pub(crate) fn does(
     attach: &Attach,
     answer: &Answer,
 ) -> Result<Doings, AllocError>
-    ensures stolen { IfOk result (λ does. (t : List Entry) (on : ℕ) → TablesFind state.now t → answer.now ≡ reply.Attach on → stolen_from does.stolen ≡ stolen_from (holder t (wanted_key t conn attach.now))) }
+    ensures stolen { IfOk result (λ does. (t : List Entry) (on : ℕ) → TablesFind state.now t
+        → answer.now ≡ reply.Attach on → stolen_from does.stolen
+        ≡ stolen_from (holder t (wanted_key t conn attach.now))) }
     ensures forgotten { IfOk result (λ does. does.forgotten.items ≡ []) }
-    ensures terminus { IfOk result (λ does. (t : List Entry) → TablesFind state.now t → does.terminus ≡ made_by book.now t conn attach.now answer.now) }
-    ensures resumed { IfOk result (λ does. (t : List Entry) → TablesFind state.now t → TakesUp book.now (Some attach.now) (key_taken t conn attach.now answer.now) does.resumption) }
+    ensures terminus { IfOk result (λ does. (t : List Entry) → TablesFind state.now t
+        → does.terminus ≡ made_by book.now t conn attach.now answer.now) }
+    ensures resumed { IfOk result (λ does. (t : List Entry) → TablesFind state.now t
+        → TakesUp book.now (Some attach.now) (key_taken t conn attach.now answer.now) does.resumption) }
 {
     match answer {
         Answer::Attach { own: _own } => taken(state, book, conn, attach),

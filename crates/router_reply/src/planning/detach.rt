@@ -1,4 +1,5 @@
-//! What a detach does to the book: one that closes a durable link for good drops its terminus, and forgets the rows that came on it.
+//! What a detach does to the book: one that closes a durable link for good drops its terminus, and forgets the rows
+//! that came on it.
 ghost use Rattle.std.specs.Prelude.{◌≡◌, List, None, map, filter, option_map, IfOk};
 ghost use Rattle.book_model.specs.Book.{is_from};
 ghost use Rattle.journal_store.specs.declared.acting.TerminusAct.TheVariants as act;
@@ -53,7 +54,8 @@ fn closed_terminus<'a>(
     conn: u64,
     answer: &Answer,
 ) -> Option<&'a Terminus>
-    ensures { (t : List Entry) → TablesFind state.now t → option_map (λ x. x.now) result ≡ closed_terminus book.now t conn answer.now }
+    ensures { (t : List Entry) → TablesFind state.now t
+        → option_map (λ x. x.now) result ≡ closed_terminus book.now t conn answer.now }
 {
     match answer {
         Answer::Detach {
@@ -61,14 +63,17 @@ fn closed_terminus<'a>(
             handle,
             closed: true,
             error: None,
-        } => match state.durable_key(LinkPlace {
-            conn: ConnectionId(conn),
-            own: *own,
-            handle: *handle,
-        }) {
-            None => None,
-            Some(key) => book.terminus_of(key),
-        },
+        } => {
+            let at = LinkPlace {
+                conn: ConnectionId(conn),
+                own: *own,
+                handle: *handle,
+            };
+            match state.durable_key(at) {
+                None => None,
+                Some(key) => book.terminus_of(key),
+            }
+        }
         _ => None,
     }
 }
@@ -94,8 +99,10 @@ pub(crate) fn does(
     conn: u64,
     answer: &Answer,
 ) -> Result<Doings, AllocError>
-    ensures forgotten { IfOk result (λ does. (t : List Entry) → TablesFind state.now t → does.forgotten.items ≡ sent_from book.now (closed_terminus book.now t conn answer.now)) }
-    ensures terminus { IfOk result (λ does. (t : List Entry) → TablesFind state.now t → does.terminus ≡ option_map (λ x. act.Drop x.number) (closed_terminus book.now t conn answer.now)) }
+    ensures forgotten { IfOk result (λ does. (t : List Entry) → TablesFind state.now t
+        → does.forgotten.items ≡ sent_from book.now (closed_terminus book.now t conn answer.now)) }
+    ensures terminus { IfOk result (λ does. (t : List Entry) → TablesFind state.now t
+        → does.terminus ≡ option_map (λ x. act.Drop x.number) (closed_terminus book.now t conn answer.now)) }
     ensures stolen { IfOk result (λ does. does.stolen ≡ None) }
     ensures resumption { IfOk result (λ does. does.resumption ≡ None) }
 {

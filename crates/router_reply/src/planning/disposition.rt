@@ -23,7 +23,8 @@ fn rows_claimed(
     first: u32,
     last: u32,
 ) -> Result<Vec<RowNumber>, AllocError>
-    ensures { IfOk result (λ rows. (t : List Entry) → TablesFind state.now t → rows.items ≡ rows_claimed book.now t conn own first last) }
+    ensures { IfOk result (λ rows. (t : List Entry) → TablesFind state.now t
+        → rows.items ≡ rows_claimed book.now t conn own first last) }
 {
     let mut rows = Vec::new(state.alloc());
     let ids = state.ids_claimed(conn, own, first, last)?;
@@ -43,7 +44,8 @@ fn settled_on(
     own: Option<u16>,
     disposition: &Disposition,
 ) -> Result<Vec<RowNumber>, AllocError>
-    ensures { IfOk result (λ rows. (t : List Entry) → TablesFind state.now t → rows.items ≡ settled_on book.now t conn own disposition.now.role disposition.now) }
+    ensures { IfOk result (λ rows. (t : List Entry) → TablesFind state.now t
+        → rows.items ≡ settled_on book.now t conn own disposition.now.role disposition.now) }
 {
     match (own, disposition.role) {
         (Some(own), Role::Sender) if disposition.settled => rows_claimed(
@@ -70,7 +72,8 @@ pub(crate) fn does(
     own: Option<u16>,
     disposition: &Disposition,
 ) -> Result<Doings, AllocError>
-    ensures forgotten { IfOk result (λ does. (t : List Entry) → TablesFind state.now t → does.forgotten.items ≡ settled_on book.now t conn own disposition.now.role disposition.now) }
+    ensures forgotten { IfOk result (λ does. (t : List Entry) → TablesFind state.now t
+        → does.forgotten.items ≡ settled_on book.now t conn own disposition.now.role disposition.now) }
     ensures stolen { IfOk result (λ does. does.stolen ≡ None) }
     ensures terminus { IfOk result (λ does. does.terminus ≡ None) }
     ensures resumption { IfOk result (λ does. does.resumption ≡ None) }

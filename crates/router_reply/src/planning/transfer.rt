@@ -3,7 +3,8 @@ ghost use Rattle.std.specs.Prelude.{◌≡◌, List, None, option_map, IfOk};
 ghost use Rattle.std.specs.Option.{option_copied};
 ghost use Rattle.router_trace.specs.Trace.{Entry};
 ghost use Rattle.router_state.specs.Tables.{TablesFind};
-ghost use Rattle.router_reply.specs.Joining.{settled_again, settled_whole, row_alone, settled_on_link, settled_by_transfer};
+ghost use Rattle.router_reply.specs.Joining.{settled_again, settled_whole, row_alone, settled_on_link};
+ghost use Rattle.router_reply.specs.Joining.{settled_by_transfer};
 
 use crate::deciding::add;
 use crate::planning::doings::Doings;
@@ -17,13 +18,14 @@ use router_state::{LinkPlace, State};
 use router_trace::ConnectionId;
 use std::alloc::{AllocError, Global};
 
-/// The tag of the delivery to which a transfer belongs, if that is resumed and settled; `earlier` is what its earlier frames
-/// say, if there are some.
+/// The tag of the delivery to which a transfer belongs, if that is resumed and settled; `earlier` is what its earlier
+/// frames say, if there are some.
 fn settled_again<'a>(
     transfer: &'a Transfer,
     earlier: Option<&'a Delivery>,
 ) -> Option<&'a DeliveryTag>
-    ensures { option_map (λ g. g.now.items) result ≡ settled_again transfer.now (option_map (λ d. d.now) earlier.entry) }
+    ensures { option_map (λ g. g.now.items) result
+        ≡ settled_again transfer.now (option_map (λ d. d.now) earlier.entry) }
 {
     match earlier {
         None => {
@@ -46,7 +48,8 @@ fn settled_whole<'a>(
     transfer: &'a Transfer,
     earlier: Option<&'a Delivery>,
 ) -> Option<&'a DeliveryTag>
-    ensures { option_map (λ g. g.now.items) result ≡ settled_whole transfer.now (option_map (λ d. d.now) earlier.entry) }
+    ensures { option_map (λ g. g.now.items) result
+        ≡ settled_whole transfer.now (option_map (λ d. d.now) earlier.entry) }
 {
     if transfer.more || transfer.aborted {
         return None;
@@ -68,15 +71,16 @@ fn row_alone(state: &State, row: Option<&Row>) -> Result<Vec<RowNumber>, AllocEr
     }
 }
 
-/// The row that a transfer on the link on a handle of the router settles: that which its delivery joins, if it makes a settled one
-/// whole.
+/// The row that a transfer on the link on a handle of the router settles: that which its delivery joins, if it makes a
+/// settled one whole.
 fn settled_on_link(
     state: &State,
     book: &Book,
     at: LinkPlace,
     transfer: &Transfer,
 ) -> Result<Vec<RowNumber>, AllocError>
-    ensures { IfOk result (λ rows. (t : List Entry) → TablesFind state.now t → rows.items ≡ settled_on_link book.now t at.conn.0 at.own at.handle transfer.now) }
+    ensures { IfOk result (λ rows. (t : List Entry) → TablesFind state.now t
+        → rows.items ≡ settled_on_link book.now t at.conn.0 at.own at.handle transfer.now) }
 {
     let found = state.find_link(LinkPlace {
         conn: at.conn,
@@ -96,20 +100,17 @@ fn settled_by_transfer(
     transfer: &Transfer,
     answer: &Answer,
 ) -> Result<Vec<RowNumber>, AllocError>
-    ensures { IfOk result (λ rows. (t : List Entry) → TablesFind state.now t → rows.items ≡ settled_by_transfer book.now t conn transfer.now answer.now) }
+    ensures { IfOk result (λ rows. (t : List Entry) → TablesFind state.now t
+        → rows.items ≡ settled_by_transfer book.now t conn transfer.now answer.now) }
 {
     match answer {
         Answer::Taken { own, handle } => {
-            settled_on_link(
-                state,
-                book,
-                LinkPlace {
-                    conn: ConnectionId(conn),
-                    own: *own,
-                    handle: *handle,
-                },
-                transfer,
-            )
+            let at = LinkPlace {
+                conn: ConnectionId(conn),
+                own: *own,
+                handle: *handle,
+            };
+            settled_on_link(state, book, at, transfer)
         }
         _ => Ok(Vec::new(state.alloc())),
     }
@@ -127,7 +128,8 @@ pub(crate) fn does(
     transfer: &Transfer,
     answer: &Answer,
 ) -> Result<Doings, AllocError>
-    ensures forgotten { IfOk result (λ does. (t : List Entry) → TablesFind state.now t → does.forgotten.items ≡ settled_by_transfer book.now t conn transfer.now answer.now) }
+    ensures forgotten { IfOk result (λ does. (t : List Entry) → TablesFind state.now t
+        → does.forgotten.items ≡ settled_by_transfer book.now t conn transfer.now answer.now) }
     ensures stolen { IfOk result (λ does. does.stolen ≡ None) }
     ensures terminus { IfOk result (λ does. does.terminus ≡ None) }
     ensures resumption { IfOk result (λ does. does.resumption ≡ None) }

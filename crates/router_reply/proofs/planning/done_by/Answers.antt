@@ -8,5 +8,6 @@ use Rattle.router_reply.proofs.planning.done_by.Goals as goal
 
 pub returns-in-Attach-clause-stolen : goal.returns-in-Attach-clause-stolen
 returns-in-Attach-clause-stolen c = rw c.in-Attach.is (IfOk-weaker c.does.result _ _
-    (λ d is t on find same. is t on find same ∙ ap (λ (a : AnAttach). stolen_from (holder t (wanted_key t c.args.conn a))) c.as_ref.ensures)
+    (λ d is t on find same. is t on find same
+    ∙ ap (λ (a : AnAttach). stolen_from (holder t (wanted_key t c.args.conn a))) c.as_ref.ensures)
     c.does.ensures.stolen)

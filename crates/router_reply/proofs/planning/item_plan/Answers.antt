@@ -14,24 +14,35 @@ use Rattle.router_reply.proofs.planning.item_plan.Goals as goal
 
 pub returns-clause-answer : goal.returns-clause-answer
 returns-clause-answer c = IfOk-weaker c.planned.result _ _
-    (λ p is t at found. is ∙ c.in_ok-answer.ensures t (at_finds at) ∙ ap (λ (s : Option Conn). live_answer c.args.full c.args.book.now t c.args.conn.0 c.args.item.now s) found) c.planned.ensures.answer
+    (λ p is t at found. is ∙ c.in_ok-answer.ensures t (at_finds at)
+    ∙ ap (λ (s : Option Conn). live_answer c.args.full c.args.book.now t c.args.conn.0 c.args.item.now s) found)
+    c.planned.ensures.answer
 
 pub returns-clause-decided : goal.returns-clause-decided
 returns-clause-decided c = IfOk-weaker c.planned.result _ _
-    (λ p is t at found. is t at ∙ ap (decided c.args.book.now t (event.Item c.args.conn c.args.item.now)) (c.in_ok-answer.ensures t (at_finds at)
-    ∙ ap (λ (s : Option Conn). live_answer c.args.full c.args.book.now t c.args.conn.0 c.args.item.now s) found)) c.planned.ensures.decided
+    (λ p is t at found. is t at ∙ ap (decided c.args.book.now t (event.Item c.args.conn c.args.item.now))
+    (c.in_ok-answer.ensures t (at_finds at)
+    ∙ ap (λ (s : Option Conn). live_answer c.args.full c.args.book.now t c.args.conn.0 c.args.item.now s) found))
+    c.planned.ensures.decided
 
 pub returns-clause-forgotten : goal.returns-clause-forgotten
 returns-clause-forgotten c = IfOk-weaker c.planned.result _ _
-    (λ p is t at found. is t at ∙ ap (forgotten c.args.book.now t (event.Item c.args.conn c.args.item.now)) (c.in_ok-answer.ensures t (at_finds at)
-    ∙ ap (λ (s : Option Conn). live_answer c.args.full c.args.book.now t c.args.conn.0 c.args.item.now s) found)) c.planned.ensures.forgotten
+    (λ p is t at found. is t at ∙ ap (forgotten c.args.book.now t (event.Item c.args.conn c.args.item.now))
+    (c.in_ok-answer.ensures t (at_finds at)
+    ∙ ap (λ (s : Option Conn). live_answer c.args.full c.args.book.now t c.args.conn.0 c.args.item.now s) found))
+    c.planned.ensures.forgotten
 
 pub returns-clause-terminus : goal.returns-clause-terminus
 returns-clause-terminus c = IfOk-weaker c.planned.result _ _
-    (λ p is t at found. is t at ∙ ap (terminus_of_event c.args.book.now t (event.Item c.args.conn c.args.item.now)) (c.in_ok-answer.ensures t (at_finds at)
-    ∙ ap (λ (s : Option Conn). live_answer c.args.full c.args.book.now t c.args.conn.0 c.args.item.now s) found)) c.planned.ensures.terminus
+    (λ p is t at found. is t at ∙ ap (terminus_of_event c.args.book.now t (event.Item c.args.conn c.args.item.now))
+    (c.in_ok-answer.ensures t (at_finds at)
+    ∙ ap (λ (s : Option Conn). live_answer c.args.full c.args.book.now t c.args.conn.0 c.args.item.now s) found))
+    c.planned.ensures.terminus
 
 pub returns-clause-resumed : goal.returns-clause-resumed
 returns-clause-resumed c = IfOk-weaker c.planned.result _ _
-    (λ p is t at found. subst (λ (a : Answer). Resumes c.args.book.now t (event.Item c.args.conn c.args.item.now) a p.resumption)
-    (c.in_ok-answer.ensures t (at_finds at) ∙ ap (λ (s : Option Conn). live_answer c.args.full c.args.book.now t c.args.conn.0 c.args.item.now s) found) (is t at)) c.planned.ensures.resumed
+    (λ p is t at found. subst
+    (λ (a : Answer). Resumes c.args.book.now t (event.Item c.args.conn c.args.item.now) a p.resumption)
+    (c.in_ok-answer.ensures t (at_finds at)
+    ∙ ap (λ (s : Option Conn). live_answer c.args.full c.args.book.now t c.args.conn.0 c.args.item.now s) found)
+    (is t at)) c.planned.ensures.resumed

@@ -19,9 +19,11 @@ returns-clause-decided c = λ t at.
     c.in_ok-decided.ensures t (at_finds at)
     ∙ ap (λ (cs : List Change). map as_kept (decided_rows t cs) ++ c.planned_decisions-by_map.result.items)
     (c.in_ok-changes.ensures
-    ∙ changed_as t conn item c.args.answer own c.args.ends.now c.in_ok-change.change c.ended_by-ended.result found at.are_due c.in_ok-change.ensures
+    ∙ changed_as t conn item c.args.answer own c.args.ends.now c.in_ok-change.change
+    c.ended_by-ended.result found at.are_due c.in_ok-change.ensures
     (c.ended_by-ended.ensures t item (λ on is. c.in_ok-does.ensures.stolen t on (at_finds at) is)))
-    ∙ ap (λ (ds : List Decision). map as_kept (decided_rows t (event_changes t (event.Item conn item) c.args.answer)) ++ ds)
+    ∙ ap (λ (ds : List Decision). map as_kept (decided_rows t (event_changes t (event.Item conn item) c.args.answer))
+    ++ ds)
     (c.planned_decisions-by_map.ensures.decisions ∙ (c.in_ok-does.ensures.resumed t (at_finds at)).decisions)
 
 pub returns-clause-forgotten : goal.returns-clause-forgotten
@@ -32,9 +34,12 @@ returns-clause-forgotten c = λ t at.
     let found = found_as t conn item own c.args.ends.now (c.session_found-own.ensures t (at_finds at)) at.are_due in
     c.in_ok-forgotten.ensures
     ∙ ap (λ (ns : List RowNumber). ns ++ c.planned_forgotten-lacking.result.items)
-    (c.in_ok-does.ensures.forgotten t (at_finds at) ∙ ap (λ (o : Option ℕ). forgotten_in c.args.book.now t conn.0 o item c.args.answer) found)
-    ∙ ap (λ (ns : List RowNumber). forgotten_in c.args.book.now t conn.0 (session_found t conn item) item c.args.answer ++ ns)
-    (c.planned_forgotten-lacking.ensures.forgotten ∙ c.planned_decisions-by_map.ensures.forgotten ∙ (c.in_ok-does.ensures.resumed t (at_finds at)).forgotten)
+    (c.in_ok-does.ensures.forgotten t (at_finds at)
+    ∙ ap (λ (o : Option ℕ). forgotten_in c.args.book.now t conn.0 o item c.args.answer) found)
+    ∙ ap (λ (ns : List RowNumber). forgotten_in c.args.book.now t conn.0 (session_found t conn item) item c.args.answer
+    ++ ns)
+    (c.planned_forgotten-lacking.ensures.forgotten ∙ c.planned_decisions-by_map.ensures.forgotten
+    ∙ (c.in_ok-does.ensures.resumed t (at_finds at)).forgotten)
 
 pub returns-clause-resumed : goal.returns-clause-resumed
 returns-clause-resumed c = λ t at.
