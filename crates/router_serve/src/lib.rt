@@ -7,7 +7,9 @@ mod service;
 mod writer;
 
 pub use reader::serve_reader;
-pub use serve_lock::{Blanks, Closed, Ledgers, Log, Names, NoLog, Receipt, SEATS, Seat, Shared};
+pub use serve_lock::{
+    Blanks, Closed, Ledgers, Log, Names, NoLog, Quiet, Receipt, SEATS, Seat, Shared,
+};
 pub use serve_streams::{Gate, Greeted, OpenGate, ReadEnd, Service, Side, WriteEnd, greet};
 pub use server::Server;
 pub use writer::serve_writer;

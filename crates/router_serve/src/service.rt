@@ -92,8 +92,10 @@ impl<M: Machine + Send, N: Names> Service for Server<M, N> {
         seat: &mut Seat<N>,
         conn: ConnectionId,
     ) -> Result<(), CoreFault> {
+        let mut quiet = None;
         for _turn in 0..u64::MAX {
-            if self.shared.wait_batch(rt, seat, conn)?.is_last() {
+            let batch = self.shared.wait_batch(rt, seat, conn, &mut quiet)?;
+            if batch.is_last() {
                 return Ok(());
             }
         }

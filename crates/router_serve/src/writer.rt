@@ -33,8 +33,9 @@ pub fn serve_writer<M: Machine, L: Log, G: Ledgers, R: Wait, W: Write, P: Gate>(
     let mut buffer = Vec::new(alloc);
     let mut next = 0u128;
     let mut number = 0u64;
+    let mut quiet = None;
     for _turn in rt.forever() {
-        let answer = shared.wait_batch(rt, &mut seat, conn);
+        let answer = shared.wait_batch(rt, &mut seat, conn, &mut quiet);
         match write_answer(rt, alloc, answer, next, number, output, gate, &mut buffer) {
             Ok(behind) => next = behind,
             Err(end) => return (seat, end),

@@ -16,4 +16,4 @@ mod totals;
 pub use ledgers::{Blanks, Ledgers, Names, SEATS};
 pub use locked::{Closed, Log, NoLog, Receipt};
 pub use seat::Seat;
-pub use shared::Shared;
+pub use shared::{Quiet, Shared};

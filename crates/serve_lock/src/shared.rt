@@ -32,6 +32,13 @@ struct Bell {
     writes: AtomicBool,
 }
 
+/// That nothing of a connection was left to take when its writer had the lock last, and that its bell was noted then: so its
+/// writer sleeps without a look at the router. It has the number of rings up to then.
+#[derive(Clone, Copy, Debug)]
+pub struct Quiet {
+    rings: u64,
+}
+
 /// The router under one lock, for threads that each have a seat. Whenever the lock is taken, the data under it is a router that
 /// failed, or one whose tables agree with one order of events and takes that contains each submit and each batch of a seat
 /// once. A writer that waits sleeps at the bell of its connection.
@@ -142,7 +149,8 @@ impl<M: Machine, L: Log, G: Ledgers> Shared<M, L, G> {
     }
 
     /// Waits until a connection is ready, and takes up to 64 items from its outbox. The seat counts exactly the batches that it
-    /// gets.
+    /// gets. `quiet` is what the connection's last call left there, none at first: if that left nothing to take, the next one sleeps
+    /// before it takes the lock, unless the bell was rung meanwhile.
     ///
     /// # Errors
     ///
@@ -152,6 +160,7 @@ impl<M: Machine, L: Log, G: Ledgers> Shared<M, L, G> {
         rt: &R,
         seat: &mut Seat<G>,
         conn: ConnectionId,
+        quiet: &mut Option<Quiet>,
     ) -> Result<Batch, CoreFault>
         ensures whose { IfOk result (λ b. b.conn ≡ conn) }
         ensures most { IfOk result (λ b. length b.items.items ≤ 64) }
@@ -160,10 +169,17 @@ impl<M: Machine, L: Log, G: Ledgers> Shared<M, L, G> {
         ensures uncounted { OnErr result (seat.new ≡ seat.old) }
         ensures no_disk { IfErr result (λ f. f ≡ DiskFailed → ⊥) }
     {
+        if let Some(quiet) = quiet.take() {
+            self.doze(rt, conn, quiet);
+        }
         let mut locked = self.lock_for(rt, conn);
         for _turn in rt.forever() {
             if !locked.sleeps(conn) {
-                return locked.take(seat, conn);
+                let answer = locked.take(seat, conn);
+                if locked.sleeps(conn) {
+                    *quiet = Some(self.quiet(conn));
+                }
+                return answer;
             }
             locked = self.sleep(rt, conn, locked);
         }
@@ -238,11 +254,23 @@ impl<M: Machine, L: Log, G: Ledgers> Shared<M, L, G> {
         conn: ConnectionId,
         locked: MutexGuard<'b, Locked<M, L, G>>,
     ) -> MutexGuard<'b, Locked<M, L, G>> {
-        let bell = &self.bells[bell_of(conn)].rung;
-        let seen = bell.notifications();
+        let quiet = self.quiet(conn);
         drop(locked);
-        bell.sleep(rt, seen, Duration::from_secs(LONG));
+        self.doze(rt, conn, quiet);
         self.lock_for(rt, conn)
+    }
+
+    /// The rings of a connection's bell up to now. The lock is held, and the bell is noted.
+    fn quiet(&self, conn: ConnectionId) -> Quiet {
+        Quiet {
+            rings: self.bells[bell_of(conn)].rung.notifications(),
+        }
+    }
+
+    /// Sleeps until the bell of a connection is rung again.
+    fn doze<R: Wait>(&self, rt: &R, conn: ConnectionId, quiet: Quiet) {
+        let bell = &self.bells[bell_of(conn)].rung;
+        bell.sleep(rt, quiet.rings, Duration::from_secs(LONG));
     }
 
     /// Rings these bells.
