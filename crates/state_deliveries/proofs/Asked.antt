@@ -22,7 +22,7 @@ use Rattle.state_deliveries.proofs.Found.{same_rank, waits_is, unsent_is, undeci
 use Rattle.state_deliveries.proofs.Unsent.{IsFirstLink}
 
 pub waits_in : (s : Store) (t : Trace) → StoreFit s t → (k : ℕ) → IsCount (λ n. waits_on k (delivery t n)) (waiting_at s.index.consumers k)
-waits_in s t fit k = count_same (λ n. is_number (standing (at_number s.deliveries n)).waiting k) (λ n. waits_on k (delivery t n))
+waits_in s t fit k = count_same (λ n. is_number (standing (at_number s.deliveries n)).consumer.waiting k) (λ n. waits_on k (delivery t n))
     (λ n. waits_is k (at_number s.deliveries n) ∙ ap (waits_on k) (fit.deliveries n)) (waiting_at s.index.consumers k) (fit.indexed.indexes.consumers.waiting k)
 
 pub unsent_in : (s : Store) (t : Trace) → StoreFit s t → (k : ℕ) (r : Rank) (n : ℕ) → in_group s.index.unsent k r n ≡ (same_rank (rank_at t n) r && is_unsent_on k (delivery t n))
@@ -30,11 +30,11 @@ unsent_in s t fit k r n =
     fit.indexed.indexes.unsent k r n ∙ unsent_is k r (at_number s.deliveries n) ∙ ap (λ (v : Option Delivery). same_rank (ranked v) r && is_unsent_on k v) (fit.deliveries n)
 
 pub undecided_in : (s : Store) (t : Trace) → StoreFit s t → (k : ℕ) → IsCount (λ n. undecided_on k (delivery t n)) (undecided_at s.index.consumers k)
-undecided_in s t fit k = count_same (λ n. is_number (standing (at_number s.deliveries n)).undecided k) (λ n. undecided_on k (delivery t n))
+undecided_in s t fit k = count_same (λ n. is_number (standing (at_number s.deliveries n)).consumer.undecided k) (λ n. undecided_on k (delivery t n))
     (λ n. undecided_is k (at_number s.deliveries n) ∙ ap (undecided_on k) (fit.deliveries n)) (undecided_at s.index.consumers k) (fit.indexed.indexes.consumers.undecided k)
 
 pub held_in : (s : Store) (t : Trace) → StoreFit s t → (k : ℕ) → IsCount (λ n. held_from k (delivery t n)) (tally s.index.held k)
-held_in s t fit k = count_same (λ n. is_number (standing (at_number s.deliveries n)).held k) (λ n. held_from k (delivery t n))
+held_in s t fit k = count_same (λ n. is_number (standing (at_number s.deliveries n)).producer.held k) (λ n. held_from k (delivery t n))
     (λ n. held_is k (at_number s.deliveries n) ∙ ap (held_from k) (fit.deliveries n)) (tally s.index.held k) (fit.indexed.indexes.held.counts k)
 
 pub to_tell_in : (s : Store) (t : Trace) → StoreFit s t → (r : Rank) (n : ℕ) → in_group s.index.to_tell 0 r n ≡ (same_rank (rank_at t n) r && is_to_tell (delivery t n))

@@ -21,7 +21,7 @@ on link k false = sym (and_false (link == k))
     and_false true = refl
     and_false false = refl
 
-pub waits_is : (k : ℕ) (v : Option Delivery) → is_number (standing v).waiting k ≡ waits_on k v
+pub waits_is : (k : ℕ) (v : Option Delivery) → is_number (standing v).consumer.waiting k ≡ waits_on k v
 waits_is k None = refl
 waits_is k (Some d) = on d.link.number k (is_none d.id && d.going_on) ∙ three (d.link.number == k) (is_none d.id) d.going_on
   where
@@ -53,15 +53,15 @@ and_false : (b : Bool) → false ≡ (b && false)
 and_false true = refl
 and_false false = refl
 
-pub unsent_is : (k : ℕ) (r : Rank) (v : Option Delivery) → is_turn (standing v).unsent k r ≡ (same_rank (ranked v) r && is_unsent_on k v)
+pub unsent_is : (k : ℕ) (r : Rank) (v : Option Delivery) → is_turn (standing v).consumer.unsent k r ≡ (same_rank (ranked v) r && is_unsent_on k v)
 unsent_is k r None = and_false (same_rank (ranked None) r)
 unsent_is k r (Some d) = at_turn d.link.number k d.rank r d.going_on
 
-pub undecided_is : (k : ℕ) (v : Option Delivery) → is_number (standing v).undecided k ≡ undecided_on k v
+pub undecided_is : (k : ℕ) (v : Option Delivery) → is_number (standing v).consumer.undecided k ≡ undecided_on k v
 undecided_is k None = refl
 undecided_is k (Some d) = on d.link.number k (is_none d.outcome && not d.suspended)
 
-pub held_is : (k : ℕ) (v : Option Delivery) → is_number (standing v).held k ≡ held_from k v
+pub held_is : (k : ℕ) (v : Option Delivery) → is_number (standing v).producer.held k ≡ held_from k v
 held_is k None = refl
 held_is k (Some d) = by_origin (holder d) (is_none d.outcome || has_row d.name)
   where
@@ -69,7 +69,7 @@ held_is k (Some d) = by_origin (holder d) (is_none d.outcome || has_row d.name)
     by_origin None holds = refl
     by_origin (Some p) holds = on p.link.number k holds
 
-pub to_tell_is : (r : Rank) (v : Option Delivery) → is_turn (standing v).to_tell 0 r ≡ (same_rank (ranked v) r && is_to_tell v)
+pub to_tell_is : (r : Rank) (v : Option Delivery) → is_turn (standing v).producer.to_tell 0 r ≡ (same_rank (ranked v) r && is_to_tell v)
 to_tell_is r None = and_false (same_rank (ranked None) r)
 to_tell_is r (Some d) = at_turn 0 0 d.rank r (not (is_none d.outcome) && is_some d.origin) ∙ ap (λ b. same_rank d.rank r && b) (by_outcome d.outcome)
   where

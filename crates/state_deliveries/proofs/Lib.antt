@@ -14,6 +14,7 @@ mod Given
 mod Heard
 mod Reindexed
 mod Settled
+mod Moving
 mod Found
 mod Tallied
 pub mod Numbers

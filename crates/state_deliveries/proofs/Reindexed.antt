@@ -1,5 +1,5 @@
 -- A table's indexes after a change.
-use Rattle.std.proofs.Common.{◌≡◌, ◌∙◌, ℕ, Bool, true, false, refl, sym, ap, Option}
+use Rattle.std.proofs.Common.{◌≡◌, ◌∙◌, ℕ, Bool, true, false, refl, sym, ap, subst, Option}
 use Rattle.std.specs.Prelude.{◌==◌, if◌then◌else◌}
 use Rattle.std.proofs.lemmas.Bool.{eqb-true}
 use Rattle.router_trace.specs.declared.binding.Rank.{Rank}
@@ -10,11 +10,13 @@ use Rattle.state_deliveries.specs.declared.by_rank.Turn.{Turn}
 use Rattle.state_deliveries.specs.declared.consumers.Consumers.{Consumers}
 use Rattle.state_deliveries.specs.declared.handles.Handles.{Handles}
 use Rattle.state_deliveries.specs.declared.index.Index.{Index}
-use Rattle.state_deliveries.specs.declared.index.Keys.{Keys}
+use Rattle.state_deliveries.specs.declared.standing.AtConsumer.{AtConsumer}
+use Rattle.state_deliveries.specs.declared.standing.AtProducer.{AtProducer}
+use Rattle.state_deliveries.specs.declared.standing.Seat.{Seat}
 use Rattle.state_deliveries.specs.declared.spots.Spot.{Spot}
 use Rattle.state_deliveries.specs.declared.spots.Spots.{Spots}
 use Rattle.state_deliveries.specs.declared.tallies.Tallies.{Tallies}
-use Rattle.state_deliveries.specs.Indexing.{Indexes, standing}
+use Rattle.state_deliveries.specs.Indexing.{ConsumerKeys, Indexes, Keys, at_consumer_moved, by_producer_moved, consumer_keys, standing, with_consumer, with_producer}
 use Rattle.state_deliveries.specs.Placing.{SpotsFit, HandlesFit, IdsFit}
 use Rattle.state_deliveries.specs.Ranking.{in_group, is_turn}
 use Rattle.state_deliveries.specs.Tallying.{IsTallied, AreTallied}
@@ -25,69 +27,132 @@ use Rattle.state_deliveries.proofs.Tallied.{tallied_same, all_same}
 
 pub indexes_same : (s : Index) (f g : ℕ → Keys) → ((n : ℕ) → f n ≡ g n) → Indexes s f → Indexes s g
 indexes_same s f g same x = record {
-  consumers = all_same s.consumers (λ n. (f n).waiting) (λ n. (g n).waiting) (λ n. (f n).undecided) (λ n. (g n).undecided)
-      (λ n. ap (λ (q : Keys). q.waiting) (same n)) (λ n. ap (λ (q : Keys). q.undecided) (same n)) x.consumers;
-  unsent = λ k r n. x.unsent k r n ∙ ap (λ (q : Keys). is_turn q.unsent k r) (same n);
-  held = tallied_same s.held (λ n. (f n).held) (λ n. (g n).held) (λ n. ap (λ (q : Keys). q.held) (same n)) x.held;
-  to_tell = λ k r n. x.to_tell k r n ∙ ap (λ (q : Keys). is_turn q.to_tell k r) (same n);
-  on = handles_same s.on (λ n. (f n).on) (λ n. (g n).on) (λ n. ap (λ (q : Keys). q.on) (same n)) x.on;
-  from = handles_same s.from (λ n. (f n).from) (λ n. (g n).from) (λ n. ap (λ (q : Keys). q.from) (same n)) x.from;
-  by_id = ids_same s.by_id (λ n. (f n).by_id) (λ n. (g n).by_id) (λ n. ap (λ (q : Keys). q.by_id) (same n)) x.by_id;
-  durable = fits_same s.durable (λ n. (f n).durable) (λ n. (g n).durable) (λ n. ap (λ (q : Keys). q.durable) (same n)) x.durable;
+  consumers = all_same s.consumers (λ n. (f n).consumer.waiting) (λ n. (g n).consumer.waiting) (λ n. (f n).consumer.undecided) (λ n. (g n).consumer.undecided)
+      (λ n. ap (λ (q : Keys). q.consumer.waiting) (same n)) (λ n. ap (λ (q : Keys). q.consumer.undecided) (same n)) x.consumers;
+  unsent = λ k r n. x.unsent k r n ∙ ap (λ (q : Keys). is_turn q.consumer.unsent k r) (same n);
+  held = tallied_same s.held (λ n. (f n).producer.held) (λ n. (g n).producer.held) (λ n. ap (λ (q : Keys). q.producer.held) (same n)) x.held;
+  to_tell = λ k r n. x.to_tell k r n ∙ ap (λ (q : Keys). is_turn q.producer.to_tell k r) (same n);
+  on = handles_same s.on (λ n. (f n).consumer.on) (λ n. (g n).consumer.on) (λ n. ap (λ (q : Keys). q.consumer.on) (same n)) x.on;
+  from = handles_same s.from (λ n. (f n).producer.from) (λ n. (g n).producer.from) (λ n. ap (λ (q : Keys). q.producer.from) (same n)) x.from;
+  by_id = ids_same s.by_id (λ n. (f n).producer.by_id) (λ n. (g n).producer.by_id) (λ n. ap (λ (q : Keys). q.producer.by_id) (same n)) x.by_id;
+  durable = fits_same s.durable (λ n. (f n).consumer.durable) (λ n. (g n).consumer.durable) (λ n. ap (λ (q : Keys). q.consumer.durable) (same n)) x.durable;
 }
 
 -- a number's entries change
-by_key : {A : Type 0} (part : Keys → A) (b : Bool) (after old : Keys) → (if b then part after else part old) ≡ part (if b then after else old)
+by_key : {K A : Type 0} (part : K → A) (b : Bool) (after old : K) → (if b then part after else part old) ≡ part (if b then after else old)
 by_key part true after old = refl
 by_key part false after old = refl
 
-abbrev GroupMoves : ByRank → ByRank → ℕ → Option Turn → Option Turn → Type 0
+abbrev pub GroupMoves : ByRank → ByRank → ℕ → Option Turn → Option Turn → Type 0
 GroupMoves s t m before after = ((k : ℕ) (r : Rank) → in_group s k r m ≡ is_turn before k r)
     → (k : ℕ) (r : Rank) (n : ℕ) → in_group t k r n ≡ (if m == n then is_turn after k r else in_group s k r n)
 
-abbrev TallyMoves : Tallies → Tallies → Option ℕ → Option ℕ → Type 0
+abbrev pub TallyMoves : Tallies → Tallies → Option ℕ → Option ℕ → Type 0
 TallyMoves s t before after = (m : ℕ) (known : ℕ → Option ℕ) → known m ≡ before → IsTallied s known → IsTallied t (λ n. if m == n then after else known n)
 
-abbrev ConsumersMove : Consumers → Consumers → Keys → Keys → Type 0
+abbrev pub ConsumersMove : Consumers → Consumers → ConsumerKeys → ConsumerKeys → Type 0
 ConsumersMove s t before after = (m : ℕ) (waiting undecided : ℕ → Option ℕ) → waiting m ≡ before.waiting → undecided m ≡ before.undecided → AreTallied s waiting undecided
     → AreTallied t (λ n. if m == n then after.waiting else waiting n) (λ n. if m == n then after.undecided else undecided n)
 
-abbrev SpotMoves : Spots → Spots → ℕ → Option Spot → Option Spot → Type 0
+abbrev pub SpotMoves : Spots → Spots → ℕ → Option Spot → Option Spot → Type 0
 SpotMoves s t m before after = (known : ℕ → Option Spot) → known m ≡ before → SpotsFit s known → SpotsFit t (λ n. if m == n then after else known n)
 
-abbrev HandleMoves : Handles → Handles → ℕ → Option Spot → Option Spot → Type 0
+abbrev pub HandleMoves : Handles → Handles → ℕ → Option Spot → Option Spot → Type 0
 HandleMoves s t m before after = (known : ℕ → Option Spot) → known m ≡ before → HandlesFit s known → HandlesFit t (λ n. if m == n then after else known n)
 
-abbrev IdMoves : ById → ById → ℕ → Option Spot → Option Spot → Type 0
+abbrev pub IdMoves : ById → ById → ℕ → Option Spot → Option Spot → Type 0
 IdMoves s t m before after = (known : ℕ → Option Spot) → known m ≡ before → IdsFit s known → IdsFit t (λ n. if m == n then after else known n)
 
-pub indexes_moved : (s t : Index) (m : ℕ) (before after : Keys) (known : ℕ → Keys)
+-- the same from and to equal places
+pub moves_as : {V : Type 0} (moves : V → V → Type 0) (b c d e : V) → b ≡ c → d ≡ e → moves b d → moves c e
+moves_as {V = V} moves b c d e from to x = subst (λ (v : V). moves v e) from (subst (λ (v : V). moves b v) to x)
+
+-- those at its consumer's link
+pub consumer_moves : (s t : Index) (m : ℕ) (before after : ConsumerKeys) (known : ℕ → Keys)
     → ConsumersMove s.consumers t.consumers before after → GroupMoves s.unsent t.unsent m before.unsent after.unsent
-    → TallyMoves s.held t.held before.held after.held
-    → GroupMoves s.to_tell t.to_tell m before.to_tell after.to_tell
-    → HandleMoves s.on t.on m before.on after.on → HandleMoves s.from t.from m before.from after.from → IdMoves s.by_id t.by_id m before.by_id after.by_id
-    → SpotMoves s.durable t.durable m before.durable after.durable
-    → known m ≡ before → Indexes s known → Indexes t (λ n. if m == n then after else known n)
-indexes_moved s t m before after known consumers unsent held to_tell on from by_id durable is x = record {
-  consumers = all_same t.consumers (λ n. if m == n then after.waiting else (known n).waiting) (λ n. (if m == n then after else known n).waiting)
-      (λ n. if m == n then after.undecided else (known n).undecided) (λ n. (if m == n then after else known n).undecided)
-      (λ n. by_key (λ q. q.waiting) (m == n) after (known n)) (λ n. by_key (λ q. q.undecided) (m == n) after (known n))
-      (consumers m (λ n. (known n).waiting) (λ n. (known n).undecided) (ap (λ (q : Keys). q.waiting) is) (ap (λ (q : Keys). q.undecided) is) x.consumers);
-  unsent = λ k r n. unsent (λ j q. x.unsent j q m ∙ ap (λ (y : Keys). is_turn y.unsent j q) is) k r n
-      ∙ ap (λ b. if m == n then is_turn after.unsent k r else b) (x.unsent k r n) ∙ by_key (λ q. is_turn q.unsent k r) (m == n) after (known n);
-  held = tallied_same t.held (λ n. if m == n then after.held else (known n).held) (λ n. (if m == n then after else known n).held)
-      (λ n. by_key (λ q. q.held) (m == n) after (known n)) (held m (λ n. (known n).held) (ap (λ (q : Keys). q.held) is) x.held);
-  to_tell = λ k r n. to_tell (λ j q. x.to_tell j q m ∙ ap (λ (y : Keys). is_turn y.to_tell j q) is) k r n
-      ∙ ap (λ b. if m == n then is_turn after.to_tell k r else b) (x.to_tell k r n) ∙ by_key (λ q. is_turn q.to_tell k r) (m == n) after (known n);
-  on = handles_same t.on (λ n. if m == n then after.on else (known n).on) (λ n. (if m == n then after else known n).on)
-      (λ n. by_key (λ q. q.on) (m == n) after (known n)) (on (λ n. (known n).on) (ap (λ (q : Keys). q.on) is) x.on);
-  from = handles_same t.from (λ n. if m == n then after.from else (known n).from) (λ n. (if m == n then after else known n).from)
-      (λ n. by_key (λ q. q.from) (m == n) after (known n)) (from (λ n. (known n).from) (ap (λ (q : Keys). q.from) is) x.from);
-  by_id = ids_same t.by_id (λ n. if m == n then after.by_id else (known n).by_id) (λ n. (if m == n then after else known n).by_id)
-      (λ n. by_key (λ q. q.by_id) (m == n) after (known n)) (by_id (λ n. (known n).by_id) (ap (λ (q : Keys). q.by_id) is) x.by_id);
-  durable = fits_same t.durable (λ n. if m == n then after.durable else (known n).durable) (λ n. (if m == n then after else known n).durable)
-      (λ n. by_key (λ q. q.durable) (m == n) after (known n)) (durable (λ n. (known n).durable) (ap (λ (q : Keys). q.durable) is) x.durable);
+    → HandleMoves s.on t.on m before.on after.on → SpotMoves s.durable t.durable m before.durable after.durable
+    → t.held ≡ s.held → t.to_tell ≡ s.to_tell → t.from ≡ s.from → t.by_id ≡ s.by_id
+    → (known m).consumer ≡ before → Indexes s known → Indexes t (at_consumer_moved m after known)
+consumer_moves s t m before after known consumers unsent on durable held to_tell from by_id is x = record {
+  consumers = all_same t.consumers (λ n. if m == n then after.waiting else (known n).consumer.waiting) (λ n. (if m == n then after else (known n).consumer).waiting)
+      (λ n. if m == n then after.undecided else (known n).consumer.undecided) (λ n. (if m == n then after else (known n).consumer).undecided)
+      (λ n. by_key (λ (q : ConsumerKeys). q.waiting) (m == n) after (known n).consumer) (λ n. by_key (λ (q : ConsumerKeys). q.undecided) (m == n) after (known n).consumer)
+      (consumers m (λ n. (known n).consumer.waiting) (λ n. (known n).consumer.undecided) (ap (λ (q : ConsumerKeys). q.waiting) is) (ap (λ (q : ConsumerKeys). q.undecided) is) x.consumers);
+  unsent = λ k r n. unsent (λ j q. x.unsent j q m ∙ ap (λ (y : ConsumerKeys). is_turn y.unsent j q) is) k r n
+      ∙ ap (λ b. if m == n then is_turn after.unsent k r else b) (x.unsent k r n) ∙ by_key (λ (q : ConsumerKeys). is_turn q.unsent k r) (m == n) after (known n).consumer;
+  held = subst (λ (h : Tallies). IsTallied h (λ n. (known n).producer.held)) (sym held) x.held;
+  to_tell = λ k r n. ap (λ (h : ByRank). in_group h k r n) to_tell ∙ x.to_tell k r n;
+  on = handles_same t.on (λ n. if m == n then after.on else (known n).consumer.on) (λ n. (if m == n then after else (known n).consumer).on)
+      (λ n. by_key (λ (q : ConsumerKeys). q.on) (m == n) after (known n).consumer) (on (λ n. (known n).consumer.on) (ap (λ (q : ConsumerKeys). q.on) is) x.on);
+  from = subst (λ (h : Handles). HandlesFit h (λ n. (known n).producer.from)) (sym from) x.from;
+  by_id = subst (λ (h : ById). IdsFit h (λ n. (known n).producer.by_id)) (sym by_id) x.by_id;
+  durable = fits_same t.durable (λ n. if m == n then after.durable else (known n).consumer.durable) (λ n. (if m == n then after else (known n).consumer).durable)
+      (λ n. by_key (λ (q : ConsumerKeys). q.durable) (m == n) after (known n).consumer) (durable (λ n. (known n).consumer.durable) (ap (λ (q : ConsumerKeys). q.durable) is) x.durable);
 }
+
+-- those by its producer
+pub producer_moves : (s t : Index) (m : ℕ) (before after : AtProducer) (known : ℕ → Keys)
+    → TallyMoves s.held t.held before.held after.held → GroupMoves s.to_tell t.to_tell m before.to_tell after.to_tell
+    → HandleMoves s.from t.from m before.from after.from → IdMoves s.by_id t.by_id m before.by_id after.by_id
+    → t.consumers ≡ s.consumers → t.unsent ≡ s.unsent → t.on ≡ s.on → t.durable ≡ s.durable
+    → (known m).producer ≡ before → Indexes s known → Indexes t (by_producer_moved m after known)
+producer_moves s t m before after known held to_tell from by_id consumers unsent on durable is x = record {
+  consumers = subst (λ (h : Consumers). AreTallied h (λ n. (known n).consumer.waiting) (λ n. (known n).consumer.undecided)) (sym consumers) x.consumers;
+  unsent = λ k r n. ap (λ (h : ByRank). in_group h k r n) unsent ∙ x.unsent k r n;
+  held = tallied_same t.held (λ n. if m == n then after.held else (known n).producer.held) (λ n. (if m == n then after else (known n).producer).held)
+      (λ n. by_key (λ (q : AtProducer). q.held) (m == n) after (known n).producer) (held m (λ n. (known n).producer.held) (ap (λ (q : AtProducer). q.held) is) x.held);
+  to_tell = λ k r n. to_tell (λ j q. x.to_tell j q m ∙ ap (λ (y : AtProducer). is_turn y.to_tell j q) is) k r n
+      ∙ ap (λ b. if m == n then is_turn after.to_tell k r else b) (x.to_tell k r n) ∙ by_key (λ (q : AtProducer). is_turn q.to_tell k r) (m == n) after (known n).producer;
+  on = subst (λ (h : Handles). HandlesFit h (λ n. (known n).consumer.on)) (sym on) x.on;
+  from = handles_same t.from (λ n. if m == n then after.from else (known n).producer.from) (λ n. (if m == n then after else (known n).producer).from)
+      (λ n. by_key (λ (q : AtProducer). q.from) (m == n) after (known n).producer) (from (λ n. (known n).producer.from) (ap (λ (q : AtProducer). q.from) is) x.from);
+  by_id = ids_same t.by_id (λ n. if m == n then after.by_id else (known n).producer.by_id) (λ n. (if m == n then after else (known n).producer).by_id)
+      (λ n. by_key (λ (q : AtProducer). q.by_id) (m == n) after (known n).producer) (by_id (λ n. (known n).producer.by_id) (ap (λ (q : AtProducer). q.by_id) is) x.by_id);
+  durable = subst (λ (h : Spots). SpotsFit h (λ n. (known n).consumer.durable)) (sym durable) x.durable;
+}
+
+-- nothing moves there
+pub consumer_rests : (s : Index) (m : ℕ) (known : ℕ → Keys) → Indexes s known → Indexes s (at_consumer_moved m (known m).consumer known)
+consumer_rests s m known x = indexes_same s known (at_consumer_moved m (known m).consumer known) (λ n. by_test n (m == n) refl) x
+  where
+    by_test : (n : ℕ) (b : Bool) → (m == n) ≡ b → known n ≡ with_consumer (if b then (known m).consumer else (known n).consumer) (known n)
+    by_test n true e = ap (λ k. with_consumer (known k).consumer (known n)) (sym (eqb-true m n e))
+    by_test n false e = refl
+
+pub producer_rests : (s : Index) (m : ℕ) (known : ℕ → Keys) → Indexes s known → Indexes s (by_producer_moved m (known m).producer known)
+producer_rests s m known x = indexes_same s known (by_producer_moved m (known m).producer known) (λ n. by_test n (m == n) refl) x
+  where
+    by_test : (n : ℕ) (b : Bool) → (m == n) ≡ b → known n ≡ with_producer (if b then (known m).producer else (known n).producer) (known n)
+    by_test n true e = ap (λ k. with_producer (known k).producer (known n)) (sym (eqb-true m n e))
+    by_test n false e = refl
+
+-- first the ones, then the others
+pub both_moved : (s : Index) (m : ℕ) (c : ConsumerKeys) (p : AtProducer) (known : ℕ → Keys)
+    → Indexes s (by_producer_moved m p (at_consumer_moved m c known))
+    → Indexes s (λ n. if m == n then record { consumer = c; producer = p } else known n)
+both_moved s m c p known x = indexes_same s (by_producer_moved m p (at_consumer_moved m c known))
+    (λ n. if m == n then record { consumer = c; producer = p } else known n) (λ n. by_test n (m == n)) x
+  where
+    by_test : (n : ℕ) (b : Bool) → with_producer (if b then p else (known n).producer) (with_consumer (if b then c else (known n).consumer) (known n))
+        ≡ (if b then record { consumer = c; producer = p } else known n)
+    by_test n true = refl
+    by_test n false = refl
+
+-- the same of entries by a seat, and by how a delivery stands there
+abbrev pub entries : Seat → AtConsumer → AtProducer → Keys
+entries seat c p = record { consumer = consumer_keys seat c; producer = p }
+
+pub both_entered : (s t u : Index) (m : ℕ) (known : ℕ → Keys) (seat : Seat) (before after : AtConsumer) (was is : AtProducer)
+    (seat_is : Seat) (before_is after_is : AtConsumer) (was_is is_is : AtProducer) → seat_is ≡ seat → before_is ≡ before → after_is ≡ after → was_is ≡ was → is_is ≡ is
+    → ((known : ℕ → Keys) → (known m).consumer ≡ consumer_keys seat_is before_is → Indexes s known → Indexes t (at_consumer_moved m (consumer_keys seat_is after_is) known))
+    → ((known : ℕ → Keys) → (known m).producer ≡ was_is → Indexes t known → Indexes u (by_producer_moved m is_is known))
+    → known m ≡ entries seat before was → Indexes s known → Indexes u (λ n. if m == n then entries seat after is else known n)
+both_entered s t u m known seat before after was is seat_is before_is after_is was_is is_is a b d e f first second there x =
+    both_moved u m (consumer_keys seat after) is known
+    (subst (λ (c : ConsumerKeys). Indexes u (by_producer_moved m is (at_consumer_moved m c known))) (λ i. consumer_keys (a i) (d i))
+    (subst (λ (p : AtProducer). Indexes u (by_producer_moved m p (at_consumer_moved m (consumer_keys seat_is after_is) known))) f
+    (second (at_consumer_moved m (consumer_keys seat_is after_is) known) (ap (λ (k : Keys). k.producer) there ∙ sym e)
+    (first known (ap (λ (k : Keys). k.consumer) there ∙ sym (λ i. consumer_keys (a i) (b i))) x))))
 
 -- one delivery was changed in its place, added or removed
 pub put_at : (s : Index) (m : ℕ) (g : Option Delivery → Option Delivery) (old new : ℕ → Option Delivery) → ((n : ℕ) → new n ≡ (if m == n then g (old n) else old n))

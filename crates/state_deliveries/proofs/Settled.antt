@@ -8,12 +8,13 @@ use Rattle.router_trace.specs.declared.binding.DeliveryName.{DeliveryName}
 use Rattle.router_trace.specs.Deliveries.{Delivery, unless_over, is_over, same_name, is_number}
 use Rattle.state_deliveries.specs.declared.by_name.ByName.{ByName}
 use Rattle.state_deliveries.specs.declared.index.Index.{Index}
-use Rattle.state_deliveries.specs.declared.index.Keys.{Keys}
-use Rattle.state_deliveries.specs.declared.index.Moved.{Moved}
+use Rattle.state_deliveries.specs.declared.standing.AtConsumer.{AtConsumer}
+use Rattle.state_deliveries.specs.declared.standing.AtProducer.{AtProducer}
+use Rattle.state_deliveries.specs.declared.standing.Moved.{Moved}
 use Rattle.state_deliveries.specs.declared.store.Store.{Store}
 use Rattle.state_deliveries.specs.Calling.{at_name, is_called}
 use Rattle.state_deliveries.specs.Fits.{Indexed}
-use Rattle.state_deliveries.specs.Indexing.{Indexes, keys, moved, standing}
+use Rattle.state_deliveries.specs.Indexing.{Begins, Indexes, Keys, after_move, keys, moved, standing}
 use Rattle.state_deliveries.specs.Touching.{is_touched_in, StandsSame, StoreTouches}
 use Rattle.state_deliveries.proofs.Called.{called_at}
 use Rattle.state_deliveries.proofs.Reindexed.{indexes_same, put_at}
@@ -22,9 +23,22 @@ use Rattle.state_deliveries.proofs.Touching.{touches_at}
 abbrev pub step : (Delivery → Delivery) → Option Delivery → Option Delivery
 step f v = option_and_then (λ d. unless_over (f d)) v
 
+-- what is noted of a delivery before a change
+abbrev pub Notes : Type 0
+Notes = (Delivery → Option AtConsumer) × (Delivery → Option AtProducer)
+
 -- what is known of a delivery that may be there
-abbrev pub found_of : (Delivery → Delivery) → Option Delivery → Option Moved
-found_of f v = option_map (λ d. moved (keys d) (f d)) v
+abbrev pub noted_of : (Delivery → Delivery) → Notes → Delivery → Moved
+noted_of f g d = moved (g.0 d) (g.1 d) (f d)
+
+abbrev pub found_of : (Delivery → Delivery) → Notes → Option Delivery → Option Moved
+found_of f g v = option_map (noted_of f g) v
+
+-- the notes say how the change moves it
+pub record Moves (f : Delivery → Delivery) (g : Notes) : Type 0 where
+  pub named : (d : Delivery) → (f d).name ≡ d.name
+  pub begins : (d : Delivery) → Begins (noted_of f g d) (keys d)
+  pub ends : (d : Delivery) → after_move (noted_of f g d) (keys d) ≡ standing (unless_over (f d))
 
 -- what a change of one delivery leaves
 pub record Stepped (old new : Store) : Type 0 where
@@ -32,22 +46,22 @@ pub record Stepped (old new : Store) : Type 0 where
   pub touches : StoreTouches old new
 
 -- there was one
-pub found_there : (f : Delivery → Delivery) (v : Option Delivery) (x : Moved) → Some x ≡ found_of f v → (d : Delivery) × (v ≡ Some d) × (x ≡ moved (keys d) (f d))
-found_there f None x e = absurd cc
-found_there f (Some d) x e = (d, refl, inside x (moved (keys d) (f d)) e)
+pub found_there : (f : Delivery → Delivery) (g : Notes) (v : Option Delivery) (x : Moved) → Some x ≡ found_of f g v → (d : Delivery) × (v ≡ Some d) × (x ≡ noted_of f g d)
+found_there f g None x e = absurd cc
+found_there f g (Some d) x e = (d, refl, inside x (noted_of f g d) e)
   where
     of : Option Moved → Moved
     of None = x
     of (Some y) = y
 
     inside : (y z : Moved) → Some y ≡ Some z → y ≡ z
-    inside y z g = ap of g
+    inside y z h = ap of h
 
-one_step : (f : Delivery → Delivery) (m n : ℕ) (d : Delivery) (x : Moved) (old : ℕ → Option Delivery) (mid new : Option Delivery) → old m ≡ Some d → x ≡ moved (keys d) (f d)
+one_step : (f : Delivery → Delivery) (g : Notes) (m n : ℕ) (d : Delivery) (x : Moved) (old : ℕ → Option Delivery) (mid new : Option Delivery) → old m ≡ Some d → x ≡ noted_of f g d
     → mid ≡ (if m == n then option_map f (old n) else old n)
     → new ≡ (if x.over then (if m == n then None else mid) else mid)
     → new ≡ (if m == n then step f (old n) else old n)
-one_step f m n d x old mid new was is changed gone = gone ∙ by_test (m == n) refl
+one_step f g m n d x old mid new was is changed gone = gone ∙ by_test (m == n) refl
   where
     either : (b : Bool) (v : Option Delivery) → (if b then v else v) ≡ v
     either true v = refl
@@ -64,38 +78,38 @@ one_step f m n d x old mid new was is changed gone = gone ∙ by_test (m == n) r
     by_test false e =
         ap (λ b. if x.over then (if b then None else mid) else mid) e ∙ either x.over mid ∙ changed ∙ ap (λ b. if b then option_map f (old n) else old n) e
 
-pub steps_at : (f : Delivery → Delivery) (m : ℕ) (x : Moved) (old new : Store) (mid : ℕ → Option Delivery)
-    → Some x ≡ found_of f (at_number old.deliveries m)
+pub steps_at : (f : Delivery → Delivery) (g : Notes) (m : ℕ) (x : Moved) (old new : Store) (mid : ℕ → Option Delivery)
+    → Some x ≡ found_of f g (at_number old.deliveries m)
     → ((n : ℕ) → mid n ≡ (if m == n then option_map f (at_number old.deliveries n) else at_number old.deliveries n))
     → ((n : ℕ) → at_number new.deliveries n ≡ (if x.over then (if m == n then None else mid n) else mid n))
     → (n : ℕ) → at_number new.deliveries n ≡ (if m == n then step f (at_number old.deliveries n) else at_number old.deliveries n)
-steps_at f m x old new mid found changed gone n =
-    let one = found_there f (at_number old.deliveries m) x found in
-    one_step f m n one.0 x (at_number old.deliveries) (mid n) (at_number new.deliveries n) one.1 one.2 (changed n) (gone n)
+steps_at f g m x old new mid found changed gone n =
+    let one = found_there f g (at_number old.deliveries m) x found in
+    one_step f g m n one.0 x (at_number old.deliveries) (mid n) (at_number new.deliveries n) one.1 one.2 (changed n) (gone n)
 
-pub one_stepped : (f : Delivery → Delivery) (m : ℕ) (x : Moved) (old new : Store) (mid : ℕ → Option Delivery) → ((d : Delivery) → (f d).name ≡ d.name)
-    → Some x ≡ found_of f (at_number old.deliveries m)
+pub one_stepped : (f : Delivery → Delivery) (g : Notes) (m : ℕ) (x : Moved) (old new : Store) (mid : ℕ → Option Delivery) → Moves f g
+    → Some x ≡ found_of f g (at_number old.deliveries m)
     → ((n : ℕ) → mid n ≡ (if m == n then option_map f (at_number old.deliveries n) else at_number old.deliveries n))
     → ((n : ℕ) → at_number new.deliveries n ≡ (if x.over then (if m == n then None else mid n) else mid n))
-    → ((known : ℕ → Keys) → known m ≡ x.before → Indexes old.index known → Indexes new.index (λ n. if m == n then x.after else known n))
+    → ((known : ℕ → Keys) → Begins x (known m) → Indexes old.index known → Indexes new.index (λ n. if m == n then after_move x (known m) else known n))
     → ((name : DeliveryName) → at_name new.by_name name ≡ (if x.over && same_name x.name name then None else at_name old.by_name name))
-    → ((k : ℕ) → is_touched_in new.touched k ≡ false → (is_touched_in old.touched k ≡ false) × StandsSame k x.before x.after)
+    → ((q : Keys) (k : ℕ) → Begins x q → is_touched_in new.touched k ≡ false → (is_touched_in old.touched k ≡ false) × StandsSame k q (after_move x q))
     → Stepped old new
-one_stepped f m x old new mid named found changed gone indexes called noted = record {
-  indexed = λ stood. record {
+one_stepped f g m x old new mid moves found changed gone indexes called noted = record {
+  indexed = λ before. record {
     indexes = put_at new.index m (step f) (at_number old.deliveries) (at_number new.deliveries) steps
         (subst (λ (a : Keys). Indexes new.index (λ n. if m == n then a else standing (at_number old.deliveries n))) after
-        (indexes (λ n. standing (at_number old.deliveries n)) (sym before) stood.indexes));
-    called = called_at old.by_name new.by_name m d (f d) (at_number old.deliveries) (at_number new.deliveries) (named d) was
+        (indexes (λ n. standing (at_number old.deliveries n)) begins before.indexes));
+    called = called_at old.by_name new.by_name m d (f d) (at_number old.deliveries) (at_number new.deliveries) (moves.named d) was
         (λ n. steps n ∙ here n (m == n) refl)
         (λ name. called name ∙ ap (λ (y : Moved). if y.over && same_name y.name name then None else at_name old.by_name name) is)
-        stood.called;
+        before.called;
   };
-  touches = touches_at old new m (step f) x.before x.after before after steps noted;
+  touches = touches_at old new m (step f) stood (after_move x stood) refl after steps (λ k e. noted stood k begins e);
 }
   where
-    one : (d : Delivery) × (at_number old.deliveries m ≡ Some d) × (x ≡ moved (keys d) (f d))
-    one = found_there f (at_number old.deliveries m) x found
+    one : (d : Delivery) × (at_number old.deliveries m ≡ Some d) × (x ≡ noted_of f g d)
+    one = found_there f g (at_number old.deliveries m) x found
 
     d : Delivery
     d = one.0
@@ -103,17 +117,22 @@ one_stepped f m x old new mid named found changed gone indexes called noted = re
     was : at_number old.deliveries m ≡ Some d
     was = one.1
 
-    is : x ≡ moved (keys d) (f d)
+    is : x ≡ noted_of f g d
     is = one.2
 
-    before : x.before ≡ standing (at_number old.deliveries m)
-    before = ap (λ (y : Moved). y.before) is ∙ sym (ap standing was)
+    stood : Keys
+    stood = standing (at_number old.deliveries m)
 
-    after : x.after ≡ standing (step f (at_number old.deliveries m))
-    after = ap (λ (y : Moved). y.after) is ∙ sym (ap (λ v. standing (step f v)) was)
+    begins : Begins x (standing (at_number old.deliveries m))
+    begins = subst (λ (y : Moved). Begins y (standing (at_number old.deliveries m))) (sym is)
+        (subst (λ (v : Option Delivery). Begins (noted_of f g d) (standing v)) (sym was) (moves.begins d))
+
+    after : after_move x (standing (at_number old.deliveries m)) ≡ standing (step f (at_number old.deliveries m))
+    after = ap (λ (y : Moved). after_move y (standing (at_number old.deliveries m))) is ∙ ap (λ v. after_move (noted_of f g d) (standing v)) was ∙ moves.ends d
+        ∙ sym (ap (λ v. standing (step f v)) was)
 
     steps : (n : ℕ) → at_number new.deliveries n ≡ (if m == n then step f (at_number old.deliveries n) else at_number old.deliveries n)
-    steps n = one_step f m n d x (at_number old.deliveries) (mid n) (at_number new.deliveries n) was is (changed n) (gone n)
+    steps n = one_step f g m n d x (at_number old.deliveries) (mid n) (at_number new.deliveries n) was is (changed n) (gone n)
 
     here : (n : ℕ) (b : Bool) → (m == n) ≡ b → (if b then step f (at_number old.deliveries n) else at_number old.deliveries n)
         ≡ (if b then unless_over (f d) else at_number old.deliveries n)
@@ -121,18 +140,18 @@ one_stepped f m x old new mid named found changed gone indexes called noted = re
     here n false e = refl
 
 -- nothing was found to change
-pub unfound : (f : Delivery → Delivery) (m : ℕ) (s u : Store) (found : Option Moved) → found ≡ found_of f (at_number s.deliveries m) → ((x : Moved) → found ≡ Some x → ⊥)
+pub unfound : (f : Delivery → Delivery) (g : Notes) (m : ℕ) (s u : Store) (found : Option Moved) → found ≡ found_of f g (at_number s.deliveries m) → ((x : Moved) → found ≡ Some x → ⊥)
     → ((n : ℕ) → at_number u.deliveries n ≡ (if m == n then option_map f (at_number s.deliveries n) else at_number s.deliveries n))
     → u.index ≡ s.index → u.by_name ≡ s.by_name → Indexed s → Indexed u
-unfound f m s u found is none at index by_name x = record {
+unfound f g m s u found is none at index by_name x = record {
   indexes = subst (λ (i : Index). Indexes i (λ n. standing (at_number u.deliveries n))) (sym index)
       (indexes_same s.index (λ n. standing (at_number s.deliveries n)) (λ n. standing (at_number u.deliveries n)) (λ n. ap standing (sym (same n))) x.indexes);
   called = λ name n. ap (λ (b : ByName). is_number (at_name b name) n) by_name ∙ x.called name n ∙ ap (is_called name) (sym (same n));
 }
   where
-    nowhere : (v : Option Delivery) → found ≡ found_of f v → v ≡ None
-    nowhere None e = refl
-    nowhere (Some d) e = absurd (none (moved (keys d) (f d)) e)
+    nothing : (v : Option Delivery) → found ≡ found_of f g v → v ≡ None
+    nothing None e = refl
+    nothing (Some d) e = absurd (none (noted_of f g d) e)
 
     mapped : (v : Option Delivery) → v ≡ None → option_map f v ≡ v
     mapped v e = ap (option_map f) e ∙ sym e
@@ -143,25 +162,22 @@ unfound f m s u found is none at index by_name x = record {
         by_test : (b : Bool) → (m == n) ≡ b → at_number u.deliveries n ≡ at_number s.deliveries n
         by_test true e =
             at n ∙ ap (λ b. if b then option_map f (at_number s.deliveries n) else at_number s.deliveries n) e
-            ∙ mapped (at_number s.deliveries n) (ap (at_number s.deliveries) (sym (eqb-true m n e)) ∙ nowhere (at_number s.deliveries m) is)
+            ∙ mapped (at_number s.deliveries n) (ap (at_number s.deliveries) (sym (eqb-true m n e)) ∙ nothing (at_number s.deliveries m) is)
         by_test false e = at n ∙ ap (λ b. if b then option_map f (at_number s.deliveries n) else at_number s.deliveries n) e
 
-pub stood : (f : Delivery → Delivery) (v : Option Delivery) (x : Moved) → Some x ≡ found_of f v → x.before ≡ standing v
-stood f v x e = let one = found_there f v x e in ap (λ (y : Moved). y.before) one.2 ∙ sym (ap standing one.1)
+pub nothing_there : (f : Delivery → Delivery) (g : Notes) (v : Option Delivery) → None ≡ found_of f g v → v ≡ None
+nothing_there f g None e = refl
+nothing_there f g (Some d) e = absurd cc
 
-pub nothing_there : (f : Delivery → Delivery) (v : Option Delivery) → None ≡ found_of f v → v ≡ None
-nothing_there f None e = refl
-nothing_there f (Some d) e = absurd cc
-
-pub unfound_step : (f : Delivery → Delivery) (m n : ℕ) (old : ℕ → Option Delivery) → None ≡ found_of f (old m)
+pub unfound_step : (f : Delivery → Delivery) (g : Notes) (m n : ℕ) (old : ℕ → Option Delivery) → None ≡ found_of f g (old m)
     → (if m == n then option_map f (old n) else old n) ≡ (if m == n then step f (old n) else old n)
-unfound_step f m n old none = by_test (m == n) refl
+unfound_step f g m n old none = by_test (m == n) refl
   where
     nothing : (v : Option Delivery) → v ≡ None → option_map f v ≡ step f v
     nothing v e = ap (option_map f) e ∙ sym (ap (step f) e)
 
     by_test : (b : Bool) → (m == n) ≡ b → (if b then option_map f (old n) else old n) ≡ (if b then step f (old n) else old n)
-    by_test true e = nothing (old n) (ap old (sym (eqb-true m n e)) ∙ nothing_there f (old m) none)
+    by_test true e = nothing (old n) (ap old (sym (eqb-true m n e)) ∙ nothing_there f g (old m) none)
     by_test false e = refl
 
 -- whether there was one, told by a Boolean

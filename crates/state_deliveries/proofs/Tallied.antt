@@ -1,6 +1,6 @@
 -- Counts that follow what they count.
 use Rattle.std.proofs.Common.{◌≡◌, ◌∙◌, ◌+◌, ◌-◌, ℕ, Bool, true, false, refl, sym, ap, subst, arith, [], Option, Some, None}
-use Rattle.std.specs.Prelude.{◌==◌, if◌then◌else◌, unwrap_or}
+use Rattle.std.specs.Prelude.{◌==◌, ◌&&◌, not, if◌then◌else◌, unwrap_or}
 use Rattle.std.proofs.lemmas.Bool.{eqb-true}
 use Rattle.std.proofs.lemmas.Bool.Decides.{nat_tests}
 use Rattle.state_collections.specs.NumberMap.{at_number}
@@ -9,6 +9,7 @@ use Rattle.router_trace.specs.Deliveries.{is_number}
 use Rattle.router_trace.proofs.Counts.{no_rise, count_same, count_with, count_without}
 use Rattle.state_deliveries.specs.declared.consumers.Consumers.{Consumers}
 use Rattle.state_deliveries.specs.declared.tallies.Tallies.{Tallies}
+use Rattle.state_deliveries.specs.Indexing.{on_link}
 use Rattle.state_deliveries.specs.Tallying.{tally, is_zero, IsTallied, waiting_at, undecided_at, waiting_of, undecided_of, has_none, AreTallied, unless_at, more, less}
 
 -- the tallies of links, of which one number moves from one to another
@@ -106,17 +107,36 @@ all_same s f g p q waiting undecided x = record {
   needed = x.needed;
 }
 
-pub all_moved : (s mid new : Consumers) (m : ℕ) (waiting_before waiting_after undecided_before undecided_after : Option ℕ) (waiting undecided : ℕ → Option ℕ)
-    → ((k : ℕ) → waiting_at mid k ≡ less (is_number (unless_at waiting_before waiting_after) k) (waiting_at s k))
-    → ((k : ℕ) → undecided_at mid k ≡ less (is_number (unless_at undecided_before undecided_after) k) (undecided_at s k))
+and_true : (b : Bool) → (b && true) ≡ b
+and_true true = refl
+and_true false = refl
+
+and_false : (b : Bool) → (b && false) ≡ false
+and_false true = refl
+and_false false = refl
+
+-- the link on which a delivery counts no more, and that on which it counts now
+unless_is : (link k : ℕ) (b a : Bool) → is_number (unless_at (on_link link b) (on_link link a)) k ≡ ((link == k) && (b && not a))
+unless_is link k true true = ap (λ (e : Bool). is_number (if e then None else Some link) k) (itself link) ∙ sym (and_false (link == k))
+  where
+    itself : (m : ℕ) → (m == m) ≡ true
+    itself m = grind (arith, nat_tests)
+unless_is link k true false = sym (and_true (link == k))
+unless_is link k false a = sym (and_false (link == k))
+
+pub all_moved : (s mid new : Consumers) (link m : ℕ) (wb wa ub ua : Bool) (waiting undecided : ℕ → Option ℕ)
+    → ((k : ℕ) → waiting_at mid k ≡ less ((link == k) && (wb && not wa)) (waiting_at s k))
+    → ((k : ℕ) → undecided_at mid k ≡ less ((link == k) && (ub && not ua)) (undecided_at s k))
     → ((k : ℕ) → has_none (at_number s.rows k) ≡ false → has_none (at_number mid.rows k) ≡ false)
-    → ((k : ℕ) → waiting_at new k ≡ more (is_number (unless_at waiting_after waiting_before) k) (waiting_at mid k))
-    → ((k : ℕ) → undecided_at new k ≡ more (is_number (unless_at undecided_after undecided_before) k) (undecided_at mid k))
+    → ((k : ℕ) → waiting_at new k ≡ more ((link == k) && (wa && not wb)) (waiting_at mid k))
+    → ((k : ℕ) → undecided_at new k ≡ more ((link == k) && (ua && not ub)) (undecided_at mid k))
     → ((k : ℕ) → has_none (at_number mid.rows k) ≡ false → has_none (at_number new.rows k) ≡ false)
-    → waiting m ≡ waiting_before → undecided m ≡ undecided_before → AreTallied s waiting undecided
-    → AreTallied new (λ n. if m == n then waiting_after else waiting n) (λ n. if m == n then undecided_after else undecided n)
-all_moved s mid new m wb wa ub ua waiting undecided out out2 left back back2 kept is is2 x = record {
-  waiting = counted_unless (waiting_at s) (waiting_at mid) (waiting_at new) m wb wa waiting out back is x.waiting;
-  undecided = counted_unless (undecided_at s) (undecided_at mid) (undecided_at new) m ub ua undecided out2 back2 is2 x.undecided;
+    → waiting m ≡ on_link link wb → undecided m ≡ on_link link ub → AreTallied s waiting undecided
+    → AreTallied new (λ n. if m == n then on_link link wa else waiting n) (λ n. if m == n then on_link link ua else undecided n)
+all_moved s mid new link m wb wa ub ua waiting undecided out out2 left back back2 kept is is2 x = record {
+  waiting = counted_unless (waiting_at s) (waiting_at mid) (waiting_at new) m (on_link link wb) (on_link link wa) waiting
+      (λ k. out k ∙ ap (λ b. less b (waiting_at s k)) (sym (unless_is link k wb wa))) (λ k. back k ∙ ap (λ b. more b (waiting_at mid k)) (sym (unless_is link k wa wb))) is x.waiting;
+  undecided = counted_unless (undecided_at s) (undecided_at mid) (undecided_at new) m (on_link link ub) (on_link link ua) undecided
+      (λ k. out2 k ∙ ap (λ b. less b (undecided_at s k)) (sym (unless_is link k ub ua))) (λ k. back2 k ∙ ap (λ b. more b (undecided_at mid k)) (sym (unless_is link k ua ub))) is2 x.undecided;
   needed = λ k. kept k (left k (x.needed k));
 }

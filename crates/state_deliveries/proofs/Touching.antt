@@ -3,12 +3,15 @@ use Rattle.std.proofs.Common.{◌≡◌, ◌∙◌, ℕ, Bool, true, false, refl
 use Rattle.std.specs.Prelude.{◌==◌, if◌then◌else◌}
 use Rattle.state_collections.specs.NumberMap.{at_number}
 use Rattle.std.proofs.lemmas.Bool.{eqb-true}
-use Rattle.router_trace.specs.Deliveries.{Delivery, waits_on, undecided_on, held_from}
-use Rattle.state_deliveries.specs.declared.index.Keys.{Keys}
+use Rattle.router_trace.specs.Deliveries.{Delivery, is_number, waits_on, undecided_on, held_from}
+use Rattle.state_deliveries.specs.declared.standing.AtConsumer.{AtConsumer}
+use Rattle.state_deliveries.specs.declared.standing.AtProducer.{AtProducer}
+use Rattle.state_deliveries.specs.declared.standing.Seat.{Seat}
+use Rattle.state_deliveries.specs.Indexing.{ConsumerKeys, Keys, consumer_keys, standing}
 use Rattle.state_deliveries.specs.declared.store.Store.{Store}
-use Rattle.state_deliveries.specs.Indexing.{standing}
-use Rattle.state_deliveries.specs.Touching.{is_touched_in, IsSameOn, StandsSame, StoreTouches}
+use Rattle.state_deliveries.specs.Touching.{is_touched_in, IsSameOn, SameAtConsumer, StandsSame, StoreTouches}
 use Rattle.state_deliveries.proofs.Found.{waits_is, undecided_is, held_is}
+use Rattle.state_deliveries.proofs.Reindexed.{entries}
 
 pub same_on : (k : ℕ) (v w : Option Delivery) → v ≡ w → IsSameOn k v w
 same_on k v w e = record { waits = ap (waits_on k) e; undecided = ap (undecided_on k) e; held = ap (held_from k) e }
@@ -16,8 +19,8 @@ same_on k v w e = record { waits = ap (waits_on k) e; undecided = ap (undecided_
 -- the same by its entries
 on_standing : (k : ℕ) (v w : Option Delivery) → StandsSame k (standing v) (standing w) → IsSameOn k v w
 on_standing k v w x = record {
-  waits = sym (waits_is k v) ∙ x.waiting ∙ waits_is k w;
-  undecided = sym (undecided_is k v) ∙ x.undecided ∙ undecided_is k w;
+  waits = sym (waits_is k v) ∙ x.consumer.waiting ∙ waits_is k w;
+  undecided = sym (undecided_is k v) ∙ x.consumer.undecided ∙ undecided_is k w;
   held = sym (held_is k v) ∙ x.held ∙ held_is k w;
 }
 
@@ -35,6 +38,17 @@ pub touches_then : (old middle new : Store) → StoreTouches old middle → Stor
 touches_then old middle new x y = record {
   before = λ k f. x.before k (y.before k f);
   same = λ k n f. let a = x.same k n (y.before k f) in let b = y.same k n f in record { waits = a.waits ∙ b.waits; undecided = a.undecided ∙ b.undecided; held = a.held ∙ b.held };
+}
+
+-- the same entries, by a seat and by how a delivery stands there
+pub stands_as : (k : ℕ) (seat : Seat) (before after : AtConsumer) (was is : AtProducer)
+    (seat_is : Seat) (before_is after_is : AtConsumer) (was_is is_is : AtProducer) → seat_is ≡ seat → before_is ≡ before → after_is ≡ after → was_is ≡ was → is_is ≡ is
+    → SameAtConsumer k (consumer_keys seat_is before_is) (consumer_keys seat_is after_is) → is_number was_is.held k ≡ is_number is_is.held k
+    → StandsSame k (entries seat before was) (entries seat after is)
+stands_as k seat before after was is seat_is before_is after_is was_is is_is a b d e f x y = record {
+  consumer = subst (λ (c : ConsumerKeys). SameAtConsumer k (consumer_keys seat before) c) (λ i. consumer_keys (a i) (d i))
+      (subst (λ (c : ConsumerKeys). SameAtConsumer k c (consumer_keys seat_is after_is)) (λ i. consumer_keys (a i) (b i)) x);
+  held = ap (λ (p : AtProducer). is_number p.held k) (sym e) ∙ y ∙ ap (λ (p : AtProducer). is_number p.held k) f;
 }
 
 -- one delivery was changed in its place, added or removed

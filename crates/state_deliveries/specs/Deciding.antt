@@ -9,8 +9,7 @@ use Rattle.router_trace.specs.Trace.{Trace}
 use Rattle.router_trace.specs.Deliveries.{Delivery, source, is_undecided, bindings, delivery}
 use Rattle.state_deliveries.specs.declared.change.Change.{Change}
 use Rattle.state_deliveries.specs.declared.change.Change.TheVariants as change
-use Rattle.state_deliveries.specs.declared.index.Keys.{Keys}
-use Rattle.state_deliveries.specs.Indexing.{concerns}
+use Rattle.state_deliveries.specs.Indexing.{Keys, concerns}
 use Rattle.state_deliveries.specs.Placing.{is_id_there}
 use Rattle.state_deliveries.specs.Stepping.{changed, comes_with_id}
 
@@ -73,7 +72,7 @@ abbrev pub decides : Change → Keys → Bool
 decides (change.Ends g closed) k = concerns (change.Ends g closed) k
 decides (change.Untold c o first last) k = concerns (change.Untold c o first last) k
 decides (change.Told c o first last) k = concerns (change.Told c o first last) k
-decides (change.Decided c o first last made) k = is_id_there c o first last k.durable
+decides (change.Decided c o first last made) k = is_id_there c o first last k.consumer.durable
 
 -- one of these changes may decide it
 abbrev pub decide : List Change → Keys → Bool

@@ -1,5 +1,6 @@
 -- The indexes of a table of deliveries.
-use Rattle.std.specs.Prelude.{◌≡◌, ℕ, Bool, true, false, not, ◌&&◌, ◌||◌, if◌then◌else◌, is_none, is_some, Option, Some, None}
+use Rattle.std.specs.Prelude.{◌≡◌, ◌==◌, ℕ, Bool, true, false, not, ◌&&◌, ◌||◌, if◌then◌else◌, is_none, is_some, Option, Some, None}
+use Rattle.amqp_model.specs.declared.perf.Transfer.{Transfer}
 use Rattle.router_trace.specs.declared.binding.Origin.{Origin}
 use Rattle.router_trace.specs.declared.binding.Rank.{Rank}
 use Rattle.router_trace.specs.Deliveries.{Delivery, has_row, source, sender, holder, is_over, is_undecided, unless_over}
@@ -7,9 +8,13 @@ use Rattle.state_deliveries.specs.declared.by_rank.Turn.{Turn}
 use Rattle.state_deliveries.specs.declared.change.Change.{Change}
 use Rattle.state_deliveries.specs.declared.change.Change.TheVariants as change
 use Rattle.state_deliveries.specs.declared.index.Index.{Index}
-use Rattle.state_deliveries.specs.declared.index.Keys.{Keys}
-use Rattle.state_deliveries.specs.declared.index.Moved.{Moved}
 use Rattle.state_deliveries.specs.declared.spots.Spot.{Spot}
+use Rattle.state_deliveries.specs.declared.standing.AtConsumer.{AtConsumer}
+use Rattle.state_deliveries.specs.declared.standing.AtProducer.{AtProducer}
+use Rattle.state_deliveries.specs.declared.standing.ConsumerMove.{ConsumerMove}
+use Rattle.state_deliveries.specs.declared.standing.Moved.{Moved}
+use Rattle.state_deliveries.specs.declared.standing.ProducerMove.{ProducerMove}
+use Rattle.state_deliveries.specs.declared.standing.Seat.{Seat}
 use Rattle.state_deliveries.specs.Placing.{SpotsFit, HandlesFit, IdsFit, spot_of, on_spot, from_spot, id_spot, own_spot, is_gone_there, is_id_there}
 use Rattle.state_deliveries.specs.Ranking.{in_group, is_turn}
 use Rattle.state_deliveries.specs.Tallying.{IsTallied, AreTallied}
@@ -26,44 +31,160 @@ from_link (Some p) holds = on_link p.link.number holds
 abbrev pub turn_on : ℕ → Rank → Bool → Option Turn
 turn_on link rank holds = if holds then Some (record { link = link; rank = rank }) else None
 
--- the place of the id that the router gave, of an undecided delivery with a row
-abbrev pub durable_spot : Delivery → Option Spot
-durable_spot d = if is_undecided d && has_row d.name then own_spot d.link d.id else None
+-- what places a delivery's entries, and stays as long as it lives
+abbrev pub seat_of : Delivery → Seat
+seat_of d = record { link = d.link; rank = d.rank }
 
-abbrev pub keys : Delivery → Keys
-keys d = record {
-  waiting = on_link d.link.number (is_none d.id && d.going_on);
-  unsent = turn_on d.link.number d.rank d.going_on;
-  undecided = on_link d.link.number (is_none d.outcome && not d.suspended);
-  held = from_link (holder d) (is_none d.outcome || has_row d.name);
-  to_tell = turn_on 0 d.rank (not (is_none d.outcome) && is_some d.origin);
-  on = on_spot (spot_of d.link) (d.going_on || (is_none d.outcome && not d.suspended));
-  from = from_spot (sender d);
-  by_id = id_spot (source d);
-  durable = durable_spot d;
+-- how a delivery stands at its consumer's link; the id that the router gave counts while it is undecided, if it has a row
+abbrev pub durable_id : Delivery → Option ℕ
+durable_id d = if is_undecided d && has_row d.name then d.id else None
+
+abbrev pub at_consumer : Delivery → AtConsumer
+at_consumer d = record {
+  waits = is_none d.id && d.going_on;
+  goes_on = d.going_on;
+  undecided = is_none d.outcome && not d.suspended;
+  durable = durable_id d;
 }
 
+abbrev pub no_consumer : AtConsumer
+no_consumer = record { waits = false; goes_on = false; undecided = false; durable = None }
+
+abbrev pub consumer_if : Bool → Delivery → Option AtConsumer
+consumer_if moves d = if moves then Some (at_consumer d) else None
+
+-- the end of its link may change it
+abbrev pub is_on : AtConsumer → Bool
+is_on s = s.goes_on || s.undecided
+
+-- its entries by its producer
+abbrev pub at_producer : Delivery → AtProducer
+at_producer d = record {
+  held = from_link (holder d) (is_none d.outcome || has_row d.name);
+  to_tell = turn_on 0 d.rank (not (is_none d.outcome) && is_some d.origin);
+  from = from_spot (sender d);
+  by_id = id_spot (source d);
+}
+
+abbrev pub no_producer : AtProducer
+no_producer = record { held = None; to_tell = None; from = None; by_id = None }
+
+abbrev pub producer_of : Option Delivery → AtProducer
+producer_of None = no_producer
+producer_of (Some d) = at_producer d
+
+abbrev pub producer_if : Bool → Delivery → Option AtProducer
+producer_if moves d = if moves then Some (at_producer d) else None
+
+-- the entries at a consumer's link of a delivery that stands there like this
+pub record ConsumerKeys : Type 0 where
+  pub waiting : Option ℕ
+  pub unsent : Option Turn
+  pub undecided : Option ℕ
+  pub on : Option Spot
+  pub durable : Option Spot
+
+abbrev pub consumer_keys : Seat → AtConsumer → ConsumerKeys
+consumer_keys p s = record {
+  waiting = on_link p.link.number s.waits;
+  unsent = turn_on p.link.number p.rank s.goes_on;
+  undecided = on_link p.link.number s.undecided;
+  on = on_spot (spot_of p.link) (is_on s);
+  durable = own_spot p.link s.durable;
+}
+
+-- all entries of a delivery
+pub record Keys : Type 0 where
+  pub consumer : ConsumerKeys
+  pub producer : AtProducer
+
+abbrev pub keys : Delivery → Keys
+keys d = record { consumer = consumer_keys (seat_of d) (at_consumer d); producer = at_producer d }
+
 abbrev pub nowhere : Keys
-nowhere = record { waiting = None; unsent = None; undecided = None; held = None; to_tell = None; on = None; from = None; by_id = None; durable = None }
+nowhere = record { consumer = record { waiting = None; unsent = None; undecided = None; on = None; durable = None }; producer = no_producer }
 
 abbrev pub standing : Option Delivery → Keys
 standing None = nowhere
 standing (Some d) = keys d
 
--- what the indexes have to know of a delivery that was changed and had these entries before
-abbrev pub moved : Keys → Delivery → Moved
-moved before d = record { name = d.name; over = is_over d; before = before; after = standing (unless_over d) }
+abbrev pub with_consumer : ConsumerKeys → Keys → Keys
+with_consumer c k = record { consumer = c; producer = k.producer }
+
+abbrev pub with_producer : AtProducer → Keys → Keys
+with_producer p k = record { consumer = k.consumer; producer = p }
+
+-- the entries of a number's delivery change: those at its consumer's link, and those by its producer
+abbrev pub at_consumer_moved : ℕ → ConsumerKeys → (ℕ → Keys) → ℕ → Keys
+at_consumer_moved m c known n = with_consumer (if m == n then c else (known n).consumer) (known n)
+
+abbrev pub by_producer_moved : ℕ → AtProducer → (ℕ → Keys) → ℕ → Keys
+by_producer_moved m p known n = with_producer (if m == n then p else (known n).producer) (known n)
+
+-- What the indexes have to know of a delivery that was changed: how it stood before, where it may be moved.
+abbrev pub consumer_moved : Option AtConsumer → Delivery → Option ConsumerMove
+consumer_moved None d = None
+consumer_moved (Some before) d = Some (record { before = before; after = at_consumer d })
+
+abbrev pub producer_moved : Option AtProducer → Delivery → Option ProducerMove
+producer_moved None d = None
+producer_moved (Some before) d = Some (record { before = before; after = producer_of (unless_over d) })
+
+abbrev pub moved : Option AtConsumer → Option AtProducer → Delivery → Moved
+moved c p d = record { name = d.name; over = is_over d; seat = seat_of d; consumer = consumer_moved c d; producer = producer_moved p d }
+
+-- the entries before were these
+abbrev pub ConsumerBegins : Seat → Option ConsumerMove → ConsumerKeys → Type 0
+ConsumerBegins p None k = Unit {0}
+ConsumerBegins p (Some m) k = k ≡ consumer_keys p m.before
+
+abbrev pub ProducerBegins : Option ProducerMove → AtProducer → Type 0
+ProducerBegins None k = Unit {0}
+ProducerBegins (Some m) k = k ≡ m.before
+
+abbrev pub Begins : Moved → Keys → Type 0
+Begins x k = ConsumerBegins x.seat x.consumer k.consumer × ProducerBegins x.producer k.producer
+
+-- what they are then
+abbrev pub consumer_after : Seat → Option ConsumerMove → ConsumerKeys → ConsumerKeys
+consumer_after p None k = k
+consumer_after p (Some m) k = consumer_keys p m.after
+
+abbrev pub producer_after : Option ProducerMove → AtProducer → AtProducer
+producer_after None k = k
+producer_after (Some m) k = m.after
+
+abbrev pub after_move : Moved → Keys → Keys
+after_move x k = record { consumer = consumer_after x.seat x.consumer k.consumer; producer = producer_after x.producer k.producer }
+
+-- the place of the id that the router gave, before
+abbrev pub durable_in : Seat → Option ConsumerMove → Option Spot
+durable_in p None = None
+durable_in p (Some m) = own_spot p.link m.before.durable
+
+abbrev pub durable_before : Moved → Option Spot
+durable_before x = durable_in x.seat x.consumer
+
+-- a change may move a delivery at its consumer's link
+abbrev pub moves_consumer : Change → Bool
+moves_consumer (change.Ends g closed) = true
+moves_consumer (change.Decided c o first last made) = true
+moves_consumer _ = false
+
+-- a delivery is decided once it has a transfer
+abbrev pub is_decided_with : Transfer → Delivery → Bool
+is_decided_with x d = is_some d.outcome || (d.presettled && not x.more)
 
 -- each number has the entries that it should have, and links have the counts
 pub record Indexes (s : Index) (known : ℕ → Keys) : Type 0 where
-  pub consumers : AreTallied s.consumers (λ n. (known n).waiting) (λ n. (known n).undecided)
-  pub unsent : (k : ℕ) (r : Rank) (n : ℕ) → in_group s.unsent k r n ≡ is_turn (known n).unsent k r
-  pub held : IsTallied s.held (λ n. (known n).held)
-  pub to_tell : (k : ℕ) (r : Rank) (n : ℕ) → in_group s.to_tell k r n ≡ is_turn (known n).to_tell k r
-  pub on : HandlesFit s.on (λ n. (known n).on)
-  pub from : HandlesFit s.from (λ n. (known n).from)
-  pub by_id : IdsFit s.by_id (λ n. (known n).by_id)
-  pub durable : SpotsFit s.durable (λ n. (known n).durable)
+  pub consumers : AreTallied s.consumers (λ n. (known n).consumer.waiting) (λ n. (known n).consumer.undecided)
+  pub unsent : (k : ℕ) (r : Rank) (n : ℕ) → in_group s.unsent k r n ≡ is_turn (known n).consumer.unsent k r
+  pub held : IsTallied s.held (λ n. (known n).producer.held)
+  pub to_tell : (k : ℕ) (r : Rank) (n : ℕ) → in_group s.to_tell k r n ≡ is_turn (known n).producer.to_tell k r
+  pub on : HandlesFit s.on (λ n. (known n).consumer.on)
+  pub from : HandlesFit s.from (λ n. (known n).producer.from)
+  pub by_id : IdsFit s.by_id (λ n. (known n).producer.by_id)
+  pub durable : SpotsFit s.durable (λ n. (known n).consumer.durable)
 
 -- the change isn't a consumer's disposition, which finds its deliveries by their ids
 abbrev pub is_by_place : Change → Bool
@@ -76,7 +197,7 @@ are_by_place (Some x) = is_by_place x
 
 -- such a change may change a delivery with these entries
 abbrev pub concerns : Change → Keys → Bool
-concerns (change.Ends g closed) k = is_gone_there g k.on || is_gone_there g k.from
-concerns (change.Untold c o first last) k = is_id_there c o first last k.by_id
-concerns (change.Told c o first last) k = is_id_there c o first last k.by_id
+concerns (change.Ends g closed) k = is_gone_there g k.consumer.on || is_gone_there g k.producer.from
+concerns (change.Untold c o first last) k = is_id_there c o first last k.producer.by_id
+concerns (change.Told c o first last) k = is_id_there c o first last k.producer.by_id
 concerns (change.Decided c o first last made) k = false

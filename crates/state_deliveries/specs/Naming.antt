@@ -10,8 +10,7 @@ use Rattle.router_trace.specs.Settling.{is_open_as}
 use Rattle.state_deliveries.specs.declared.names.Names.{Names}
 use Rattle.state_deliveries.specs.declared.change.Change.TheVariants as change
 use Rattle.state_deliveries.specs.declared.change.Gone.TheVariants as gone
-use Rattle.state_deliveries.specs.declared.index.Keys.{Keys}
-use Rattle.state_deliveries.specs.Indexing.{concerns}
+use Rattle.state_deliveries.specs.Indexing.{Keys, concerns}
 use Rattle.state_collections.specs.Ids.{at_id}
 
 abbrev pub is_open : Option Delivery → Bool

@@ -4,7 +4,7 @@ use Rattle.state_collections.specs.NumberMap.{at_number}
 use Rattle.state_collections.specs.NumberSet.{has as is_marked}
 use Rattle.router_trace.specs.Deliveries.{Delivery, is_number, waits_on, undecided_on, held_from}
 use Rattle.state_deliveries.specs.declared.deliveries.Deliveries.{Deliveries}
-use Rattle.state_deliveries.specs.declared.index.Keys.{Keys}
+use Rattle.state_deliveries.specs.Indexing.{ConsumerKeys, Keys}
 use Rattle.state_deliveries.specs.declared.store.Store.{Store}
 use Rattle.state_deliveries.specs.declared.touched.Touched.{Touched}
 
@@ -22,10 +22,13 @@ pub record IsSameOn (k : ℕ) (v w : Option Delivery) : Type 0 where
   pub held : held_from k v ≡ held_from k w
 
 -- it has the same entries on the link
-pub record StandsSame (k : ℕ) (a b : Keys) : Type 0 where
+pub record SameAtConsumer (k : ℕ) (a b : ConsumerKeys) : Type 0 where
   pub waiting : is_number a.waiting k ≡ is_number b.waiting k
   pub undecided : is_number a.undecided k ≡ is_number b.undecided k
-  pub held : is_number a.held k ≡ is_number b.held k
+
+pub record StandsSame (k : ℕ) (a b : Keys) : Type 0 where
+  pub consumer : SameAtConsumer k a.consumer b.consumer
+  pub held : is_number a.producer.held k ≡ is_number b.producer.held k
 
 -- the links that are not touched have not changed and were not touched before
 pub record StoreTouches (old new : Store) : Type 0 where

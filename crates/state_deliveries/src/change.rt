@@ -5,6 +5,7 @@ ghost use Rattle.state_deliveries.specs.Hearing.{heard_change, heard_in_change, 
 ghost use Rattle.state_deliveries.specs.declared.change.Change.TheVariants as change;
 ghost use Rattle.state_deliveries.specs.declared.change.Gone.TheVariants as gone;
 ghost use Rattle.state_deliveries.specs.Stepping.{is_gone, is_gone_from, comes_with_id, put_change, told_by, untold_by, is_in};
+ghost use Rattle.state_deliveries.specs.Indexing.{moves_consumer};
 
 use crate::state::decision;
 use amqp_model::{DeliveryState, Disposition, Item, Perf, Role};
@@ -99,6 +100,17 @@ impl Change {
         ensures { IfOk result (λ made. made ≡ heard_change conn own item.now) }
     {
         after_heard(conn, own, item)
+    }
+
+    /// Whether it may move a delivery at its consumer's link. That the producer was told or has settled it moves nothing there.
+    pub(crate) fn moves_consumer(&self) -> bool
+        ensures { result ≡ moves_consumer self.now }
+    {
+        match self {
+            Change::Ends { .. } => true,
+            Change::Decided { .. } => true,
+            _ => false,
+        }
     }
 }
 

@@ -2,9 +2,10 @@
 ghost use Rattle.std.specs.Prelude.{◌≡◌, ◌==◌, ◌+◌, ◌-◌, ◌&&◌, ◌||◌, ℕ, Bool, Option, None, true, false, if◌then◌else◌, OnOk, IfOk};
 ghost use Rattle.state_collections.specs.NumberMap.{at_number};
 ghost use Rattle.router_trace.specs.Deliveries.{is_number};
-ghost use Rattle.state_deliveries.specs.Tallying.{waiting_at, undecided_at, has_none, AreTallied, unless_at, more, less};
+ghost use Rattle.state_deliveries.specs.Tallying.{waiting_at, undecided_at, has_none, AreTallied, more, less};
+ghost use Rattle.state_deliveries.specs.Indexing.{on_link};
 
-use crate::index::Keys;
+use crate::standing::AtConsumer;
 use state_collections::NumberMap;
 use std::alloc::{AllocError, Global};
 
@@ -59,46 +60,39 @@ impl Consumers {
         }
     }
 
-    /// A delivery's entries change. Fails if memory is refused, and if a count overflows.
-    pub(crate) fn shift(&mut self, before: &Keys, after: &Keys) -> Result<(), AllocError>
-        ensures { OnOk result ((number : ℕ) (waiting undecided : ℕ → Option ℕ) → waiting number ≡ before.now.waiting → undecided number ≡ before.now.undecided
+    /// A delivery stands otherwise at its consumer's link. Fails if memory is refused, and if a count overflows.
+    pub(crate) fn shift(
+        &mut self,
+        link: u64,
+        before: AtConsumer,
+        after: AtConsumer,
+    ) -> Result<(), AllocError>
+        ensures { OnOk result ((number : ℕ) (waiting undecided : ℕ → Option ℕ) → waiting number ≡ on_link link before.waits → undecided number ≡ on_link link before.undecided
             → AreTallied self.old waiting undecided
-            → AreTallied self.new (λ n. if number == n then after.now.waiting else waiting n) (λ n. if number == n then after.now.undecided else undecided n)) }
+            → AreTallied self.new (λ n. if number == n then on_link link after.waits else waiting n) (λ n. if number == n then on_link link after.undecided else undecided n)) }
     {
-        self.drop_from(
-            unless_at(before.waiting, after.waiting),
-            unless_at(before.undecided, after.undecided),
+        self.drop_at(
+            link,
+            before.waits && !after.waits,
+            before.undecided && !after.undecided,
         );
-        self.add_to(
-            unless_at(after.waiting, before.waiting),
-            unless_at(after.undecided, before.undecided),
+        self.add_at(
+            link,
+            after.waits && !before.waits,
+            after.undecided && !before.undecided,
         )?;
         Ok(())
     }
 
-    /// A link has one less that waits, and a link one less that is undecided, if there are such links; one look-up, where they are the same.
-    fn drop_from(&mut self, waiting: Option<u64>, undecided: Option<u64>)
-        ensures waiting { (k : ℕ) → waiting_at self.new k ≡ less (is_number waiting k) (waiting_at self.old k) }
-        ensures undecided { (k : ℕ) → undecided_at self.new k ≡ less (is_number undecided k) (undecided_at self.old k) }
+    /// A link has one less that waits, or one less that is undecided, or both, or neither.
+    fn drop_at(&mut self, link: u64, waiting: bool, undecided: bool)
+        ensures waiting { (k : ℕ) → waiting_at self.new k ≡ less ((link == k) && waiting) (waiting_at self.old k) }
+        ensures undecided { (k : ℕ) → undecided_at self.new k ≡ less ((link == k) && undecided) (undecided_at self.old k) }
         ensures needed { (k : ℕ) → has_none (at_number self.old.rows k) ≡ false → has_none (at_number self.new.rows k) ≡ false }
     {
-        if waiting == undecided {
-            self.drop_at(waiting, true, true);
+        if !(waiting || undecided) {
             return;
         }
-        self.drop_at(waiting, true, false);
-        self.drop_at(undecided, false, true);
-    }
-
-    /// A link, if there is one, has one less that waits, or one less that is undecided, or both.
-    fn drop_at(&mut self, link: Option<u64>, waiting: bool, undecided: bool)
-        ensures waiting { (k : ℕ) → waiting_at self.new k ≡ less (is_number link k && waiting) (waiting_at self.old k) }
-        ensures undecided { (k : ℕ) → undecided_at self.new k ≡ less (is_number link k && undecided) (undecided_at self.old k) }
-        ensures needed { (k : ℕ) → has_none (at_number self.old.rows k) ≡ false → has_none (at_number self.new.rows k) ≡ false }
-    {
-        let Some(link) = link else {
-            return;
-        };
         let Some(row) = self.rows.get_mut(link) else {
             return;
         };
@@ -109,35 +103,15 @@ impl Consumers {
         let _ = self.rows.remove(link);
     }
 
-    /// A link has one more that waits, and a link one more that is undecided, if there are such links; one look-up, where they are the same.
-    fn add_to(&mut self, waiting: Option<u64>, undecided: Option<u64>) -> Result<(), AllocError>
-        ensures waiting { OnOk result ((k : ℕ) → waiting_at self.new k ≡ more (is_number waiting k) (waiting_at self.old k)) }
-        ensures undecided { OnOk result ((k : ℕ) → undecided_at self.new k ≡ more (is_number undecided k) (undecided_at self.old k)) }
+    /// A link has one more that waits, or one more that is undecided, or both, or neither.
+    fn add_at(&mut self, link: u64, waiting: bool, undecided: bool) -> Result<(), AllocError>
+        ensures waiting { OnOk result ((k : ℕ) → waiting_at self.new k ≡ more ((link == k) && waiting) (waiting_at self.old k)) }
+        ensures undecided { OnOk result ((k : ℕ) → undecided_at self.new k ≡ more ((link == k) && undecided) (undecided_at self.old k)) }
         ensures needed { OnOk result ((k : ℕ) → has_none (at_number self.old.rows k) ≡ false → has_none (at_number self.new.rows k) ≡ false) }
     {
-        if waiting == undecided {
-            self.add_at(waiting, true, true)?;
+        if !(waiting || undecided) {
             return Ok(());
         }
-        self.add_at(waiting, true, false)?;
-        self.add_at(undecided, false, true)?;
-        Ok(())
-    }
-
-    /// A link, if there is one, has one more that waits, or one more that is undecided, or both.
-    fn add_at(
-        &mut self,
-        link: Option<u64>,
-        waiting: bool,
-        undecided: bool,
-    ) -> Result<(), AllocError>
-        ensures waiting { OnOk result ((k : ℕ) → waiting_at self.new k ≡ more (is_number link k && waiting) (waiting_at self.old k)) }
-        ensures undecided { OnOk result ((k : ℕ) → undecided_at self.new k ≡ more (is_number link k && undecided) (undecided_at self.old k)) }
-        ensures needed { OnOk result ((waiting || undecided) ≡ true → (k : ℕ) → has_none (at_number self.old.rows k) ≡ false → has_none (at_number self.new.rows k) ≡ false) }
-    {
-        let Some(link) = link else {
-            return Ok(());
-        };
         if let Some(row) = self.rows.get_mut(link) {
             return row.add_one(waiting, undecided);
         }
@@ -168,22 +142,6 @@ impl OfLink {
         self.waiting = more(self.waiting, waiting)?;
         self.undecided = more(self.undecided, undecided)?;
         Ok(())
-    }
-}
-
-/// The link, unless the other one is the same.
-fn unless_at(link: Option<u64>, other: Option<u64>) -> Option<u64>
-    ensures { result ≡ unless_at link other }
-{
-    match link {
-        None => None,
-        Some(number) => {
-            if other == Some(number) {
-                None
-            } else {
-                Some(number)
-            }
-        }
     }
 }
 

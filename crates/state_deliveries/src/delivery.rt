@@ -4,6 +4,7 @@ ghost use Rattle.router_trace.specs.Settling.{is_open_as};
 ghost use Rattle.router_trace.specs.Deliveries.{bound, brought, origin_in, told_in, early_in, owned_in, origin_of, told_of, early_of, owned_of, link_alone, resumed_held, unresumed_held, settled_held, held_by, presettles, goes_out, is_sent, is_put_off, outcome_as, outcome_known, outcome_held, outcome_in, is_resumed, resumes, with_origin, source, unforgotten, sender, holder, is_over, is_undecided, after_frame, untold, unsettled, forsaken, ended, after_ends};
 ghost use Rattle.state_deliveries.specs.Deciding.{bare, changed_by};
 ghost use Rattle.state_deliveries.specs.Giving.{with_outcome};
+ghost use Rattle.state_deliveries.specs.Indexing.{is_decided_with};
 ghost use Rattle.state_deliveries.specs.Stepping.{is_gone, is_decided_by, comes_with_id, changed};
 
 use crate::change::{Change, Gone, comes_with_id, is_in};
@@ -368,6 +369,13 @@ impl Delivery {
     {
         self.is_undecided()
             && ((self.link.conn.0 == conn && self.link.channel == own) && self.id == Some(id))
+    }
+
+    /// Whether it is decided once it has this transfer: it was before, or it was settled before it was bound, and this is its last frame.
+    pub(crate) fn is_decided_with(&self, transfer: &Transfer) -> bool
+        ensures { result ≡ is_decided_with transfer.now self.now }
+    {
+        self.outcome.is_some() || (self.presettled && !transfer.more)
     }
 
     /// Notes a transfer that carries `count` bytes of it. Fails if its byte count overflows.

@@ -15,13 +15,13 @@ ghost use Rattle.router_trace.specs.declared.event.Event.TheVariants as event;
 ghost use Rattle.state_deliveries.specs.Calling.{at_name, is_called, Knows};
 ghost use Rattle.state_deliveries.specs.Deciding.{decide};
 ghost use Rattle.state_deliveries.specs.Fits.{Indexed, StoreFit, carried_in, carried_by};
-ghost use Rattle.state_deliveries.specs.declared.index.Keys.{Keys as TheKeys};
-ghost use Rattle.state_deliveries.specs.Indexing.{Indexes, keys, moved, standing, is_by_place, are_by_place, concerns};
+ghost use Rattle.state_deliveries.specs.declared.standing.AtProducer.{AtProducer as AtProducerKeys};
+ghost use Rattle.state_deliveries.specs.Indexing.{Keys, ConsumerKeys, Indexes, Begins, ConsumerBegins, ProducerBegins, after_move, consumer_after, producer_after, at_consumer_moved, by_producer_moved, durable_before, keys, nowhere, consumer_keys, standing, is_by_place, are_by_place, concerns};
 ghost use Rattle.state_deliveries.specs.Placing.{is_id_there};
 ghost use Rattle.std.specs.BTreeSet.{contains};
 ghost use Rattle.state_deliveries.specs.Finding.{IsFirst};
 ghost use Rattle.state_deliveries.specs.Ranking.{IsFirstIn, IsFirstGroup, in_group, is_past};
-ghost use Rattle.state_deliveries.specs.Touching.{is_touched_in, StandsSame, StoreTouches};
+ghost use Rattle.state_deliveries.specs.Touching.{is_touched_in, SameAtConsumer, StandsSame, StoreTouches};
 ghost use Rattle.book_model.specs.declared.act.Act.TheVariants.{Decide};
 ghost use Rattle.state_deliveries.specs.Giving.{after_acts, with_outcome};
 ghost use Rattle.state_deliveries.specs.Hearing.{id_of};
@@ -32,10 +32,12 @@ ghost use Rattle.state_deliveries.specs.Tallying.{tally, waiting_at, undecided_a
 use crate::by_name::ByName;
 use crate::change::{Change, Gone, after_put};
 use crate::delivery::Delivery;
-use crate::index::{Index, Keys, Moved};
+use crate::in_place::{change_in, give_to, join_in, note_in};
+use crate::index::Index;
 use crate::spots::Spot;
+use crate::standing::{AtConsumer, AtProducer, Moved, Seat};
 use crate::touched::Touched;
-use amqp_model::{DeliveryState, Item, Perf, Transfer};
+use amqp_model::{Item, Perf, Transfer};
 use book_model::Decision;
 use bytes::Bytes;
 use router_trace::{Binding, ConnectionId, DeliveryName, Holding, Rank};
@@ -218,35 +220,145 @@ impl Store {
         self.deliveries.remove(number)
     }
 
-    /// Replaces the index entries of the delivery with a number, which was changed in its place; if it is over, removes it.
+    /// Moves the index entries of the delivery with a number, which was changed in its place; if it is over, removes it.
     fn settle(&mut self, number: u64, moved: &Moved) -> Result<(), AllocError>
         ensures deliveries { OnOk result ((n : ℕ) → at_number self.new.deliveries n
             ≡ (if moved.now.over then (if number == n then None else at_number self.old.deliveries n) else at_number self.old.deliveries n)) }
-        ensures indexed { OnOk result ((known : ℕ → TheKeys) → known number ≡ moved.now.before → Indexes self.old.index known
-            → Indexes self.new.index (λ n. if number == n then moved.now.after else known n)) }
-        ensures touched { OnOk result ((k : ℕ) → is_touched_in self.new.touched k ≡ false
-            → (is_touched_in self.old.touched k ≡ false) × StandsSame k moved.now.before moved.now.after) }
+        ensures indexed { OnOk result ((known : ℕ → Keys) → Begins moved.now (known number) → Indexes self.old.index known
+            → Indexes self.new.index (λ n. if number == n then after_move moved.now (known number) else known n)) }
+        ensures touched { OnOk result ((q : Keys) (k : ℕ) → Begins moved.now q → is_touched_in self.new.touched k ≡ false
+            → (is_touched_in self.old.touched k ≡ false) × StandsSame k q (after_move moved.now q)) }
         ensures called { OnOk result ((m : Name) → at_name self.new.by_name m ≡ (if moved.now.over && same_name moved.now.name m then None else at_name self.old.by_name m)) }
     {
         if moved.over {
             let _ = self.deliveries.remove(number);
             self.by_name.forget(moved.name);
-            return self.shift(number, &moved.before, &moved.after);
+            return self.shift(number, moved);
         }
-        self.shift(number, &moved.before, &moved.after)
+        self.shift(number, moved)
     }
 
-    /// Replaces a delivery's index entries.
-    fn shift(&mut self, number: u64, before: &Keys, after: &Keys) -> Result<(), AllocError>
+    /// Moves the index entries of a delivery that was changed.
+    fn shift(&mut self, number: u64, moved: &Moved) -> Result<(), AllocError>
         ensures deliveries { self.new.deliveries ≡ self.old.deliveries }
         ensures by_name { self.new.by_name ≡ self.old.by_name }
-        ensures indexed { OnOk result ((known : ℕ → TheKeys) → known number ≡ before.now → Indexes self.old.index known
-            → Indexes self.new.index (λ n. if number == n then after.now else known n)) }
-        ensures touched { OnOk result ((k : ℕ) → is_touched_in self.new.touched k ≡ false
-            → (is_touched_in self.old.touched k ≡ false) × StandsSame k before.now after.now) }
+        ensures indexed { OnOk result ((known : ℕ → Keys) → Begins moved.now (known number) → Indexes self.old.index known
+            → Indexes self.new.index (λ n. if number == n then after_move moved.now (known number) else known n)) }
+        ensures touched { OnOk result ((q : Keys) (k : ℕ) → Begins moved.now q → is_touched_in self.new.touched k ≡ false
+            → (is_touched_in self.old.touched k ≡ false) × StandsSame k q (after_move moved.now q)) }
     {
-        self.touched.note(before, after)?;
-        self.index.shift(number, before, after)
+        self.move_at_consumer(number, moved)?;
+        self.move_by_producer(number, moved)?;
+        Ok(())
+    }
+
+    /// Moves the entries of a delivery at its consumer's link, if the change may have moved it there.
+    fn move_at_consumer(&mut self, number: u64, moved: &Moved) -> Result<(), AllocError>
+        ensures deliveries { self.new.deliveries ≡ self.old.deliveries }
+        ensures by_name { self.new.by_name ≡ self.old.by_name }
+        ensures indexed { OnOk result ((known : ℕ → Keys) → ConsumerBegins moved.now.seat moved.now.consumer (known number).consumer → Indexes self.old.index known
+            → Indexes self.new.index (at_consumer_moved number (consumer_after moved.now.seat moved.now.consumer (known number).consumer) known)) }
+        ensures touched { OnOk result ((q : ConsumerKeys) (k : ℕ) → ConsumerBegins moved.now.seat moved.now.consumer q → is_touched_in self.new.touched k ≡ false
+            → (is_touched_in self.old.touched k ≡ false) × SameAtConsumer k q (consumer_after moved.now.seat moved.now.consumer q)) }
+    {
+        match &moved.consumer {
+            None => {}
+            Some(shift) => { self.shift_consumer(number, moved.seat, shift.before, shift.after)? }
+        }
+        Ok(())
+    }
+
+    /// Moves the entries of a delivery by its producer, if the change may have moved them.
+    fn move_by_producer(&mut self, number: u64, moved: &Moved) -> Result<(), AllocError>
+        ensures deliveries { self.new.deliveries ≡ self.old.deliveries }
+        ensures by_name { self.new.by_name ≡ self.old.by_name }
+        ensures indexed { OnOk result ((known : ℕ → Keys) → ProducerBegins moved.now.producer (known number).producer → Indexes self.old.index known
+            → Indexes self.new.index (by_producer_moved number (producer_after moved.now.producer (known number).producer) known)) }
+        ensures touched { OnOk result ((q : AtProducerKeys) (k : ℕ) → ProducerBegins moved.now.producer q → is_touched_in self.new.touched k ≡ false
+            → (is_touched_in self.old.touched k ≡ false) × (is_number q.held k ≡ is_number (producer_after moved.now.producer q).held k)) }
+    {
+        match &moved.producer {
+            None => {}
+            Some(shift) => self.shift_producer(number, &shift.before, &shift.after)?,
+        }
+        Ok(())
+    }
+
+    /// Moves the entries of a delivery at its consumer's link.
+    fn shift_consumer(
+        &mut self,
+        number: u64,
+        seat: Seat,
+        before: AtConsumer,
+        after: AtConsumer,
+    ) -> Result<(), AllocError>
+        ensures deliveries { self.new.deliveries ≡ self.old.deliveries }
+        ensures by_name { self.new.by_name ≡ self.old.by_name }
+        ensures indexed { OnOk result ((known : ℕ → Keys) → (known number).consumer ≡ consumer_keys seat before → Indexes self.old.index known
+            → Indexes self.new.index (at_consumer_moved number (consumer_keys seat after) known)) }
+        ensures touched { OnOk result ((k : ℕ) → is_touched_in self.new.touched k ≡ false → (is_touched_in self.old.touched k ≡ false)
+            × SameAtConsumer k (consumer_keys seat before) (consumer_keys seat after)) }
+    {
+        self.touched.note_consumer(seat.link.number, before, after)?;
+        self.index.shift_consumer(number, seat, before, after)?;
+        Ok(())
+    }
+
+    /// Moves the entries of a delivery by its producer.
+    fn shift_producer(
+        &mut self,
+        number: u64,
+        before: &AtProducer,
+        after: &AtProducer,
+    ) -> Result<(), AllocError>
+        ensures deliveries { self.new.deliveries ≡ self.old.deliveries }
+        ensures by_name { self.new.by_name ≡ self.old.by_name }
+        ensures indexed { OnOk result ((known : ℕ → Keys) → (known number).producer ≡ before.now → Indexes self.old.index known
+            → Indexes self.new.index (by_producer_moved number after.now known)) }
+        ensures touched { OnOk result ((k : ℕ) → is_touched_in self.new.touched k ≡ false → (is_touched_in self.old.touched k ≡ false)
+            × (is_number before.now.held k ≡ is_number after.now.held k)) }
+    {
+        self.touched.note_moved(before.held, after.held)?;
+        self.index.shift_producer(number, before, after)?;
+        Ok(())
+    }
+
+    /// Gives a delivery that has no entries yet its entries.
+    fn enter(&mut self, number: u64, delivery: &Delivery) -> Result<(), AllocError>
+        ensures deliveries { self.new.deliveries ≡ self.old.deliveries }
+        ensures by_name { self.new.by_name ≡ self.old.by_name }
+        ensures indexed { OnOk result ((known : ℕ → Keys) → known number ≡ nowhere → Indexes self.old.index known
+            → Indexes self.new.index (λ n. if number == n then keys delivery.now else known n)) }
+        ensures touched { OnOk result ((k : ℕ) → is_touched_in self.new.touched k ≡ false → (is_touched_in self.old.touched k ≡ false)
+            × StandsSame k nowhere (keys delivery.now)) }
+    {
+        self.shift_consumer(
+            number,
+            Seat::of(delivery),
+            AtConsumer::nowhere(),
+            AtConsumer::of(delivery),
+        )?;
+        self.shift_producer(number, &AtProducer::nowhere(), &AtProducer::of(delivery))?;
+        Ok(())
+    }
+
+    /// Takes its entries from a delivery that is removed.
+    fn withdraw(&mut self, number: u64, delivery: &Delivery) -> Result<(), AllocError>
+        ensures deliveries { self.new.deliveries ≡ self.old.deliveries }
+        ensures by_name { self.new.by_name ≡ self.old.by_name }
+        ensures indexed { OnOk result ((known : ℕ → Keys) → known number ≡ keys delivery.now → Indexes self.old.index known
+            → Indexes self.new.index (λ n. if number == n then nowhere else known n)) }
+        ensures touched { OnOk result ((k : ℕ) → is_touched_in self.new.touched k ≡ false → (is_touched_in self.old.touched k ≡ false)
+            × StandsSame k (keys delivery.now) nowhere) }
+    {
+        self.shift_consumer(
+            number,
+            Seat::of(delivery),
+            AtConsumer::of(delivery),
+            AtConsumer::nowhere(),
+        )?;
+        self.shift_producer(number, &AtProducer::of(delivery), &AtProducer::nowhere())?;
+        Ok(())
     }
 
     /// Adds a message that was bound, under its number and its name, at its place in the order of binding. An earlier delivery of this name is removed.
@@ -263,7 +375,9 @@ impl Store {
         ensures touches { OnOk result (StoreTouches self.old self.new) }
     {
         self.remove_called(name)?;
-        self.add(number, name, rank, binding)
+        self.remove(number)?;
+        self.add(number, name, rank, binding)?;
+        Ok(())
     }
 
     /// Adds a message that was bound, under its number and its name, at its place in the order of binding.
@@ -277,14 +391,13 @@ impl Store {
         ensures deliveries { OnOk result ((n : ℕ) → at_number self.new.deliveries n ≡ (if number == n then Some (bound name rank binding) else at_number self.old.deliveries n)) }
         ensures indexed { OnOk result (at_number self.old.deliveries number ≡ None → ((n : ℕ) → is_called name (at_number self.old.deliveries n) ≡ false)
             → Indexed self.old → Indexed self.new) }
-        ensures touches { OnOk result (StoreTouches self.old self.new) }
+        ensures touches { OnOk result (at_number self.old.deliveries number ≡ None → StoreTouches self.old self.new) }
     {
         self.by_name.set(name, number)?;
         let delivery = Delivery::bound(name, rank, binding);
-        let after = Keys::of(&delivery);
+        self.enter(number, &delivery)?;
         let delivery = Boxed::new(self.alloc, delivery)?;
-        let before = put(&mut self.deliveries, number, delivery)?;
-        self.shift(number, &before, &after)?;
+        let _ = self.deliveries.insert(number, delivery)?;
         Ok(())
     }
 
@@ -311,9 +424,9 @@ impl Store {
             return Ok(());
         };
         let delivery = taken.as_ref();
-        let before = Keys::of(delivery);
         self.by_name.forget(delivery.name);
-        self.shift(number, &before, &Keys::nowhere())
+        self.withdraw(number, delivery)?;
+        Ok(())
     }
 
     /// Notes a transfer that carries `count` bytes of the delivery with a number.
@@ -339,7 +452,7 @@ impl Store {
 
     /// Gives the delivery of a row the outcome that was decided, if it has none. Returns the place of its id, if it was undecided and had one.
     pub(crate) fn give(&mut self, decision: &Decision) -> Result<Option<Spot>, AllocError>
-        ensures place { IfOk result (λ place. place ≡ (standing (option_and_then (at_number self.old.deliveries) (at_name self.old.by_name (Row decision.now.row)))).durable) }
+        ensures place { IfOk result (λ place. place ≡ (standing (option_and_then (at_number self.old.deliveries) (at_name self.old.by_name (Row decision.now.row)))).consumer.durable) }
         ensures deliveries { OnOk result (((n : ℕ) → IsKept (at_number self.old.deliveries n)) → Indexed self.old
             → (n : ℕ) → at_number self.new.deliveries n ≡ after_acts (Decide decision.now ∷ []) (at_number self.old.deliveries n)) }
         ensures indexed { OnOk result (Indexed self.old → Indexed self.new) }
@@ -359,7 +472,7 @@ impl Store {
             return Ok(None);
         }
         self.settle(number, &entries)?;
-        Ok(entries.before.durable)
+        Ok(durable_before(&entries))
     }
 
     /// A producer's link has the delivery with a name like this from now on; whether there is one. One that is over by this is removed.
@@ -540,7 +653,7 @@ impl Store {
         first: u32,
         last: u32,
     ) -> Result<BTreeSet<u64>, AllocError>
-        ensures { IfOk result (λ numbers. Indexed self.now → (n : ℕ) → is_id_there conn own first last (standing (at_number self.now.deliveries n)).by_id ≡ true
+        ensures { IfOk result (λ numbers. Indexed self.now → (n : ℕ) → is_id_there conn own first last (standing (at_number self.now.deliveries n)).producer.by_id ≡ true
             → contains nat_cmp numbers n ≡ true) }
     {
         let mut numbers = BTreeSet::new(self.alloc);
@@ -597,102 +710,14 @@ impl Store {
     }
 }
 
-/// Gives a number this delivery; the result are the index entries of the one that it had.
-fn put(
-    deliveries: &mut NumberMap<Boxed<Delivery>>,
-    number: u64,
-    delivery: Boxed<Delivery>,
-) -> Result<Keys, AllocError>
-    ensures deliveries { OnOk result ((n : ℕ) → at_number deliveries.new n ≡ (if number == n then Some delivery else at_number deliveries.old n)) }
-    ensures before { IfOk result (λ before. before ≡ standing (at_number deliveries.old number)) }
+/// The place of the id that the router gave a delivery, if it was undecided before it was changed, and had a row.
+fn durable_before(moved: &Moved) -> Option<Spot>
+    ensures { result ≡ durable_before moved.now }
 {
-    let before = deliveries.insert(number, delivery)?;
-    Ok(Keys::standing(&before))
-}
-
-/// Changes the delivery with a number in its place, and notes its entries; whether there is one.
-fn change_in(
-    deliveries: &mut NumberMap<Boxed<Delivery>>,
-    number: u64,
-    change: &Change,
-    entries: &mut Moved,
-) -> Result<bool, AllocError>
-    ensures deliveries { OnOk result ((n : ℕ) → at_number deliveries.new n
-        ≡ (if number == n then option_map (changed change.now) (at_number deliveries.old n) else at_number deliveries.old n)) }
-    ensures found { IfOk result (λ found. (if found then Some entries.new else None) ≡ option_map (λ d. moved (keys d) (changed change.now d)) (at_number deliveries.old number)) }
-{
-    let Some(kept) = deliveries.get_mut(number) else {
-        return Ok(false);
-    };
-    let delivery = kept.as_mut();
-    entries.note_before(delivery);
-    delivery.change(change)?;
-    entries.note_after(delivery);
-    Ok(true)
-}
-
-/// Gives the delivery with a number an outcome, in its place, if it is undecided, and notes its entries; whether there is one.
-fn give_to(
-    deliveries: &mut NumberMap<Boxed<Delivery>>,
-    number: u64,
-    outcome: &DeliveryState,
-    entries: &mut Moved,
-) -> Result<bool, AllocError>
-    ensures deliveries { OnOk result ((n : ℕ) → at_number deliveries.new n
-        ≡ (if number == n then option_map (with_outcome outcome.now) (at_number deliveries.old n) else at_number deliveries.old n)) }
-    ensures found { IfOk result (λ found. (if found then Some entries.new else None) ≡ option_map (λ d. moved (keys d) (with_outcome outcome.now d)) (at_number deliveries.old number)) }
-{
-    let Some(kept) = deliveries.get_mut(number) else {
-        return Ok(false);
-    };
-    let delivery = kept.as_mut();
-    entries.note_before(delivery);
-    delivery.give(outcome)?;
-    entries.note_after(delivery);
-    Ok(true)
-}
-
-/// A producer's link has the delivery with a number like this from now on, which is changed in its place; notes its entries; whether there is one.
-fn join_in(
-    deliveries: &mut NumberMap<Boxed<Delivery>>,
-    number: u64,
-    holding: Holding,
-    entries: &mut Moved,
-) -> bool
-    ensures deliveries { (n : ℕ) → at_number deliveries.new n
-        ≡ (if number == n then option_map (held_by holding) (at_number deliveries.old n) else at_number deliveries.old n) }
-    ensures found { (if result then Some entries.new else None) ≡ option_map (λ d. moved (keys d) (held_by holding d)) (at_number deliveries.old number) }
-{
-    let Some(kept) = deliveries.get_mut(number) else {
-        return false;
-    };
-    let delivery = kept.as_mut();
-    entries.note_before(delivery);
-    delivery.join(holding);
-    entries.note_after(delivery);
-    true
-}
-
-/// Notes a transfer that carries `count` bytes of the delivery with a number, in its place, and notes its entries; whether there is one.
-fn note_in(
-    deliveries: &mut NumberMap<Boxed<Delivery>>,
-    number: u64,
-    transfer: &Transfer,
-    count: u64,
-    entries: &mut Moved,
-) -> Result<bool, AllocError>
-    ensures deliveries { OnOk result ((n : ℕ) → at_number deliveries.new n
-        ≡ (if number == n then option_map (after_frame transfer.now count) (at_number deliveries.old n) else at_number deliveries.old n)) }
-    ensures found { IfOk result (λ found. (if found then Some entries.new else None) ≡ option_map (λ d. moved (keys d) (after_frame transfer.now count d)) (at_number deliveries.old number)) }
-{
-    let Some(kept) = deliveries.get_mut(number) else {
-        return Ok(false);
-    };
-    let delivery = kept.as_mut();
-    entries.note_before(delivery);
-    delivery.note_frame(transfer, count)?;
-    entries.note_after(delivery);
-    Ok(true)
+    match &moved.consumer {
+        None => None,
+        Some(shift) => moved.seat.id_spot(shift.before.durable),
+    }
 }
 
 /// Appends the id of a delivery, if it has one.

@@ -4,10 +4,11 @@ ghost use Rattle.std.specs.Ordering.{nat_cmp};
 ghost use Rattle.std.specs.BTreeSet.{contains};
 ghost use Rattle.router_trace.specs.Deliveries.{is_number};
 ghost use Rattle.state_deliveries.specs.Finding.{IsFirst};
-ghost use Rattle.state_deliveries.specs.Touching.{is_touched_in, StandsSame};
+ghost use Rattle.state_deliveries.specs.Touching.{is_touched_in};
+ghost use Rattle.state_deliveries.specs.Indexing.{on_link};
 
-use crate::index::Keys;
 use crate::sets::first;
+use crate::standing::AtConsumer;
 use state_collections::NumberSet;
 use std::alloc::{AllocError, Global};
 
@@ -41,30 +42,28 @@ impl Touched {
         self.links.remove(link);
     }
 
-    /// Notes the links on which a delivery's entries have changed.
-    pub(crate) fn note(&mut self, before: &Keys, after: &Keys) -> Result<(), AllocError>
-        ensures { OnOk result ((k : ℕ) → is_touched_in self.new k ≡ false → (is_touched_in self.old k ≡ false) × StandsSame k before.now after.now) }
-    {
-        self.note_consumer(before, after)?;
-        self.note_moved(before.held, after.held)?;
-        Ok(())
-    }
-
-    /// Notes the link on which a delivery waits or is undecided, if that changes; once, where both change there.
-    fn note_consumer(&mut self, before: &Keys, after: &Keys) -> Result<(), AllocError>
+    /// Notes the consumer's link of a delivery, if it waits there or is undecided there and was not before, or the other way round.
+    pub(crate) fn note_consumer(
+        &mut self,
+        link: u64,
+        before: AtConsumer,
+        after: AtConsumer,
+    ) -> Result<(), AllocError>
         ensures { OnOk result ((k : ℕ) → is_touched_in self.new k ≡ false → (is_touched_in self.old k ≡ false)
-            × (is_number before.now.waiting k ≡ is_number after.now.waiting k) × (is_number before.now.undecided k ≡ is_number after.now.undecided k)) }
+            × (is_number (on_link link before.waits) k ≡ is_number (on_link link after.waits) k) × (is_number (on_link link before.undecided) k ≡ is_number (on_link link after.undecided) k)) }
     {
-        self.note_moved(before.waiting, after.waiting)?;
-        if before.undecided == before.waiting && after.undecided == after.waiting {
+        if before.waits == after.waits && before.undecided == after.undecided {
             return Ok(());
         }
-        self.note_moved(before.undecided, after.undecided)?;
-        Ok(())
+        self.links.insert(link)
     }
 
-    /// Notes both links, if they differ.
-    fn note_moved(&mut self, before: Option<u64>, after: Option<u64>) -> Result<(), AllocError>
+    /// Notes the producers' links from which a delivery was held and is held now, if they differ.
+    pub(crate) fn note_moved(
+        &mut self,
+        before: Option<u64>,
+        after: Option<u64>,
+    ) -> Result<(), AllocError>
         ensures { OnOk result ((k : ℕ) → is_touched_in self.new k ≡ false → (is_touched_in self.old k ≡ false) × (is_number before k ≡ is_number after k)) }
     {
         if before == after {

@@ -5,7 +5,7 @@ use Rattle.state_deliveries.proofs.index.Index.append_deciding.Goals as goal
 
 pub returns-in_ok-append_ids-in-Decided : goal.returns-in_ok-append_ids-in-Decided
 returns-in_ok-append_ids-in-Decided c = λ known fit n there.
-    c.in_ok-append_ids-in-Decided.ensures.found (λ m. (known m).durable) fit.durable n (ap (λ x. decides x (known n)) (sym c.in-Decided.is) ∙ there)
+    c.in_ok-append_ids-in-Decided.ensures.found (λ m. (known m).consumer.durable) fit.durable n (ap (λ x. decides x (known n)) (sym c.in-Decided.is) ∙ there)
 
 pub returns-in_ok-append_concerned-in_default : goal.returns-in_ok-append_concerned-in_default
 returns-in_ok-append_concerned-in_default c = λ known fit n there.

@@ -1,7 +1,7 @@
 use Rattle.std.proofs.Common.{◌≡◌, ◌||◌, ℕ, true, drop}
 use Rattle.std.specs.Ordering.{nat_cmp}
 use Rattle.std.specs.BTreeSet.{contains}
-use Rattle.state_deliveries.specs.declared.index.Keys.{Keys}
+use Rattle.state_deliveries.specs.Indexing.{Keys}
 use Rattle.state_deliveries.specs.Deciding.{decide}
 use Rattle.state_deliveries.specs.Indexing.{Indexes}
 use Rattle.state_deliveries.proofs.index.Index.deciding_by.Given as goal

@@ -1,11 +1,13 @@
 use Rattle.std.proofs.Common.{refl, None}
 use Rattle.state_collections.specs.NumberMap.{at_number}
 use Rattle.router_trace.specs.Deliveries.{after_frame}
+use Rattle.state_deliveries.proofs.Moving.{frame_moves, frame_noted}
 use Rattle.state_deliveries.proofs.Settled.{Stepped, one_stepped, unfound, one_there, none_there}
 use Rattle.state_deliveries.proofs.store.Store.note_frame.Goals as goal
 
 stepped : (c : goal.In_ok-settle) → Stepped c.args.self.now c.settle.new.self
-stepped c = one_stepped (after_frame c.args.transfer.now c.args.count) c.args.number c.note_in.new.entries c.args.self.now c.settle.new.self (at_number c.note_in.new.deliveries) (λ d. refl)
+stepped c = one_stepped (after_frame c.args.transfer.now c.args.count) (frame_noted c.args.transfer.now) c.args.number c.note_in.new.entries c.args.self.now c.settle.new.self
+    (at_number c.note_in.new.deliveries) (frame_moves c.args.transfer.now c.args.count)
     (one_there c.in_ok-found.found _ _ c.if-not-found.false c.in_ok-found.ensures.found) c.in_ok-found.ensures.deliveries
     c.in_ok-settle.ensures.deliveries c.in_ok-settle.ensures.indexed c.in_ok-settle.ensures.called c.in_ok-settle.ensures.touched
 
@@ -16,4 +18,4 @@ pub returns-clause-touches : goal.returns-clause-touches
 returns-clause-touches c = (stepped c).touches
 
 pub returns-then-not-found-clause-indexed : goal.returns-then-not-found-clause-indexed
-returns-then-not-found-clause-indexed c = unfound (after_frame c.args.transfer.now c.args.count) c.args.number c.args.self.now _ None (none_there c.in_ok-found.found _ _ c.if-not-found.true c.in_ok-found.ensures.found) (λ x e. absurd cc) c.in_ok-found.ensures.deliveries refl refl
+returns-then-not-found-clause-indexed c = unfound (after_frame c.args.transfer.now c.args.count) (frame_noted c.args.transfer.now) c.args.number c.args.self.now _ None (none_there c.in_ok-found.found _ _ c.if-not-found.true c.in_ok-found.ensures.found) (λ x e. absurd cc) c.in_ok-found.ensures.deliveries refl refl
