@@ -1,6 +1,7 @@
 -- How changes move a delivery in the indexes.
 use Rattle.std.proofs.Common.{◌≡◌, ◌∙◌, ◌||◌, ℕ, Bool, true, false, refl, sym, ap, subst, Option, None, Some}
-use Rattle.std.specs.Prelude.{◌&&◌, not, if◌then◌else◌, is_none, is_some}
+use Rattle.std.specs.Prelude.{◌==◌, ◌&&◌, not, if◌then◌else◌, is_none, is_some}
+use Rattle.std.proofs.lemmas.Bool.{eqb-true}
 use Rattle.amqp_model.specs.declared.perf.Transfer.{Transfer}
 use Rattle.amqp_model.specs.declared.state.DeliveryState.{DeliveryState}
 use Rattle.amqp_model.specs.declared.state.DeliveryState.TheVariants as state
@@ -11,20 +12,21 @@ use Rattle.router_trace.specs.declared.handle.Attachment.{Attachment}
 use Rattle.router_trace.specs.Deliveries.{Delivery, after_ends, after_frame, after_origin, decided_at_end, either_origin, ended, forsaken, has_row, held_by, holder, is_gone_with, is_over, sender, source, suspended_at_end, unforgotten, unless_over, unsettled, untold}
 use Rattle.state_deliveries.specs.declared.change.Change.{Change}
 use Rattle.state_deliveries.specs.declared.change.Change.TheVariants as change
+use Rattle.state_deliveries.specs.declared.index.Index.{Index}
 use Rattle.state_deliveries.specs.declared.standing.AtConsumer.{AtConsumer}
 use Rattle.state_deliveries.specs.declared.standing.AtProducer.{AtProducer}
-use Rattle.state_deliveries.specs.declared.standing.Moved.{Moved}
-use Rattle.state_deliveries.specs.declared.standing.Seat.{Seat}
+use Rattle.state_deliveries.specs.declared.touched.Touched.{Touched}
 use Rattle.state_deliveries.specs.Giving.{with_outcome}
-use Rattle.state_deliveries.specs.Indexing.{ConsumerBegins, ConsumerKeys, Keys, ProducerBegins, after_move, at_consumer, at_producer, consumer_after, consumer_if, consumer_keys, consumer_moved, durable_before, from_link, is_decided_with, keys, moved, moves_consumer, no_producer, no_consumer, producer_after, producer_if, producer_moved, producer_of, seat_of, standing, turn_on}
+use Rattle.state_deliveries.specs.Indexing.{Begins, Indexes, Keys, ProducerBegins, at_consumer, at_producer, consumer_if, consumer_keys, followed, from_link, is_decided_with, keys, moves_consumer, no_consumer, no_producer, producer_after, producer_if, producer_of, seat_of, standing, stepped, turn_on}
 use Rattle.state_deliveries.specs.Placing.{from_spot, id_spot}
 use Rattle.state_deliveries.specs.Stepping.{changed, comes_with_id, is_decided_by, is_gone}
+use Rattle.state_deliveries.specs.Touching.{StandsSame, is_touched_in}
 use Rattle.state_deliveries.proofs.Called.{name_changed}
 use Rattle.state_deliveries.proofs.Joined.{held_name}
-use Rattle.state_deliveries.proofs.Settled.{Moves, Notes, found_of, found_there, noted_of}
+use Rattle.state_deliveries.proofs.Reindexed.{indexes_same}
 
 -- a delivery that is over has no entries at its consumer's link
-stands : Delivery → Bool → Option DeliveryState → Bool → AtConsumer
+abbrev stands : Delivery → Bool → Option DeliveryState → Bool → AtConsumer
 stands d r o s = record {
   waits = is_none d.id && r;
   goes_on = r;
@@ -60,6 +62,60 @@ over_stands d over = by_rest d.going_on d.outcome d.suspended over
 kept : (d : Delivery) (b : Bool) → is_over d ≡ b → record { consumer = consumer_keys (seat_of d) (at_consumer d); producer = producer_of (if b then None else Some d) } ≡ standing (if b then None else Some d)
 kept d true over = ap (λ s. record { consumer = consumer_keys (seat_of d) s; producer = no_producer }) (over_stands d over)
 kept d false over = refl
+
+-- what is known of a delivery before a change that may move it
+abbrev pub Notes : Type 0
+Notes = (Delivery → Option AtConsumer) × (Delivery → Option AtProducer)
+
+-- and this says how the change moves it
+pub record Moves (f : Delivery → Delivery) (g : Notes) : Type 0 where
+  pub named : (d : Delivery) → (f d).name ≡ d.name
+  pub begins : (d : Delivery) → Begins (g.0 d) (g.1 d) (f d) (keys d)
+  pub ends : (d : Delivery) → followed (g.0 d) (g.1 d) (f d) (keys d) ≡ standing (unless_over (f d))
+
+begun : (f : Delivery → Delivery) (g : Notes) (d e : Delivery) (c : Option AtConsumer) (p : Option AtProducer) (k : Keys) → Moves f g → e ≡ f d → c ≡ g.0 d → p ≡ g.1 d → k ≡ keys d
+    → Begins c p e k
+begun f g d e c p k moves is at by there =
+    subst (λ (q : Keys). Begins c p e q) (sym there)
+    (subst (λ (b : Option AtProducer). Begins c b e (keys d)) (sym by)
+    (subst (λ (a : Option AtConsumer). Begins a (g.1 d) e (keys d)) (sym at)
+    (subst (λ (w : Delivery). Begins (g.0 d) (g.1 d) w (keys d)) (sym is) (moves.begins d))))
+
+-- so its entries follow
+pub followed_there : (f : Delivery → Delivery) (g : Notes) (s t : Index) (m : ℕ) (known : ℕ → Keys) (v : Option Delivery) (d e : Delivery) (c : Option AtConsumer) (p : Option AtProducer)
+    → Moves f g → v ≡ Some d → e ≡ f d → c ≡ g.0 d → p ≡ g.1 d
+    → ((known : ℕ → Keys) → Begins c p e (known m) → Indexes s known → Indexes t (λ n. if m == n then followed c p e (known m) else known n))
+    → known m ≡ standing v → Indexes s known → Indexes t (λ n. if m == n then standing (stepped f v) else known n)
+followed_there f g s t m known v d e c p moves was is at by follows stood x =
+    let there : known m ≡ keys d = stood ∙ ap standing was in
+    subst (λ (k : Keys). Indexes t (λ n. if m == n then k else known n))
+    ((λ i. followed (at i) (by i) (is i) (there i)) ∙ moves.ends d ∙ sym (ap (λ w. standing (stepped f w)) was))
+    (follows known (begun f g d e c p (known m) moves is at by there) x)
+
+pub touched_there : (f : Delivery → Delivery) (g : Notes) (old new : Touched) (v : Option Delivery) (d e : Delivery) (c : Option AtConsumer) (p : Option AtProducer)
+    → Moves f g → v ≡ Some d → e ≡ f d → c ≡ g.0 d → p ≡ g.1 d
+    → ((q : Keys) (k : ℕ) → Begins c p e q → is_touched_in new k ≡ false → (is_touched_in old k ≡ false) × StandsSame k q (followed c p e q))
+    → (k : ℕ) → is_touched_in new k ≡ false → (is_touched_in old k ≡ false) × StandsSame k (standing v) (standing (stepped f v))
+touched_there f g old new v d e c p moves was is at by noted k h =
+    let there : standing v ≡ keys d = ap standing was in
+    let one = noted (standing v) k (begun f g d e c p (standing v) moves is at by there) h in (
+      one.0,
+      subst (λ (q : Keys). StandsSame k (standing v) q)
+          ((λ i. followed (at i) (by i) (is i) (there i)) ∙ moves.ends d ∙ sym (ap (λ w. standing (stepped f w)) was)) one.1,
+    )
+
+-- and nothing moves where there is none
+pub followed_nowhere : (f : Delivery → Delivery) (s : Index) (m : ℕ) (known : ℕ → Keys) (v : Option Delivery) → v ≡ None
+    → known m ≡ standing v → Indexes s known → Indexes s (λ n. if m == n then standing (stepped f v) else known n)
+followed_nowhere f s m known v none stood x = indexes_same s known (λ n. if m == n then standing (stepped f v) else known n) (λ n. by_test n (m == n) refl) x
+  where
+    by_test : (n : ℕ) (b : Bool) → (m == n) ≡ b → known n ≡ (if b then standing (stepped f v) else known n)
+    by_test n true e = ap known (sym (eqb-true m n e)) ∙ stood ∙ ap standing none ∙ sym (ap (λ w. standing (stepped f w)) none)
+    by_test n false e = refl
+
+pub touched_nowhere : (f : Delivery → Delivery) (k : ℕ) (v : Option Delivery) → v ≡ None → StandsSame k (standing v) (standing (stepped f v))
+touched_nowhere f k v none =
+    subst (λ (w : Option Delivery). StandsSame k (standing w) (standing (stepped f w))) (sym none) (record { consumer = record { waiting = refl; undecided = refl }; held = refl })
 
 -- a change after which nothing else is known moves both
 abbrev pub Stays : (Delivery → Delivery) → Type 0
@@ -128,12 +184,6 @@ change_moves (change.Told c o first last) =
 pub give_moves : (outcome : DeliveryState) → Moves (with_outcome outcome) both_noted
 give_moves outcome = both_move (with_outcome outcome) (λ d. refl) (λ d. refl)
 
--- the place of its id, where it was given an outcome
-pub durable_given : (outcome : DeliveryState) (v : Option Delivery) (x : Moved) → Some x ≡ found_of (with_outcome outcome) both_noted v → durable_before x ≡ (standing v).consumer.durable
-durable_given outcome v x e =
-    let one = found_there (with_outcome outcome) both_noted v x e in
-    ap durable_before one.2 ∙ sym (ap (λ w. (standing w).consumer.durable) one.1)
-
 pub join_moves : (q : Holding) → Moves (held_by q) both_noted
 join_moves q = both_move (held_by q) (held_name q) (seat_held q)
   where
@@ -199,14 +249,14 @@ frame_moves x count = record {
   ends = λ d. ends d (is_decided_with x d) refl;
 }
   where
-    begins : (d : Delivery) (b : Bool) → ProducerBegins (producer_moved (if b then Some (at_producer d) else None) (after_frame x count d)) (at_producer d)
+    begins : (d : Delivery) (b : Bool) → ProducerBegins (if b then Some (at_producer d) else None) (at_producer d)
     begins d true = refl
     begins d false = tt
 
     ends : (d : Delivery) (b : Bool) → is_decided_with x d ≡ b
         → record {
           consumer = consumer_keys (seat_of d) (at_consumer (after_frame x count d));
-          producer = producer_after (producer_moved (if b then Some (at_producer d) else None) (after_frame x count d)) (at_producer d);
+          producer = producer_after (if b then Some (at_producer d) else None) (after_frame x count d) (at_producer d);
         } ≡ standing (unless_over (after_frame x count d))
     ends d true e = kept (after_frame x count d) (is_over (after_frame x count d)) refl
     ends d false e =

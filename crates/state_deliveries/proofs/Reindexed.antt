@@ -1,9 +1,9 @@
 -- A table's indexes after a change.
-use Rattle.std.proofs.Common.{◌≡◌, ◌∙◌, ℕ, Bool, true, false, refl, sym, ap, subst, Option}
+use Rattle.std.proofs.Common.{◌≡◌, ◌∙◌, ℕ, Bool, true, false, refl, sym, ap, subst, Option, Some}
 use Rattle.std.specs.Prelude.{◌==◌, if◌then◌else◌}
 use Rattle.std.proofs.lemmas.Bool.{eqb-true}
 use Rattle.router_trace.specs.declared.binding.Rank.{Rank}
-use Rattle.router_trace.specs.Deliveries.{Delivery}
+use Rattle.router_trace.specs.Deliveries.{Delivery, unless_over}
 use Rattle.state_deliveries.specs.declared.by_id.ById.{ById}
 use Rattle.state_deliveries.specs.declared.by_rank.ByRank.{ByRank}
 use Rattle.state_deliveries.specs.declared.by_rank.Turn.{Turn}
@@ -16,7 +16,7 @@ use Rattle.state_deliveries.specs.declared.standing.Seat.{Seat}
 use Rattle.state_deliveries.specs.declared.spots.Spot.{Spot}
 use Rattle.state_deliveries.specs.declared.spots.Spots.{Spots}
 use Rattle.state_deliveries.specs.declared.tallies.Tallies.{Tallies}
-use Rattle.state_deliveries.specs.Indexing.{ConsumerKeys, Indexes, Keys, at_consumer_moved, by_producer_moved, consumer_keys, standing, with_consumer, with_producer}
+use Rattle.state_deliveries.specs.Indexing.{ConsumerBegins, ConsumerKeys, Indexes, Keys, ProducerBegins, at_consumer, at_consumer_moved, by_producer_moved, consumer_after, consumer_keys, producer_after, producer_of, seat_of, standing, with_consumer, with_producer}
 use Rattle.state_deliveries.specs.Placing.{SpotsFit, HandlesFit, IdsFit}
 use Rattle.state_deliveries.specs.Ranking.{in_group, is_turn}
 use Rattle.state_deliveries.specs.Tallying.{IsTallied, AreTallied}
@@ -153,6 +153,25 @@ both_entered s t u m known seat before after was is seat_is before_is after_is w
     (subst (λ (p : AtProducer). Indexes u (by_producer_moved m p (at_consumer_moved m (consumer_keys seat_is after_is) known))) f
     (second (at_consumer_moved m (consumer_keys seat_is after_is) known) (ap (λ (k : Keys). k.producer) there ∙ sym e)
     (first known (ap (λ (k : Keys). k.consumer) there ∙ sym (λ i. consumer_keys (a i) (b i))) x))))
+
+-- where a change may have moved them
+pub consumer_followed : (s t : Index) (m : ℕ) (known : ℕ → Keys) (v : Option AtConsumer) (before : AtConsumer) (d : Delivery) (seat : Seat) (after : AtConsumer)
+    → v ≡ Some before → seat ≡ seat_of d → after ≡ at_consumer d
+    → ((known : ℕ → Keys) → (known m).consumer ≡ consumer_keys seat before → Indexes s known → Indexes t (at_consumer_moved m (consumer_keys seat after) known))
+    → ConsumerBegins v d (known m).consumer → Indexes s known → Indexes t (at_consumer_moved m (consumer_after v d (known m).consumer) known)
+consumer_followed s t m known v before d seat after is a b moves begins x =
+    subst (λ (w : Option AtConsumer). Indexes t (at_consumer_moved m (consumer_after w d (known m).consumer) known)) (sym is)
+    (subst (λ (c : ConsumerKeys). Indexes t (at_consumer_moved m c known)) (λ i. consumer_keys (a i) (b i))
+    (moves known (subst (λ (w : Option AtConsumer). ConsumerBegins w d (known m).consumer) is begins ∙ ap (λ p. consumer_keys p before) (sym a)) x))
+
+pub producer_followed : (s t : Index) (m : ℕ) (known : ℕ → Keys) (v : Option AtProducer) (before : AtProducer) (d : Delivery) (after : AtProducer)
+    → v ≡ Some before → after ≡ producer_of (unless_over d)
+    → ((known : ℕ → Keys) → (known m).producer ≡ before → Indexes s known → Indexes t (by_producer_moved m after known))
+    → ProducerBegins v (known m).producer → Indexes s known → Indexes t (by_producer_moved m (producer_after v d (known m).producer) known)
+producer_followed s t m known v before d after is a moves begins x =
+    subst (λ (w : Option AtProducer). Indexes t (by_producer_moved m (producer_after w d (known m).producer) known)) (sym is)
+    (subst (λ (p : AtProducer). Indexes t (by_producer_moved m p known)) a
+    (moves known (subst (λ (w : Option AtProducer). ProducerBegins w (known m).producer) is begins) x))
 
 -- one delivery was changed in its place, added or removed
 pub put_at : (s : Index) (m : ℕ) (g : Option Delivery → Option Delivery) (old new : ℕ → Option Delivery) → ((n : ℕ) → new n ≡ (if m == n then g (old n) else old n))

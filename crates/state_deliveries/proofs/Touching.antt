@@ -1,13 +1,13 @@
 -- What is touched after changes of a store.
-use Rattle.std.proofs.Common.{◌≡◌, ◌∙◌, ℕ, Bool, true, false, refl, sym, ap, subst, Option}
+use Rattle.std.proofs.Common.{◌≡◌, ◌∙◌, ℕ, Bool, true, false, refl, sym, ap, subst, Option, Some}
 use Rattle.std.specs.Prelude.{◌==◌, if◌then◌else◌}
 use Rattle.state_collections.specs.NumberMap.{at_number}
 use Rattle.std.proofs.lemmas.Bool.{eqb-true}
-use Rattle.router_trace.specs.Deliveries.{Delivery, is_number, waits_on, undecided_on, held_from}
+use Rattle.router_trace.specs.Deliveries.{Delivery, is_number, unless_over, waits_on, undecided_on, held_from}
 use Rattle.state_deliveries.specs.declared.standing.AtConsumer.{AtConsumer}
 use Rattle.state_deliveries.specs.declared.standing.AtProducer.{AtProducer}
 use Rattle.state_deliveries.specs.declared.standing.Seat.{Seat}
-use Rattle.state_deliveries.specs.Indexing.{ConsumerKeys, Keys, consumer_keys, standing}
+use Rattle.state_deliveries.specs.Indexing.{ConsumerBegins, ConsumerKeys, Keys, ProducerBegins, at_consumer, consumer_after, consumer_keys, producer_after, producer_of, seat_of, standing}
 use Rattle.state_deliveries.specs.declared.store.Store.{Store}
 use Rattle.state_deliveries.specs.Touching.{is_touched_in, IsSameOn, SameAtConsumer, StandsSame, StoreTouches}
 use Rattle.state_deliveries.proofs.Found.{waits_is, undecided_is, held_is}
@@ -50,6 +50,22 @@ stands_as k seat before after was is seat_is before_is after_is was_is is_is a b
       (subst (λ (c : ConsumerKeys). SameAtConsumer k c (consumer_keys seat_is after_is)) (λ i. consumer_keys (a i) (b i)) x);
   held = ap (λ (p : AtProducer). is_number p.held k) (sym e) ∙ y ∙ ap (λ (p : AtProducer). is_number p.held k) f;
 }
+
+pub consumer_touched : (k : ℕ) (q : ConsumerKeys) (v : Option AtConsumer) (before : AtConsumer) (d : Delivery) (seat : Seat) (after : AtConsumer)
+    → v ≡ Some before → seat ≡ seat_of d → after ≡ at_consumer d → SameAtConsumer k (consumer_keys seat before) (consumer_keys seat after)
+    → ConsumerBegins v d q → SameAtConsumer k q (consumer_after v d q)
+consumer_touched k q v before d seat after is a b x begins =
+    subst (λ (w : Option AtConsumer). SameAtConsumer k q (consumer_after w d q)) (sym is)
+    (subst (λ (c : ConsumerKeys). SameAtConsumer k q c) (λ i. consumer_keys (a i) (b i))
+    (subst (λ (c : ConsumerKeys). SameAtConsumer k c (consumer_keys seat after))
+    (ap (λ p. consumer_keys p before) a ∙ sym (subst (λ (w : Option AtConsumer). ConsumerBegins w d q) is begins)) x))
+
+pub producer_touched : (k : ℕ) (q : AtProducer) (v : Option AtProducer) (before : AtProducer) (d : Delivery) (after : AtProducer)
+    → v ≡ Some before → after ≡ producer_of (unless_over d) → is_number before.held k ≡ is_number after.held k
+    → ProducerBegins v q → is_number q.held k ≡ is_number (producer_after v d q).held k
+producer_touched k q v before d after is a x begins =
+    subst (λ (w : Option AtProducer). is_number q.held k ≡ is_number (producer_after w d q).held k) (sym is)
+    (ap (λ (p : AtProducer). is_number p.held k) (subst (λ (w : Option AtProducer). ProducerBegins w q) is begins) ∙ x ∙ ap (λ (p : AtProducer). is_number p.held k) a)
 
 -- one delivery was changed in its place, added or removed
 pub touches_at : (old new : Store) (m : ℕ) (g : Option Delivery → Option Delivery) (stood stands : Keys)

@@ -1,9 +1,10 @@
 -- The indexes of a table of deliveries.
-use Rattle.std.specs.Prelude.{◌≡◌, ◌==◌, ℕ, Bool, true, false, not, ◌&&◌, ◌||◌, if◌then◌else◌, is_none, is_some, Option, Some, None}
+use Rattle.std.specs.Prelude.{◌≡◌, ◌==◌, ℕ, Bool, true, false, not, ◌&&◌, ◌||◌, if◌then◌else◌, is_none, is_some, Option, Some, None, option_and_then}
 use Rattle.amqp_model.specs.declared.perf.Transfer.{Transfer}
+use Rattle.router_trace.specs.declared.binding.DeliveryName.{DeliveryName}
 use Rattle.router_trace.specs.declared.binding.Origin.{Origin}
 use Rattle.router_trace.specs.declared.binding.Rank.{Rank}
-use Rattle.router_trace.specs.Deliveries.{Delivery, has_row, source, sender, holder, is_over, is_undecided, unless_over}
+use Rattle.router_trace.specs.Deliveries.{Delivery, has_row, source, sender, holder, is_over, is_undecided, same_name, unless_over}
 use Rattle.state_deliveries.specs.declared.by_rank.Turn.{Turn}
 use Rattle.state_deliveries.specs.declared.change.Change.{Change}
 use Rattle.state_deliveries.specs.declared.change.Change.TheVariants as change
@@ -11,9 +12,7 @@ use Rattle.state_deliveries.specs.declared.index.Index.{Index}
 use Rattle.state_deliveries.specs.declared.spots.Spot.{Spot}
 use Rattle.state_deliveries.specs.declared.standing.AtConsumer.{AtConsumer}
 use Rattle.state_deliveries.specs.declared.standing.AtProducer.{AtProducer}
-use Rattle.state_deliveries.specs.declared.standing.ConsumerMove.{ConsumerMove}
-use Rattle.state_deliveries.specs.declared.standing.Moved.{Moved}
-use Rattle.state_deliveries.specs.declared.standing.ProducerMove.{ProducerMove}
+use Rattle.state_deliveries.specs.declared.standing.Left.{Left}
 use Rattle.state_deliveries.specs.declared.standing.Seat.{Seat}
 use Rattle.state_deliveries.specs.Placing.{SpotsFit, HandlesFit, IdsFit, spot_of, on_spot, from_spot, id_spot, own_spot, is_gone_there, is_id_there}
 use Rattle.state_deliveries.specs.Ranking.{in_group, is_turn}
@@ -114,56 +113,53 @@ with_consumer c k = record { consumer = c; producer = k.producer }
 abbrev pub with_producer : AtProducer → Keys → Keys
 with_producer p k = record { consumer = k.consumer; producer = p }
 
+-- what is left to do of a delivery that was changed
+abbrev pub left_of : Delivery → Left
+left_of d = record { name = d.name; over = is_over d }
+
+abbrev pub is_left_over : Option Left → Bool
+is_left_over None = false
+is_left_over (Some x) = x.over
+
+abbrev pub is_left_name : Option Left → DeliveryName → Bool
+is_left_name None name = false
+is_left_name (Some x) name = x.over && same_name x.name name
+
+-- A delivery was changed into d. Where the change may have moved it, its entries before are known: how it stood at its consumer's link, and those by its
+-- producer.
+abbrev pub ConsumerBegins : Option AtConsumer → Delivery → ConsumerKeys → Type 0
+ConsumerBegins None d k = Unit {0}
+ConsumerBegins (Some before) d k = k ≡ consumer_keys (seat_of d) before
+
+abbrev pub ProducerBegins : Option AtProducer → AtProducer → Type 0
+ProducerBegins None k = Unit {0}
+ProducerBegins (Some before) k = k ≡ before
+
+abbrev pub Begins : Option AtConsumer → Option AtProducer → Delivery → Keys → Type 0
+Begins c p d k = ConsumerBegins c d k.consumer × ProducerBegins p k.producer
+
+-- what they are then
+abbrev pub consumer_after : Option AtConsumer → Delivery → ConsumerKeys → ConsumerKeys
+consumer_after None d k = k
+consumer_after (Some before) d k = consumer_keys (seat_of d) (at_consumer d)
+
+abbrev pub producer_after : Option AtProducer → Delivery → AtProducer → AtProducer
+producer_after None d k = k
+producer_after (Some before) d k = producer_of (unless_over d)
+
+abbrev pub followed : Option AtConsumer → Option AtProducer → Delivery → Keys → Keys
+followed c p d k = record { consumer = consumer_after c d k.consumer; producer = producer_after p d k.producer }
+
+-- a delivery that may exist, after a change in its place; it is removed once it is over
+abbrev pub stepped : (Delivery → Delivery) → Option Delivery → Option Delivery
+stepped f v = option_and_then (λ d. unless_over (f d)) v
+
 -- the entries of a number's delivery change: those at its consumer's link, and those by its producer
 abbrev pub at_consumer_moved : ℕ → ConsumerKeys → (ℕ → Keys) → ℕ → Keys
 at_consumer_moved m c known n = with_consumer (if m == n then c else (known n).consumer) (known n)
 
 abbrev pub by_producer_moved : ℕ → AtProducer → (ℕ → Keys) → ℕ → Keys
 by_producer_moved m p known n = with_producer (if m == n then p else (known n).producer) (known n)
-
--- What the indexes have to know of a delivery that was changed: how it stood before, where it may be moved.
-abbrev pub consumer_moved : Option AtConsumer → Delivery → Option ConsumerMove
-consumer_moved None d = None
-consumer_moved (Some before) d = Some (record { before = before; after = at_consumer d })
-
-abbrev pub producer_moved : Option AtProducer → Delivery → Option ProducerMove
-producer_moved None d = None
-producer_moved (Some before) d = Some (record { before = before; after = producer_of (unless_over d) })
-
-abbrev pub moved : Option AtConsumer → Option AtProducer → Delivery → Moved
-moved c p d = record { name = d.name; over = is_over d; seat = seat_of d; consumer = consumer_moved c d; producer = producer_moved p d }
-
--- the entries before were these
-abbrev pub ConsumerBegins : Seat → Option ConsumerMove → ConsumerKeys → Type 0
-ConsumerBegins p None k = Unit {0}
-ConsumerBegins p (Some m) k = k ≡ consumer_keys p m.before
-
-abbrev pub ProducerBegins : Option ProducerMove → AtProducer → Type 0
-ProducerBegins None k = Unit {0}
-ProducerBegins (Some m) k = k ≡ m.before
-
-abbrev pub Begins : Moved → Keys → Type 0
-Begins x k = ConsumerBegins x.seat x.consumer k.consumer × ProducerBegins x.producer k.producer
-
--- what they are then
-abbrev pub consumer_after : Seat → Option ConsumerMove → ConsumerKeys → ConsumerKeys
-consumer_after p None k = k
-consumer_after p (Some m) k = consumer_keys p m.after
-
-abbrev pub producer_after : Option ProducerMove → AtProducer → AtProducer
-producer_after None k = k
-producer_after (Some m) k = m.after
-
-abbrev pub after_move : Moved → Keys → Keys
-after_move x k = record { consumer = consumer_after x.seat x.consumer k.consumer; producer = producer_after x.producer k.producer }
-
--- the place of the id that the router gave, before
-abbrev pub durable_in : Seat → Option ConsumerMove → Option Spot
-durable_in p None = None
-durable_in p (Some m) = own_spot p.link m.before.durable
-
-abbrev pub durable_before : Moved → Option Spot
-durable_before x = durable_in x.seat x.consumer
 
 -- a change may move a delivery at its consumer's link
 abbrev pub moves_consumer : Change → Bool

@@ -1,5 +1,5 @@
 //! How many deliveries of each consumer's link wait to start, and how many are undecided.
-ghost use Rattle.std.specs.Prelude.{◌≡◌, ◌==◌, ◌+◌, ◌-◌, ◌&&◌, ◌||◌, ℕ, Bool, Option, None, true, false, if◌then◌else◌, OnOk, IfOk};
+ghost use Rattle.std.specs.Prelude.{◌≡◌, ◌==◌, ◌+◌, ◌-◌, ◌&&◌, ◌||◌, not, ℕ, Bool, Option, None, true, false, if◌then◌else◌, OnOk, IfOk};
 ghost use Rattle.state_collections.specs.NumberMap.{at_number};
 ghost use Rattle.router_trace.specs.Deliveries.{is_number};
 ghost use Rattle.state_deliveries.specs.Tallying.{waiting_at, undecided_at, has_none, AreTallied, more, less};
@@ -73,13 +73,13 @@ impl Consumers {
     {
         self.drop_at(
             link,
-            before.waits && !after.waits,
-            before.undecided && !after.undecided,
+            ends(before.waits, after.waits),
+            ends(before.undecided, after.undecided),
         );
         self.add_at(
             link,
-            after.waits && !before.waits,
-            after.undecided && !before.undecided,
+            ends(after.waits, before.waits),
+            ends(after.undecided, before.undecided),
         )?;
         Ok(())
     }
@@ -143,6 +143,13 @@ impl OfLink {
         self.undecided = more(self.undecided, undecided)?;
         Ok(())
     }
+}
+
+/// Whether what was so is so no more.
+fn ends(before: bool, after: bool) -> bool
+    ensures { result ≡ (before && not after) }
+{
+    before && !after
 }
 
 /// One less, if `counts`.

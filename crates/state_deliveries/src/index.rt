@@ -3,19 +3,24 @@ ghost use Rattle.std.specs.Prelude.{◌≡◌, ◌==◌, ℕ, Bool, None, true, 
 ghost use Rattle.std.specs.Ordering.{nat_cmp};
 ghost use Rattle.std.specs.BTreeSet.{contains};
 ghost use Rattle.state_deliveries.specs.Deciding.{decides, decide};
-ghost use Rattle.state_deliveries.specs.Indexing.{Keys, Indexes, nowhere, consumer_keys, at_consumer_moved, by_producer_moved, concerns};
+ghost use Rattle.state_deliveries.specs.Indexing.{Keys, ConsumerKeys, Indexes, Begins, ConsumerBegins, ProducerBegins, followed, consumer_after, producer_after, left_of, keys, nowhere, consumer_keys, at_consumer_moved, by_producer_moved, concerns};
 ghost use Rattle.state_deliveries.specs.Placing.{is_gone_there};
+ghost use Rattle.state_deliveries.specs.Touching.{is_touched_in, SameAtConsumer, StandsSame};
+ghost use Rattle.state_deliveries.specs.declared.standing.AtProducer.{AtProducer as ProducerKeys};
+ghost use Rattle.router_trace.specs.Deliveries.{is_number, is_over};
 ghost use Rattle.amqp_session.specs.Ranges.{has};
 
 use crate::by_id::ById;
 use crate::by_rank::ByRank;
 use crate::change::{Change, Gone};
 use crate::consumers::Consumers;
+use crate::delivery::Delivery;
 use crate::handles::Handles;
 use crate::sets::add;
 use crate::spots::Spots;
-use crate::standing::{AtConsumer, AtProducer, Seat};
+use crate::standing::{AtConsumer, AtProducer, Left, Seat};
 use crate::tallies::Tallies;
+use crate::touched::Touched;
 use std::alloc::{AllocError, Global};
 use std::collections::BTreeSet;
 
@@ -55,17 +60,152 @@ impl Index {
         }
     }
 
-    /// Moves the entries of a delivery at its consumer's link.
-    pub(crate) fn shift_consumer(
+    /// Gives a delivery that has no entries yet its entries. Notes the links on which they are.
+    pub(crate) fn enter(
         &mut self,
+        touched: &mut Touched,
+        number: u64,
+        delivery: &Delivery,
+    ) -> Result<(), AllocError>
+        ensures indexed { OnOk result ((known : ℕ → Keys) → known number ≡ nowhere → Indexes self.old known
+            → Indexes self.new (λ n. if number == n then keys delivery.now else known n)) }
+        ensures touched { OnOk result ((k : ℕ) → is_touched_in touched.new k ≡ false → (is_touched_in touched.old k ≡ false) × StandsSame k nowhere (keys delivery.now)) }
+    {
+        self.shift_consumer(
+            touched,
+            number,
+            Seat::of(delivery),
+            AtConsumer::nowhere(),
+            AtConsumer::of(delivery),
+        )?;
+        self.shift_producer(
+            touched,
+            number,
+            &AtProducer::nowhere(),
+            &AtProducer::of(delivery),
+        )?;
+        Ok(())
+    }
+
+    /// Takes its entries from a delivery. Notes the links on which they were.
+    pub(crate) fn withdraw(
+        &mut self,
+        touched: &mut Touched,
+        number: u64,
+        delivery: &Delivery,
+    ) -> Result<(), AllocError>
+        ensures indexed { OnOk result ((known : ℕ → Keys) → known number ≡ keys delivery.now → Indexes self.old known
+            → Indexes self.new (λ n. if number == n then nowhere else known n)) }
+        ensures touched { OnOk result ((k : ℕ) → is_touched_in touched.new k ≡ false → (is_touched_in touched.old k ≡ false) × StandsSame k (keys delivery.now) nowhere) }
+    {
+        self.shift_consumer(
+            touched,
+            number,
+            Seat::of(delivery),
+            AtConsumer::of(delivery),
+            AtConsumer::nowhere(),
+        )?;
+        self.shift_producer(
+            touched,
+            number,
+            &AtProducer::of(delivery),
+            &AtProducer::nowhere(),
+        )?;
+        Ok(())
+    }
+
+    /// Moves the entries of a delivery that was changed in its place, from those that it had before, if the change may have moved them. Notes the links
+    /// on which they have changed. What is left to do is in the result.
+    pub(crate) fn follow(
+        &mut self,
+        touched: &mut Touched,
+        number: u64,
+        consumer: Option<AtConsumer>,
+        producer: &Option<AtProducer>,
+        delivery: &Delivery,
+    ) -> Result<Left, AllocError>
+        ensures left { IfOk result (λ left. left ≡ left_of delivery.now) }
+        ensures indexed { OnOk result ((known : ℕ → Keys) → Begins consumer producer.now delivery.now (known number) → Indexes self.old known
+            → Indexes self.new (λ n. if number == n then followed consumer producer.now delivery.now (known number) else known n)) }
+        ensures touched { OnOk result ((q : Keys) (k : ℕ) → Begins consumer producer.now delivery.now q → is_touched_in touched.new k ≡ false
+            → (is_touched_in touched.old k ≡ false) × StandsSame k q (followed consumer producer.now delivery.now q)) }
+    {
+        let over = delivery.is_over();
+        self.follow_at_consumer(touched, number, consumer, delivery)?;
+        self.follow_by_producer(touched, number, producer, delivery, over)?;
+        Ok(Left {
+            name: delivery.name,
+            over,
+        })
+    }
+
+    /// Moves the entries of a delivery at its consumer's link, if a change may have moved it there.
+    fn follow_at_consumer(
+        &mut self,
+        touched: &mut Touched,
+        number: u64,
+        before: Option<AtConsumer>,
+        delivery: &Delivery,
+    ) -> Result<(), AllocError>
+        ensures indexed { OnOk result ((known : ℕ → Keys) → ConsumerBegins before delivery.now (known number).consumer → Indexes self.old known
+            → Indexes self.new (at_consumer_moved number (consumer_after before delivery.now (known number).consumer) known)) }
+        ensures touched { OnOk result ((q : ConsumerKeys) (k : ℕ) → ConsumerBegins before delivery.now q → is_touched_in touched.new k ≡ false
+            → (is_touched_in touched.old k ≡ false) × SameAtConsumer k q (consumer_after before delivery.now q)) }
+    {
+        match before {
+            None => {}
+            Some(before) => self.shift_consumer(
+                touched,
+                number,
+                Seat::of(delivery),
+                before,
+                AtConsumer::of(delivery),
+            )?,
+        }
+        Ok(())
+    }
+
+    /// Moves the entries of a delivery by its producer, if a change may have moved them.
+    fn follow_by_producer(
+        &mut self,
+        touched: &mut Touched,
+        number: u64,
+        before: &Option<AtProducer>,
+        delivery: &Delivery,
+        over: bool,
+    ) -> Result<(), AllocError>
+        ensures indexed { OnOk result (over ≡ is_over delivery.now → (known : ℕ → Keys) → ProducerBegins before.now (known number).producer → Indexes self.old known
+            → Indexes self.new (by_producer_moved number (producer_after before.now delivery.now (known number).producer) known)) }
+        ensures touched { OnOk result (over ≡ is_over delivery.now → (q : ProducerKeys) (k : ℕ) → ProducerBegins before.now q → is_touched_in touched.new k ≡ false
+            → (is_touched_in touched.old k ≡ false) × (is_number q.held k ≡ is_number (producer_after before.now delivery.now q).held k)) }
+    {
+        match before {
+            None => {}
+            Some(before) => self.shift_producer(
+                touched,
+                number,
+                before,
+                &AtProducer::of_kept(delivery, over),
+            )?,
+        }
+        Ok(())
+    }
+
+    /// Moves the entries of a delivery at its consumer's link. Notes that link, if what is counted there has changed.
+    fn shift_consumer(
+        &mut self,
+        touched: &mut Touched,
         number: u64,
         seat: Seat,
         before: AtConsumer,
         after: AtConsumer,
     ) -> Result<(), AllocError>
-        ensures { OnOk result ((known : ℕ → Keys) → (known number).consumer ≡ consumer_keys seat before → Indexes self.old known
+        ensures indexed { OnOk result ((known : ℕ → Keys) → (known number).consumer ≡ consumer_keys seat before → Indexes self.old known
             → Indexes self.new (at_consumer_moved number (consumer_keys seat after) known)) }
+        ensures touched { OnOk result ((k : ℕ) → is_touched_in touched.new k ≡ false → (is_touched_in touched.old k ≡ false)
+            × SameAtConsumer k (consumer_keys seat before) (consumer_keys seat after)) }
     {
+        touched.note_consumer(seat.link.number, before, after)?;
         self.consumers.shift(seat.link.number, before, after)?;
         self.unsent.shift(number, seat.turn(before.goes_on), seat.turn(after.goes_on))?;
         self.on.shift(number, seat.spot(before.is_on()), seat.spot(after.is_on()))?;
@@ -77,16 +217,20 @@ impl Index {
         Ok(())
     }
 
-    /// Moves the entries of a delivery by its producer.
-    pub(crate) fn shift_producer(
+    /// Moves the entries of a delivery by its producer. Notes the producers' links from which it was held and is held now, if they differ.
+    fn shift_producer(
         &mut self,
+        touched: &mut Touched,
         number: u64,
         before: &AtProducer,
         after: &AtProducer,
     ) -> Result<(), AllocError>
-        ensures { OnOk result ((known : ℕ → Keys) → (known number).producer ≡ before.now → Indexes self.old known
+        ensures indexed { OnOk result ((known : ℕ → Keys) → (known number).producer ≡ before.now → Indexes self.old known
             → Indexes self.new (by_producer_moved number after.now known)) }
+        ensures touched { OnOk result ((k : ℕ) → is_touched_in touched.new k ≡ false → (is_touched_in touched.old k ≡ false)
+            × (is_number before.now.held k ≡ is_number after.now.held k)) }
     {
+        touched.note_moved(before.held, after.held)?;
         self.held.shift(before.held, after.held)?;
         self.to_tell.shift(number, before.to_tell, after.to_tell)?;
         self.from.shift(number, before.from, after.from)?;

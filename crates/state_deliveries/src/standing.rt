@@ -1,13 +1,13 @@
 //! Where a delivery stands: at its consumer's link, and by its producer.
 ghost use Rattle.std.specs.Prelude.{◌≡◌, None, Some, if◌then◌else◌};
 ghost use Rattle.router_trace.specs.Deliveries.{is_over, unless_over};
-ghost use Rattle.state_deliveries.specs.Indexing.{seat_of, no_consumer, at_consumer, consumer_if, durable_id, is_on, no_producer, at_producer, producer_if, producer_of, consumer_moved, producer_moved, moved, on_link, turn_on};
+ghost use Rattle.state_deliveries.specs.Indexing.{seat_of, no_consumer, at_consumer, consumer_if, durable_id, is_on, no_producer, at_producer, producer_if, producer_of, on_link, turn_on};
 ghost use Rattle.state_deliveries.specs.Placing.{spot_of, on_spot, from_spot, id_spot, own_spot};
 
 use crate::by_rank::Turn;
 use crate::delivery::Delivery;
 use crate::spots::Spot;
-use router_trace::{Attachment, ConnectionId, DeliveryName, Origin, Rank};
+use router_trace::{Attachment, DeliveryName, Origin, Rank};
 
 /// What places a delivery in the indexes and stays as long as it lives.
 #[derive(Clone, Copy)]
@@ -44,37 +44,13 @@ pub(crate) struct AtProducer {
     pub(crate) by_id: Option<Spot>,
 }
 
-/// How a delivery stood at its consumer's link, and stands now.
+/// What is left to do of a delivery that was changed in its place: one that is over is removed, and so is its name.
 #[derive(Clone, Copy)]
-pub(crate) struct ConsumerMove {
-    /// Before.
-    pub(crate) before: AtConsumer,
-    /// Now.
-    pub(crate) after: AtConsumer,
-}
-
-/// The entries of a delivery by its producer, before and now.
-#[derive(Clone, Copy)]
-pub(crate) struct ProducerMove {
-    /// Before.
-    pub(crate) before: AtProducer,
-    /// Now; none if the delivery is over.
-    pub(crate) after: AtProducer,
-}
-
-/// What the indexes have to know of a delivery that was changed in its place.
-#[derive(Clone, Copy)]
-pub(crate) struct Moved {
+pub(crate) struct Left {
     /// Its name.
     pub(crate) name: DeliveryName,
     /// Whether it is over.
     pub(crate) over: bool,
-    /// Its link and its place in the order of binding.
-    pub(crate) seat: Seat,
-    /// How it stood and stands at its consumer's link; none if the change moves nothing there.
-    pub(crate) consumer: Option<ConsumerMove>,
-    /// Its entries by its producer; none if the change moves nothing there.
-    pub(crate) producer: Option<ProducerMove>,
 }
 
 impl Seat {
@@ -202,7 +178,7 @@ impl AtProducer {
     }
 
     /// The entries of a delivery, unless that is over.
-    fn of_kept(delivery: &Delivery, over: bool) -> AtProducer
+    pub(crate) fn of_kept(delivery: &Delivery, over: bool) -> AtProducer
         ensures { over ≡ is_over delivery.now → result ≡ producer_of (unless_over delivery.now) }
     {
         if over {
@@ -210,73 +186,6 @@ impl AtProducer {
         } else {
             AtProducer::of(delivery)
         }
-    }
-}
-
-impl Moved {
-    /// Of no delivery yet.
-    pub(crate) fn new() -> Moved {
-        Moved {
-            name: DeliveryName::Counter(0),
-            over: false,
-            seat: Seat {
-                link: Attachment {
-                    conn: ConnectionId(0),
-                    channel: 0,
-                    handle: 0,
-                    number: 0,
-                },
-                rank: Rank { row: 0, counter: 0 },
-            },
-            consumer: None,
-            producer: None,
-        }
-    }
-
-    /// Notes what a delivery is once it was changed, and how it stood before where the change may have moved it.
-    pub(crate) fn note(
-        &mut self,
-        consumer: Option<AtConsumer>,
-        producer: Option<AtProducer>,
-        delivery: &Delivery,
-    )
-        ensures { self.new ≡ moved consumer producer delivery.now }
-    {
-        self.name = delivery.name;
-        self.over = delivery.is_over();
-        self.seat = Seat::of(delivery);
-        self.consumer = consumer_moved(consumer, delivery);
-        self.producer = producer_moved(producer, delivery, self.over);
-    }
-}
-
-/// How a delivery stood and stands at its consumer's link, if a change may have moved it there.
-fn consumer_moved(before: Option<AtConsumer>, delivery: &Delivery) -> Option<ConsumerMove>
-    ensures { result ≡ consumer_moved before delivery.now }
-{
-    match before {
-        None => None,
-        Some(before) => Some(ConsumerMove {
-            before,
-            after: AtConsumer::of(delivery),
-        }),
-    }
-}
-
-/// The entries of a delivery by its producer, before and now, if a change may have moved them.
-fn producer_moved(
-    before: Option<AtProducer>,
-    delivery: &Delivery,
-    over: bool,
-) -> Option<ProducerMove>
-    ensures { over ≡ is_over delivery.now → result ≡ producer_moved before delivery.now }
-{
-    match before {
-        None => None,
-        Some(before) => Some(ProducerMove {
-            before,
-            after: AtProducer::of_kept(delivery, over),
-        }),
     }
 }
 

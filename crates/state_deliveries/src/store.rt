@@ -15,13 +15,12 @@ ghost use Rattle.router_trace.specs.declared.event.Event.TheVariants as event;
 ghost use Rattle.state_deliveries.specs.Calling.{at_name, is_called, Knows};
 ghost use Rattle.state_deliveries.specs.Deciding.{decide};
 ghost use Rattle.state_deliveries.specs.Fits.{Indexed, StoreFit, carried_in, carried_by};
-ghost use Rattle.state_deliveries.specs.declared.standing.AtProducer.{AtProducer as AtProducerKeys};
-ghost use Rattle.state_deliveries.specs.Indexing.{Keys, ConsumerKeys, Indexes, Begins, ConsumerBegins, ProducerBegins, after_move, consumer_after, producer_after, at_consumer_moved, by_producer_moved, durable_before, keys, nowhere, consumer_keys, standing, is_by_place, are_by_place, concerns};
+ghost use Rattle.state_deliveries.specs.Indexing.{is_left_over, is_left_name, standing, is_by_place, are_by_place, concerns};
 ghost use Rattle.state_deliveries.specs.Placing.{is_id_there};
 ghost use Rattle.std.specs.BTreeSet.{contains};
 ghost use Rattle.state_deliveries.specs.Finding.{IsFirst};
 ghost use Rattle.state_deliveries.specs.Ranking.{IsFirstIn, IsFirstGroup, in_group, is_past};
-ghost use Rattle.state_deliveries.specs.Touching.{is_touched_in, SameAtConsumer, StandsSame, StoreTouches};
+ghost use Rattle.state_deliveries.specs.Touching.{is_touched_in, StoreTouches};
 ghost use Rattle.book_model.specs.declared.act.Act.TheVariants.{Decide};
 ghost use Rattle.state_deliveries.specs.Giving.{after_acts, with_outcome};
 ghost use Rattle.state_deliveries.specs.Hearing.{id_of};
@@ -35,7 +34,7 @@ use crate::delivery::Delivery;
 use crate::in_place::{change_in, give_to, join_in, note_in};
 use crate::index::Index;
 use crate::spots::Spot;
-use crate::standing::{AtConsumer, AtProducer, Moved, Seat};
+use crate::standing::{AtConsumer, Left, Seat};
 use crate::touched::Touched;
 use amqp_model::{Item, Perf, Transfer};
 use book_model::Decision;
@@ -220,145 +219,21 @@ impl Store {
         self.deliveries.remove(number)
     }
 
-    /// Moves the index entries of the delivery with a number, which was changed in its place; if it is over, removes it.
-    fn settle(&mut self, number: u64, moved: &Moved) -> Result<(), AllocError>
-        ensures deliveries { OnOk result ((n : ℕ) → at_number self.new.deliveries n
-            ≡ (if moved.now.over then (if number == n then None else at_number self.old.deliveries n) else at_number self.old.deliveries n)) }
-        ensures indexed { OnOk result ((known : ℕ → Keys) → Begins moved.now (known number) → Indexes self.old.index known
-            → Indexes self.new.index (λ n. if number == n then after_move moved.now (known number) else known n)) }
-        ensures touched { OnOk result ((q : Keys) (k : ℕ) → Begins moved.now q → is_touched_in self.new.touched k ≡ false
-            → (is_touched_in self.old.touched k ≡ false) × StandsSame k q (after_move moved.now q)) }
-        ensures called { OnOk result ((m : Name) → at_name self.new.by_name m ≡ (if moved.now.over && same_name moved.now.name m then None else at_name self.old.by_name m)) }
+    /// Removes the delivery with a number, if it was changed in its place and is over.
+    fn settle(&mut self, number: u64, left: Option<Left>)
+        ensures deliveries { (n : ℕ) → at_number self.new.deliveries n
+            ≡ (if is_left_over left then (if number == n then None else at_number self.old.deliveries n) else at_number self.old.deliveries n) }
+        ensures called { (m : Name) → at_name self.new.by_name m ≡ (if is_left_name left m then None else at_name self.old.by_name m) }
+        ensures index { self.new.index ≡ self.old.index }
+        ensures touched { self.new.touched ≡ self.old.touched }
     {
-        if moved.over {
+        let Some(left) = left else {
+            return;
+        };
+        if left.over {
             let _ = self.deliveries.remove(number);
-            self.by_name.forget(moved.name);
-            return self.shift(number, moved);
+            self.by_name.forget(left.name);
         }
-        self.shift(number, moved)
-    }
-
-    /// Moves the index entries of a delivery that was changed.
-    fn shift(&mut self, number: u64, moved: &Moved) -> Result<(), AllocError>
-        ensures deliveries { self.new.deliveries ≡ self.old.deliveries }
-        ensures by_name { self.new.by_name ≡ self.old.by_name }
-        ensures indexed { OnOk result ((known : ℕ → Keys) → Begins moved.now (known number) → Indexes self.old.index known
-            → Indexes self.new.index (λ n. if number == n then after_move moved.now (known number) else known n)) }
-        ensures touched { OnOk result ((q : Keys) (k : ℕ) → Begins moved.now q → is_touched_in self.new.touched k ≡ false
-            → (is_touched_in self.old.touched k ≡ false) × StandsSame k q (after_move moved.now q)) }
-    {
-        self.move_at_consumer(number, moved)?;
-        self.move_by_producer(number, moved)?;
-        Ok(())
-    }
-
-    /// Moves the entries of a delivery at its consumer's link, if the change may have moved it there.
-    fn move_at_consumer(&mut self, number: u64, moved: &Moved) -> Result<(), AllocError>
-        ensures deliveries { self.new.deliveries ≡ self.old.deliveries }
-        ensures by_name { self.new.by_name ≡ self.old.by_name }
-        ensures indexed { OnOk result ((known : ℕ → Keys) → ConsumerBegins moved.now.seat moved.now.consumer (known number).consumer → Indexes self.old.index known
-            → Indexes self.new.index (at_consumer_moved number (consumer_after moved.now.seat moved.now.consumer (known number).consumer) known)) }
-        ensures touched { OnOk result ((q : ConsumerKeys) (k : ℕ) → ConsumerBegins moved.now.seat moved.now.consumer q → is_touched_in self.new.touched k ≡ false
-            → (is_touched_in self.old.touched k ≡ false) × SameAtConsumer k q (consumer_after moved.now.seat moved.now.consumer q)) }
-    {
-        match &moved.consumer {
-            None => {}
-            Some(shift) => { self.shift_consumer(number, moved.seat, shift.before, shift.after)? }
-        }
-        Ok(())
-    }
-
-    /// Moves the entries of a delivery by its producer, if the change may have moved them.
-    fn move_by_producer(&mut self, number: u64, moved: &Moved) -> Result<(), AllocError>
-        ensures deliveries { self.new.deliveries ≡ self.old.deliveries }
-        ensures by_name { self.new.by_name ≡ self.old.by_name }
-        ensures indexed { OnOk result ((known : ℕ → Keys) → ProducerBegins moved.now.producer (known number).producer → Indexes self.old.index known
-            → Indexes self.new.index (by_producer_moved number (producer_after moved.now.producer (known number).producer) known)) }
-        ensures touched { OnOk result ((q : AtProducerKeys) (k : ℕ) → ProducerBegins moved.now.producer q → is_touched_in self.new.touched k ≡ false
-            → (is_touched_in self.old.touched k ≡ false) × (is_number q.held k ≡ is_number (producer_after moved.now.producer q).held k)) }
-    {
-        match &moved.producer {
-            None => {}
-            Some(shift) => self.shift_producer(number, &shift.before, &shift.after)?,
-        }
-        Ok(())
-    }
-
-    /// Moves the entries of a delivery at its consumer's link.
-    fn shift_consumer(
-        &mut self,
-        number: u64,
-        seat: Seat,
-        before: AtConsumer,
-        after: AtConsumer,
-    ) -> Result<(), AllocError>
-        ensures deliveries { self.new.deliveries ≡ self.old.deliveries }
-        ensures by_name { self.new.by_name ≡ self.old.by_name }
-        ensures indexed { OnOk result ((known : ℕ → Keys) → (known number).consumer ≡ consumer_keys seat before → Indexes self.old.index known
-            → Indexes self.new.index (at_consumer_moved number (consumer_keys seat after) known)) }
-        ensures touched { OnOk result ((k : ℕ) → is_touched_in self.new.touched k ≡ false → (is_touched_in self.old.touched k ≡ false)
-            × SameAtConsumer k (consumer_keys seat before) (consumer_keys seat after)) }
-    {
-        self.touched.note_consumer(seat.link.number, before, after)?;
-        self.index.shift_consumer(number, seat, before, after)?;
-        Ok(())
-    }
-
-    /// Moves the entries of a delivery by its producer.
-    fn shift_producer(
-        &mut self,
-        number: u64,
-        before: &AtProducer,
-        after: &AtProducer,
-    ) -> Result<(), AllocError>
-        ensures deliveries { self.new.deliveries ≡ self.old.deliveries }
-        ensures by_name { self.new.by_name ≡ self.old.by_name }
-        ensures indexed { OnOk result ((known : ℕ → Keys) → (known number).producer ≡ before.now → Indexes self.old.index known
-            → Indexes self.new.index (by_producer_moved number after.now known)) }
-        ensures touched { OnOk result ((k : ℕ) → is_touched_in self.new.touched k ≡ false → (is_touched_in self.old.touched k ≡ false)
-            × (is_number before.now.held k ≡ is_number after.now.held k)) }
-    {
-        self.touched.note_moved(before.held, after.held)?;
-        self.index.shift_producer(number, before, after)?;
-        Ok(())
-    }
-
-    /// Gives a delivery that has no entries yet its entries.
-    fn enter(&mut self, number: u64, delivery: &Delivery) -> Result<(), AllocError>
-        ensures deliveries { self.new.deliveries ≡ self.old.deliveries }
-        ensures by_name { self.new.by_name ≡ self.old.by_name }
-        ensures indexed { OnOk result ((known : ℕ → Keys) → known number ≡ nowhere → Indexes self.old.index known
-            → Indexes self.new.index (λ n. if number == n then keys delivery.now else known n)) }
-        ensures touched { OnOk result ((k : ℕ) → is_touched_in self.new.touched k ≡ false → (is_touched_in self.old.touched k ≡ false)
-            × StandsSame k nowhere (keys delivery.now)) }
-    {
-        self.shift_consumer(
-            number,
-            Seat::of(delivery),
-            AtConsumer::nowhere(),
-            AtConsumer::of(delivery),
-        )?;
-        self.shift_producer(number, &AtProducer::nowhere(), &AtProducer::of(delivery))?;
-        Ok(())
-    }
-
-    /// Takes its entries from a delivery that is removed.
-    fn withdraw(&mut self, number: u64, delivery: &Delivery) -> Result<(), AllocError>
-        ensures deliveries { self.new.deliveries ≡ self.old.deliveries }
-        ensures by_name { self.new.by_name ≡ self.old.by_name }
-        ensures indexed { OnOk result ((known : ℕ → Keys) → known number ≡ keys delivery.now → Indexes self.old.index known
-            → Indexes self.new.index (λ n. if number == n then nowhere else known n)) }
-        ensures touched { OnOk result ((k : ℕ) → is_touched_in self.new.touched k ≡ false → (is_touched_in self.old.touched k ≡ false)
-            × StandsSame k (keys delivery.now) nowhere) }
-    {
-        self.shift_consumer(
-            number,
-            Seat::of(delivery),
-            AtConsumer::of(delivery),
-            AtConsumer::nowhere(),
-        )?;
-        self.shift_producer(number, &AtProducer::of(delivery), &AtProducer::nowhere())?;
-        Ok(())
     }
 
     /// Adds a message that was bound, under its number and its name, at its place in the order of binding. An earlier delivery of this name is removed.
@@ -395,7 +270,7 @@ impl Store {
     {
         self.by_name.set(name, number)?;
         let delivery = Delivery::bound(name, rank, binding);
-        self.enter(number, &delivery)?;
+        self.index.enter(&mut self.touched, number, &delivery)?;
         let delivery = Boxed::new(self.alloc, delivery)?;
         let _ = self.deliveries.insert(number, delivery)?;
         Ok(())
@@ -425,7 +300,7 @@ impl Store {
         };
         let delivery = taken.as_ref();
         self.by_name.forget(delivery.name);
-        self.withdraw(number, delivery)?;
+        self.index.withdraw(&mut self.touched, number, delivery)?;
         Ok(())
     }
 
@@ -441,12 +316,15 @@ impl Store {
         ensures indexed { OnOk result (Indexed self.old → Indexed self.new) }
         ensures touches { OnOk result (StoreTouches self.old self.new) }
     {
-        let mut entries = Moved::new();
-        let found = note_in(&mut self.deliveries, number, transfer, count, &mut entries)?;
-        if !found {
-            return Ok(());
-        }
-        self.settle(number, &entries)?;
+        let left = note_in(
+            &mut self.deliveries,
+            &mut self.index,
+            &mut self.touched,
+            number,
+            transfer,
+            count,
+        )?;
+        self.settle(number, left);
         Ok(())
     }
 
@@ -461,18 +339,26 @@ impl Store {
         let Some(number) = self.by_name.get(DeliveryName::Row(decision.row)) else {
             return Ok(None);
         };
-        let mut entries = Moved::new();
-        let found = give_to(
+        let place = self.durable_place(number);
+        let left = give_to(
             &mut self.deliveries,
+            &mut self.index,
+            &mut self.touched,
             number,
             &decision.outcome,
-            &mut entries,
         )?;
-        if !found {
-            return Ok(None);
+        self.settle(number, left);
+        Ok(place)
+    }
+
+    /// The place of the id that the router gave to the delivery with a number, if that is undecided and has a row.
+    fn durable_place(&self, number: u64) -> Option<Spot>
+        ensures { result ≡ (standing (at_number self.now.deliveries number)).consumer.durable }
+    {
+        match self.get(number) {
+            None => None,
+            Some(delivery) => Seat::of(delivery).id_spot(AtConsumer::of(delivery).durable),
         }
-        self.settle(number, &entries)?;
-        Ok(durable_before(&entries))
     }
 
     /// A producer's link has the delivery with a name like this from now on; whether there is one. One that is over by this is removed.
@@ -485,12 +371,15 @@ impl Store {
         let Some(number) = self.by_name.get(name) else {
             return Ok(false);
         };
-        let mut entries = Moved::new();
-        if !join_in(&mut self.deliveries, number, holding, &mut entries) {
-            return Ok(false);
-        }
-        self.settle(number, &entries)?;
-        Ok(true)
+        let left = join_in(
+            &mut self.deliveries,
+            &mut self.index,
+            &mut self.touched,
+            number,
+            holding,
+        )?;
+        self.settle(number, left);
+        Ok(left.is_some())
     }
 
     /// Changes the delivery with a number.
@@ -500,12 +389,14 @@ impl Store {
         ensures indexed { OnOk result (Indexed self.old → Indexed self.new) }
         ensures touches { OnOk result (StoreTouches self.old self.new) }
     {
-        let mut entries = Moved::new();
-        let found = change_in(&mut self.deliveries, number, change, &mut entries)?;
-        if !found {
-            return Ok(());
-        }
-        self.settle(number, &entries)?;
+        let left = change_in(
+            &mut self.deliveries,
+            &mut self.index,
+            &mut self.touched,
+            number,
+            change,
+        )?;
+        self.settle(number, left);
         Ok(())
     }
 
@@ -707,16 +598,6 @@ impl Store {
             Perf::Transfer(transfer) => self.note_carried(number, transfer, payload),
             _ => self.apply_any(after_put(conn, own, perf)),
         }
-    }
-}
-
-/// The place of the id that the router gave a delivery, if it was undecided before it was changed, and had a row.
-fn durable_before(moved: &Moved) -> Option<Spot>
-    ensures { result ≡ durable_before moved.now }
-{
-    match &moved.consumer {
-        None => None,
-        Some(shift) => moved.seat.id_spot(shift.before.durable),
     }
 }
 

@@ -2,8 +2,6 @@ use Rattle.std.proofs.Common.{◌≡◌, ◌∙◌, ℕ, refl, ap, sym, subst}
 use Rattle.std.specs.Prelude.{◌==◌, if◌then◌else◌, Some}
 use Rattle.state_collections.specs.NumberMap.{at_number}
 use Rattle.router_trace.specs.Deliveries.{Delivery, bound}
-use Rattle.state_deliveries.specs.declared.by_name.ByName.{ByName}
-use Rattle.state_deliveries.specs.Calling.{at_name}
 use Rattle.state_deliveries.specs.Indexing.{Indexes, Keys, keys, nowhere, standing}
 use Rattle.state_deliveries.specs.Touching.{StandsSame}
 use Rattle.state_deliveries.proofs.Called.{called_more}
@@ -20,11 +18,11 @@ returns-clause-indexed c = λ none alone before.
     let old = at_number c.args.self.now.deliveries in
     let new = bound c.args.name c.args.rank c.args.binding in
     record {
-      indexes = put_at c.enter.new.self.index c.args.number (λ v. Some new) old (at_number c.insert.new.self) (there c)
-          (subst (λ (d : Delivery). Indexes c.enter.new.self.index (λ n. if c.args.number == n then keys d else standing (old n))) c.bound-delivery.ensures
+      indexes = put_at c.enter.new.self c.args.number (λ v. Some new) old (at_number c.insert.new.self) (there c)
+          (subst (λ (d : Delivery). Indexes c.enter.new.self (λ n. if c.args.number == n then keys d else standing (old n))) c.bound-delivery.ensures
           (c.in_ok-enter.ensures.indexed (λ n. standing (old n)) (ap standing none) before.indexes));
-      called = called_more c.args.self.now.by_name c.enter.new.self.by_name c.args.number c.args.name c.args.rank c.args.binding old (at_number c.insert.new.self) none alone (there c)
-          (λ m. ap (λ (x : ByName). at_name x m) c.enter.ensures.by_name ∙ c.in_ok-set.ensures m) before.called;
+      called = called_more c.args.self.now.by_name c.set.new.self c.args.number c.args.name c.args.rank c.args.binding old (at_number c.insert.new.self) none alone (there c)
+          c.in_ok-set.ensures before.called;
     }
 
 pub returns-clause-touches : goal.returns-clause-touches

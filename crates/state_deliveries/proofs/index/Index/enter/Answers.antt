@@ -1,12 +1,12 @@
-use Rattle.state_deliveries.specs.Indexing.{at_consumer, at_producer, no_producer, no_consumer, seat_of}
+use Rattle.state_deliveries.specs.Indexing.{at_consumer, at_producer, no_consumer, no_producer, seat_of}
 use Rattle.state_deliveries.proofs.Reindexed.{both_entered}
 use Rattle.state_deliveries.proofs.Touching.{stands_as}
-use Rattle.state_deliveries.proofs.store.Store.enter.Goals as goal
+use Rattle.state_deliveries.proofs.index.Index.enter.Goals as goal
 
 pub returns-clause-indexed : goal.returns-clause-indexed
 returns-clause-indexed c = λ known is fit.
     let d = c.args.delivery.now in
-    both_entered c.args.self.now.index c.shift_consumer.new.self.index c.shift_producer.new.self.index c.args.number known
+    both_entered c.args.self.now c.shift_consumer.new.self c.shift_producer.new.self c.args.number known
     (seat_of d) (no_consumer) (at_consumer d) (no_producer) (at_producer d) _ _ _ _ _ c.of.ensures c.nowhere.ensures c.of-2.ensures c.nowhere-2.ensures c.of-3.ensures
     c.in_ok-shift_consumer.ensures.indexed c.in_ok-shift_producer.ensures.indexed is fit
 

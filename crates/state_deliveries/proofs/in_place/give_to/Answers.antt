@@ -1,0 +1,19 @@
+use Rattle.std.proofs.Common.{◌≡◌, ◌∙◌, sym, ap, Some}
+use Rattle.state_collections.specs.NumberMap.{at_number}
+use Rattle.state_deliveries.specs.Giving.{with_outcome}
+use Rattle.state_deliveries.proofs.Moving.{both_noted, followed_there, give_moves, touched_there}
+use Rattle.state_deliveries.proofs.in_place.give_to.Goals as goal
+
+-- the delivery that is there
+was : (c : goal.In_ok-left) → at_number c.args.deliveries.now c.args.number ≡ Some c.as_mut-delivery.result.now
+was c = sym c.in-Some.ensures.value ∙ ap Some (sym c.as_mut-delivery.ensures.value)
+
+pub returns-clause-indexed : goal.returns-clause-indexed
+returns-clause-indexed c = λ known stood fit.
+    followed_there (with_outcome c.args.outcome.now) both_noted c.args.index.now c.follow.new.self c.args.number known (at_number c.args.deliveries.now c.args.number)
+    c.as_mut-delivery.result.now c.give.new.self _ _ (give_moves c.args.outcome.now) (was c) c.in_ok-give.ensures (ap Some c.of.ensures) (ap Some c.of-2.ensures) c.in_ok-left.ensures.indexed stood fit
+
+pub returns-clause-touched : goal.returns-clause-touched
+returns-clause-touched c =
+    touched_there (with_outcome c.args.outcome.now) both_noted c.args.touched.now c.follow.new.touched (at_number c.args.deliveries.now c.args.number)
+    c.as_mut-delivery.result.now c.give.new.self _ _ (give_moves c.args.outcome.now) (was c) c.in_ok-give.ensures (ap Some c.of.ensures) (ap Some c.of-2.ensures) c.in_ok-left.ensures.touched
