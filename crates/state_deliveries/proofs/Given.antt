@@ -18,7 +18,7 @@ use Rattle.state_deliveries.specs.Calling.{is_called}
 use Rattle.state_deliveries.specs.Giving.{after_acts, attaches, with_outcome}
 use Rattle.state_deliveries.specs.Stepping.{IsKept}
 use Rattle.state_deliveries.proofs.Puts.{kept_after}
-use Rattle.state_deliveries.proofs.Settled.{step}
+use Rattle.state_deliveries.specs.Indexing.{stepped}
 
 -- what gives a delivery no outcome leaves it
 or_none : (o : Option DeliveryState) → outcome_or o None ≡ o
@@ -106,7 +106,7 @@ decision_named x (Row r) = or_none (if x.row.0 == r.0 then Some x.outcome else N
 decision_named x (Counter k) = refl
 
 pub decided_at : (x : Decision) (b : Bool) (v : Option Delivery) → b ≡ is_called (Row x.row) v → IsKept v
-    → (if b then step (with_outcome x.outcome) v else v) ≡ after_acts (Decide x ∷ []) v
+    → (if b then stepped (with_outcome x.outcome) v else v) ≡ after_acts (Decide x ∷ []) v
 decided_at x true None e keeps = refl
 decided_at x false None e keeps = refl
 decided_at x true (Some d) e keeps = ap (λ o. unless_over (record d { outcome = outcome_or d.outcome o }))

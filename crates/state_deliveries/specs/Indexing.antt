@@ -34,7 +34,8 @@ turn_on link rank holds = if holds then Some (record { link = link; rank = rank 
 abbrev pub seat_of : Delivery → Seat
 seat_of d = record { link = d.link; rank = d.rank }
 
--- how a delivery stands at its consumer's link; the id that the router gave counts while it is undecided, if it has a row
+-- how a delivery stands at its consumer's link; the id that the router gave counts while it is undecided, if it has a
+-- row
 abbrev pub durable_id : Delivery → Option ℕ
 durable_id d = if is_undecided d && has_row d.name then d.id else None
 
@@ -125,7 +126,8 @@ abbrev pub is_left_name : Option Left → DeliveryName → Bool
 is_left_name None name = false
 is_left_name (Some x) name = x.over && same_name x.name name
 
--- A delivery was changed into d. Where the change may have moved it, its entries before are known: how it stood at its consumer's link, and those by its
+-- A delivery was changed into d. Where the change may have moved it, its entries before are known: how it stood at its
+-- consumer's link, and those by its
 -- producer.
 abbrev pub ConsumerBegins : Option AtConsumer → Delivery → ConsumerKeys → Type 0
 ConsumerBegins None d k = Unit {0}

@@ -102,7 +102,8 @@ impl Change {
         after_heard(conn, own, item)
     }
 
-    /// Whether it may move a delivery at its consumer's link. That the producer was told or has settled it moves nothing there.
+    /// Whether it may move a delivery at its consumer's link. That the producer was told or has settled it moves
+    /// nothing there.
     pub(crate) fn moves_consumer(&self) -> bool
         ensures { result ≡ moves_consumer self.now }
     {

@@ -67,7 +67,8 @@ impl Consumers {
         before: AtConsumer,
         after: AtConsumer,
     ) -> Result<(), AllocError>
-        ensures { OnOk result ((number : ℕ) (waiting undecided : ℕ → Option ℕ) → waiting number ≡ on_link link before.waits → undecided number ≡ on_link link before.undecided
+        ensures { OnOk result ((number : ℕ) (waiting undecided : ℕ → Option ℕ) → waiting number
+            ≡ on_link link before.waits → undecided number ≡ on_link link before.undecided
             → AreTallied self.old waiting undecided
             → AreTallied self.new (λ n. if number == n then on_link link after.waits else waiting n) (λ n. if number == n then on_link link after.undecided else undecided n)) }
     {
@@ -87,7 +88,8 @@ impl Consumers {
     /// A link has one less that waits, or one less that is undecided, or both, or neither.
     fn drop_at(&mut self, link: u64, waiting: bool, undecided: bool)
         ensures waiting { (k : ℕ) → waiting_at self.new k ≡ less ((link == k) && waiting) (waiting_at self.old k) }
-        ensures undecided { (k : ℕ) → undecided_at self.new k ≡ less ((link == k) && undecided) (undecided_at self.old k) }
+        ensures undecided { (k : ℕ) → undecided_at self.new k
+            ≡ less ((link == k) && undecided) (undecided_at self.old k) }
         ensures needed { (k : ℕ) → has_none (at_number self.old.rows k) ≡ false → has_none (at_number self.new.rows k) ≡ false }
     {
         if !(waiting || undecided) {
@@ -105,8 +107,10 @@ impl Consumers {
 
     /// A link has one more that waits, or one more that is undecided, or both, or neither.
     fn add_at(&mut self, link: u64, waiting: bool, undecided: bool) -> Result<(), AllocError>
-        ensures waiting { OnOk result ((k : ℕ) → waiting_at self.new k ≡ more ((link == k) && waiting) (waiting_at self.old k)) }
-        ensures undecided { OnOk result ((k : ℕ) → undecided_at self.new k ≡ more ((link == k) && undecided) (undecided_at self.old k)) }
+        ensures waiting { OnOk result ((k : ℕ) → waiting_at self.new k
+            ≡ more ((link == k) && waiting) (waiting_at self.old k)) }
+        ensures undecided { OnOk result ((k : ℕ) → undecided_at self.new k
+            ≡ more ((link == k) && undecided) (undecided_at self.old k)) }
         ensures needed { OnOk result ((k : ℕ) → has_none (at_number self.old.rows k) ≡ false → has_none (at_number self.new.rows k) ≡ false) }
     {
         if !(waiting || undecided) {

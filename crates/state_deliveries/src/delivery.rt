@@ -371,7 +371,8 @@ impl Delivery {
             && ((self.link.conn.0 == conn && self.link.channel == own) && self.id == Some(id))
     }
 
-    /// Whether it is decided once it has this transfer: it was before, or it was settled before it was bound, and this is its last frame.
+    /// Whether it is decided once it has this transfer: it was before, or it was settled before it was bound, and this
+    /// is its last frame.
     pub(crate) fn is_decided_with(&self, transfer: &Transfer) -> bool
         ensures { result ≡ is_decided_with transfer.now self.now }
     {

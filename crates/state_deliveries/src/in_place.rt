@@ -26,9 +26,12 @@ pub(crate) fn change_in(
     number: u64,
     change: &Change,
 ) -> Result<Option<Left>, AllocError>
-    ensures deliveries { OnOk result ((n : ℕ) → at_number deliveries.new n ≡ (if number == n then option_map (changed change.now) (at_number deliveries.old n) else at_number deliveries.old n)) }
-    ensures left { IfOk result (λ left. left ≡ option_map (λ d. left_of (changed change.now d)) (at_number deliveries.old number)) }
-    ensures indexed { OnOk result ((known : ℕ → Keys) → known number ≡ standing (at_number deliveries.old number) → Indexes index.old known
+    ensures deliveries { OnOk result ((n : ℕ) → at_number deliveries.new n
+        ≡ (if number == n then option_map (changed change.now) (at_number deliveries.old n) else at_number deliveries.old n)) }
+    ensures left { IfOk result (λ left. left
+        ≡ option_map (λ d. left_of (changed change.now d)) (at_number deliveries.old number)) }
+    ensures indexed { OnOk result ((known : ℕ → Keys) → known number ≡ standing (at_number deliveries.old number)
+        → Indexes index.old known
         → Indexes index.new (λ n. if number == n then standing (stepped (changed change.now) (at_number deliveries.old number)) else known n)) }
     ensures touched { OnOk result ((k : ℕ) → is_touched_in touched.new k ≡ false → (is_touched_in touched.old k ≡ false)
         × StandsSame k (standing (at_number deliveries.old number)) (standing (stepped (changed change.now) (at_number deliveries.old number)))) }
@@ -44,7 +47,8 @@ pub(crate) fn change_in(
     Ok(Some(left))
 }
 
-/// Gives the delivery with a number an outcome, in its place, if it is undecided, and moves its entries; what is left to do of it, if there is one.
+/// Gives the delivery with a number an outcome, in its place, if it is undecided, and moves its entries; what is left
+/// to do of it, if there is one.
 pub(crate) fn give_to(
     deliveries: &mut NumberMap<Boxed<Delivery>>,
     index: &mut Index,
@@ -52,9 +56,12 @@ pub(crate) fn give_to(
     number: u64,
     outcome: &DeliveryState,
 ) -> Result<Option<Left>, AllocError>
-    ensures deliveries { OnOk result ((n : ℕ) → at_number deliveries.new n ≡ (if number == n then option_map (with_outcome outcome.now) (at_number deliveries.old n) else at_number deliveries.old n)) }
-    ensures left { IfOk result (λ left. left ≡ option_map (λ d. left_of (with_outcome outcome.now d)) (at_number deliveries.old number)) }
-    ensures indexed { OnOk result ((known : ℕ → Keys) → known number ≡ standing (at_number deliveries.old number) → Indexes index.old known
+    ensures deliveries { OnOk result ((n : ℕ) → at_number deliveries.new n
+        ≡ (if number == n then option_map (with_outcome outcome.now) (at_number deliveries.old n) else at_number deliveries.old n)) }
+    ensures left { IfOk result (λ left. left
+        ≡ option_map (λ d. left_of (with_outcome outcome.now d)) (at_number deliveries.old number)) }
+    ensures indexed { OnOk result ((known : ℕ → Keys) → known number ≡ standing (at_number deliveries.old number)
+        → Indexes index.old known
         → Indexes index.new (λ n. if number == n then standing (stepped (with_outcome outcome.now) (at_number deliveries.old number)) else known n)) }
     ensures touched { OnOk result ((k : ℕ) → is_touched_in touched.new k ≡ false → (is_touched_in touched.old k ≡ false)
         × StandsSame k (standing (at_number deliveries.old number)) (standing (stepped (with_outcome outcome.now) (at_number deliveries.old number)))) }
@@ -70,7 +77,8 @@ pub(crate) fn give_to(
     Ok(Some(left))
 }
 
-/// A producer's link has the delivery with a number like this from now on, which is changed in its place; moves its entries; what is left to do of it, if
+/// A producer's link has the delivery with a number like this from now on, which is changed in its place; moves its
+/// entries; what is left to do of it, if
 /// there is one.
 pub(crate) fn join_in(
     deliveries: &mut NumberMap<Boxed<Delivery>>,
@@ -79,9 +87,12 @@ pub(crate) fn join_in(
     number: u64,
     holding: Holding,
 ) -> Result<Option<Left>, AllocError>
-    ensures deliveries { OnOk result ((n : ℕ) → at_number deliveries.new n ≡ (if number == n then option_map (held_by holding) (at_number deliveries.old n) else at_number deliveries.old n)) }
-    ensures left { IfOk result (λ left. left ≡ option_map (λ d. left_of (held_by holding d)) (at_number deliveries.old number)) }
-    ensures indexed { OnOk result ((known : ℕ → Keys) → known number ≡ standing (at_number deliveries.old number) → Indexes index.old known
+    ensures deliveries { OnOk result ((n : ℕ) → at_number deliveries.new n
+        ≡ (if number == n then option_map (held_by holding) (at_number deliveries.old n) else at_number deliveries.old n)) }
+    ensures left { IfOk result (λ left. left
+        ≡ option_map (λ d. left_of (held_by holding d)) (at_number deliveries.old number)) }
+    ensures indexed { OnOk result ((known : ℕ → Keys) → known number ≡ standing (at_number deliveries.old number)
+        → Indexes index.old known
         → Indexes index.new (λ n. if number == n then standing (stepped (held_by holding) (at_number deliveries.old number)) else known n)) }
     ensures touched { OnOk result ((k : ℕ) → is_touched_in touched.new k ≡ false → (is_touched_in touched.old k ≡ false)
         × StandsSame k (standing (at_number deliveries.old number)) (standing (stepped (held_by holding) (at_number deliveries.old number)))) }
@@ -97,7 +108,8 @@ pub(crate) fn join_in(
     Ok(Some(left))
 }
 
-/// Notes a transfer that carries `count` bytes of the delivery with a number, in its place, and moves its entries; what is left to do of it, if there is one.
+/// Notes a transfer that carries `count` bytes of the delivery with a number, in its place, and moves its entries; what
+/// is left to do of it, if there is one.
 pub(crate) fn note_in(
     deliveries: &mut NumberMap<Boxed<Delivery>>,
     index: &mut Index,
@@ -106,9 +118,12 @@ pub(crate) fn note_in(
     transfer: &Transfer,
     count: u64,
 ) -> Result<Option<Left>, AllocError>
-    ensures deliveries { OnOk result ((n : ℕ) → at_number deliveries.new n ≡ (if number == n then option_map (after_frame transfer.now count) (at_number deliveries.old n) else at_number deliveries.old n)) }
-    ensures left { IfOk result (λ left. left ≡ option_map (λ d. left_of (after_frame transfer.now count d)) (at_number deliveries.old number)) }
-    ensures indexed { OnOk result ((known : ℕ → Keys) → known number ≡ standing (at_number deliveries.old number) → Indexes index.old known
+    ensures deliveries { OnOk result ((n : ℕ) → at_number deliveries.new n
+        ≡ (if number == n then option_map (after_frame transfer.now count) (at_number deliveries.old n) else at_number deliveries.old n)) }
+    ensures left { IfOk result (λ left. left
+        ≡ option_map (λ d. left_of (after_frame transfer.now count d)) (at_number deliveries.old number)) }
+    ensures indexed { OnOk result ((known : ℕ → Keys) → known number ≡ standing (at_number deliveries.old number)
+        → Indexes index.old known
         → Indexes index.new (λ n. if number == n then standing (stepped (after_frame transfer.now count) (at_number deliveries.old number)) else known n)) }
     ensures touched { OnOk result ((k : ℕ) → is_touched_in touched.new k ≡ false → (is_touched_in touched.old k ≡ false)
         × StandsSame k (standing (at_number deliveries.old number)) (standing (stepped (after_frame transfer.now count) (at_number deliveries.old number)))) }

@@ -69,7 +69,8 @@ impl Index {
     ) -> Result<(), AllocError>
         ensures indexed { OnOk result ((known : ℕ → Keys) → known number ≡ nowhere → Indexes self.old known
             → Indexes self.new (λ n. if number == n then keys delivery.now else known n)) }
-        ensures touched { OnOk result ((k : ℕ) → is_touched_in touched.new k ≡ false → (is_touched_in touched.old k ≡ false) × StandsSame k nowhere (keys delivery.now)) }
+        ensures touched { OnOk result ((k : ℕ) → is_touched_in touched.new k ≡ false → (is_touched_in touched.old k
+            ≡ false) × StandsSame k nowhere (keys delivery.now)) }
     {
         self.shift_consumer(
             touched,
@@ -96,7 +97,8 @@ impl Index {
     ) -> Result<(), AllocError>
         ensures indexed { OnOk result ((known : ℕ → Keys) → known number ≡ keys delivery.now → Indexes self.old known
             → Indexes self.new (λ n. if number == n then nowhere else known n)) }
-        ensures touched { OnOk result ((k : ℕ) → is_touched_in touched.new k ≡ false → (is_touched_in touched.old k ≡ false) × StandsSame k (keys delivery.now) nowhere) }
+        ensures touched { OnOk result ((k : ℕ) → is_touched_in touched.new k ≡ false → (is_touched_in touched.old k
+            ≡ false) × StandsSame k (keys delivery.now) nowhere) }
     {
         self.shift_consumer(
             touched,
@@ -114,7 +116,8 @@ impl Index {
         Ok(())
     }
 
-    /// Moves the entries of a delivery that was changed in its place, from those that it had before, if the change may have moved them. Notes the links
+    /// Moves the entries of a delivery that was changed in its place, from those that it had before, if the change may
+    /// have moved them. Notes the links
     /// on which they have changed. What is left to do is in the result.
     pub(crate) fn follow(
         &mut self,
@@ -125,9 +128,11 @@ impl Index {
         delivery: &Delivery,
     ) -> Result<Left, AllocError>
         ensures left { IfOk result (λ left. left ≡ left_of delivery.now) }
-        ensures indexed { OnOk result ((known : ℕ → Keys) → Begins consumer producer.now delivery.now (known number) → Indexes self.old known
+        ensures indexed { OnOk result ((known : ℕ → Keys)
+            → Begins consumer producer.now delivery.now (known number) → Indexes self.old known
             → Indexes self.new (λ n. if number == n then followed consumer producer.now delivery.now (known number) else known n)) }
-        ensures touched { OnOk result ((q : Keys) (k : ℕ) → Begins consumer producer.now delivery.now q → is_touched_in touched.new k ≡ false
+        ensures touched { OnOk result ((q : Keys) (k : ℕ) → Begins consumer producer.now delivery.now q
+            → is_touched_in touched.new k ≡ false
             → (is_touched_in touched.old k ≡ false) × StandsSame k q (followed consumer producer.now delivery.now q)) }
     {
         let over = delivery.is_over();
@@ -147,9 +152,11 @@ impl Index {
         before: Option<AtConsumer>,
         delivery: &Delivery,
     ) -> Result<(), AllocError>
-        ensures indexed { OnOk result ((known : ℕ → Keys) → ConsumerBegins before delivery.now (known number).consumer → Indexes self.old known
+        ensures indexed { OnOk result ((known : ℕ → Keys)
+            → ConsumerBegins before delivery.now (known number).consumer → Indexes self.old known
             → Indexes self.new (at_consumer_moved number (consumer_after before delivery.now (known number).consumer) known)) }
-        ensures touched { OnOk result ((q : ConsumerKeys) (k : ℕ) → ConsumerBegins before delivery.now q → is_touched_in touched.new k ≡ false
+        ensures touched { OnOk result ((q : ConsumerKeys) (k : ℕ) → ConsumerBegins before delivery.now q
+            → is_touched_in touched.new k ≡ false
             → (is_touched_in touched.old k ≡ false) × SameAtConsumer k q (consumer_after before delivery.now q)) }
     {
         match before {
@@ -174,10 +181,13 @@ impl Index {
         delivery: &Delivery,
         over: bool,
     ) -> Result<(), AllocError>
-        ensures indexed { OnOk result (over ≡ is_over delivery.now → (known : ℕ → Keys) → ProducerBegins before.now (known number).producer → Indexes self.old known
+        ensures indexed { OnOk result (over ≡ is_over delivery.now → (known : ℕ → Keys)
+            → ProducerBegins before.now (known number).producer → Indexes self.old known
             → Indexes self.new (by_producer_moved number (producer_after before.now delivery.now (known number).producer) known)) }
-        ensures touched { OnOk result (over ≡ is_over delivery.now → (q : ProducerKeys) (k : ℕ) → ProducerBegins before.now q → is_touched_in touched.new k ≡ false
-            → (is_touched_in touched.old k ≡ false) × (is_number q.held k ≡ is_number (producer_after before.now delivery.now q).held k)) }
+        ensures touched { OnOk result (over ≡ is_over delivery.now → (q : ProducerKeys) (k : ℕ)
+            → ProducerBegins before.now q → is_touched_in touched.new k ≡ false
+            → (is_touched_in touched.old k ≡ false) × (is_number q.held k
+            ≡ is_number (producer_after before.now delivery.now q).held k)) }
     {
         match before {
             None => {}
@@ -200,9 +210,11 @@ impl Index {
         before: AtConsumer,
         after: AtConsumer,
     ) -> Result<(), AllocError>
-        ensures indexed { OnOk result ((known : ℕ → Keys) → (known number).consumer ≡ consumer_keys seat before → Indexes self.old known
+        ensures indexed { OnOk result ((known : ℕ → Keys) → (known number).consumer ≡ consumer_keys seat before
+            → Indexes self.old known
             → Indexes self.new (at_consumer_moved number (consumer_keys seat after) known)) }
-        ensures touched { OnOk result ((k : ℕ) → is_touched_in touched.new k ≡ false → (is_touched_in touched.old k ≡ false)
+        ensures touched { OnOk result ((k : ℕ) → is_touched_in touched.new k ≡ false → (is_touched_in touched.old k
+            ≡ false)
             × SameAtConsumer k (consumer_keys seat before) (consumer_keys seat after)) }
     {
         touched.note_consumer(seat.link.number, before, after)?;
@@ -217,7 +229,8 @@ impl Index {
         Ok(())
     }
 
-    /// Moves the entries of a delivery by its producer. Notes the producers' links from which it was held and is held now, if they differ.
+    /// Moves the entries of a delivery by its producer. Notes the producers' links from which it was held and is held
+    /// now, if they differ.
     fn shift_producer(
         &mut self,
         touched: &mut Touched,
@@ -225,9 +238,11 @@ impl Index {
         before: &AtProducer,
         after: &AtProducer,
     ) -> Result<(), AllocError>
-        ensures indexed { OnOk result ((known : ℕ → Keys) → (known number).producer ≡ before.now → Indexes self.old known
+        ensures indexed { OnOk result ((known : ℕ → Keys) → (known number).producer ≡ before.now
+            → Indexes self.old known
             → Indexes self.new (by_producer_moved number after.now known)) }
-        ensures touched { OnOk result ((k : ℕ) → is_touched_in touched.new k ≡ false → (is_touched_in touched.old k ≡ false)
+        ensures touched { OnOk result ((k : ℕ) → is_touched_in touched.new k ≡ false → (is_touched_in touched.old k
+            ≡ false)
             × (is_number before.now.held k ≡ is_number after.now.held k)) }
     {
         touched.note_moved(before.held, after.held)?;
@@ -240,7 +255,8 @@ impl Index {
 
     /// The numbers of the deliveries that a change may change, if it isn't a consumer's disposition; some may occur more than once.
     pub(crate) fn concerned(&self, alloc: Global, change: &Change) -> Result<Vec<u64>, AllocError>
-        ensures { IfOk result (λ numbers. (known : ℕ → Keys) → Indexes self.now known → (n : ℕ) → concerns change.now (known n) ≡ true → has n numbers.items ≡ true) }
+        ensures { IfOk result (λ numbers. (known : ℕ → Keys) → Indexes self.now known → (n : ℕ)
+            → concerns change.now (known n) ≡ true → has n numbers.items ≡ true) }
     {
         let mut numbers = Vec::new(alloc);
         self.append_concerned(change, &mut numbers)?;
@@ -253,7 +269,8 @@ impl Index {
         alloc: Global,
         changes: &[Change],
     ) -> Result<BTreeSet<u64>, AllocError>
-        ensures { IfOk result (λ numbers. (known : ℕ → Keys) → Indexes self.now known → (n : ℕ) → decide changes.now (known n) ≡ true → contains nat_cmp numbers n ≡ true) }
+        ensures { IfOk result (λ numbers. (known : ℕ → Keys) → Indexes self.now known → (n : ℕ)
+            → decide changes.now (known n) ≡ true → contains nat_cmp numbers n ≡ true) }
     {
         let mut numbers = BTreeSet::new(alloc);
         for change in changes {
@@ -270,7 +287,8 @@ impl Index {
         numbers: &mut BTreeSet<u64>,
     ) -> Result<(), AllocError>
         ensures more { OnOk result ((n : ℕ) → contains nat_cmp numbers.old n ≡ true → contains nat_cmp numbers.new n ≡ true) }
-        ensures found { OnOk result ((known : ℕ → Keys) → Indexes self.now known → (n : ℕ) → decides change.now (known n) ≡ true → contains nat_cmp numbers.new n ≡ true) }
+        ensures found { OnOk result ((known : ℕ → Keys) → Indexes self.now known → (n : ℕ)
+            → decides change.now (known n) ≡ true → contains nat_cmp numbers.new n ≡ true) }
     {
         let mut found = Vec::new(alloc);
         self.append_deciding(change, &mut found)?;
@@ -280,7 +298,8 @@ impl Index {
 
     /// Appends the numbers of the deliveries whose rows a change may decide: a disposition only those with ids in its range.
     fn append_deciding(&self, change: &Change, numbers: &mut Vec<u64>) -> Result<(), AllocError>
-        ensures { OnOk result ((known : ℕ → Keys) → Indexes self.now known → (n : ℕ) → decides change.now (known n) ≡ true → has n numbers.new.items ≡ true) }
+        ensures { OnOk result ((known : ℕ → Keys) → Indexes self.now known → (n : ℕ) → decides change.now (known n)
+            ≡ true → has n numbers.new.items ≡ true) }
     {
         match change {
             Change::Decided {
@@ -306,7 +325,8 @@ impl Index {
         numbers: &mut BTreeSet<u64>,
     ) -> Result<(), AllocError>
         ensures more { OnOk result ((n : ℕ) → contains nat_cmp numbers.old n ≡ true → contains nat_cmp numbers.new n ≡ true) }
-        ensures found { OnOk result ((known : ℕ → Keys) → Indexes self.now known → (n : ℕ) → concerns change.now (known n) ≡ true → contains nat_cmp numbers.new n ≡ true) }
+        ensures found { OnOk result ((known : ℕ → Keys) → Indexes self.now known → (n : ℕ)
+            → concerns change.now (known n) ≡ true → contains nat_cmp numbers.new n ≡ true) }
     {
         let found = self.concerned(alloc, change)?;
         add_all(numbers, found.as_slice())?;
@@ -315,7 +335,8 @@ impl Index {
 
     /// Appends these numbers.
     fn append_concerned(&self, change: &Change, numbers: &mut Vec<u64>) -> Result<(), AllocError>
-        ensures { OnOk result ((known : ℕ → Keys) → Indexes self.now known → (n : ℕ) → concerns change.now (known n) ≡ true → has n numbers.new.items ≡ true) }
+        ensures { OnOk result ((known : ℕ → Keys) → Indexes self.now known → (n : ℕ)
+            → concerns change.now (known n) ≡ true → has n numbers.new.items ≡ true) }
     {
         match change {
             Change::Ends { gone, .. } => self.append_ended(*gone, numbers)?,
@@ -338,7 +359,9 @@ impl Index {
 
     /// Appends the numbers of the deliveries whose link ends, or whose producer's link ends.
     fn append_ended(&self, gone: Gone, numbers: &mut Vec<u64>) -> Result<(), AllocError>
-        ensures { OnOk result ((known : ℕ → Keys) → Indexes self.now known → (n : ℕ) → (is_gone_there gone (known n).consumer.on || is_gone_there gone (known n).producer.from) ≡ true → has n numbers.new.items ≡ true) }
+        ensures { OnOk result ((known : ℕ → Keys) → Indexes self.now known → (n : ℕ)
+            → (is_gone_there gone (known n).consumer.on || is_gone_there gone (known n).producer.from) ≡ true
+            → has n numbers.new.items ≡ true) }
     {
         self.on.append_gone(gone, numbers)?;
         self.from.append_gone(gone, numbers)?;

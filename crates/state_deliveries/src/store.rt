@@ -223,7 +223,8 @@ impl Store {
     fn settle(&mut self, number: u64, left: Option<Left>)
         ensures deliveries { (n : ℕ) → at_number self.new.deliveries n
             ≡ (if is_left_over left then (if number == n then None else at_number self.old.deliveries n) else at_number self.old.deliveries n) }
-        ensures called { (m : Name) → at_name self.new.by_name m ≡ (if is_left_name left m then None else at_name self.old.by_name m) }
+        ensures called { (m : Name) → at_name self.new.by_name m
+            ≡ (if is_left_name left m then None else at_name self.old.by_name m) }
         ensures index { self.new.index ≡ self.old.index }
         ensures touched { self.new.touched ≡ self.old.touched }
     {
@@ -236,7 +237,8 @@ impl Store {
         }
     }
 
-    /// Adds a message that was bound, under its number and its name, at its place in the order of binding. An earlier delivery of this name is removed.
+    /// Adds a message that was bound, under its number and its name, at its place in the order of binding. An earlier
+    /// delivery of this name, or of this number, is removed.
     pub(crate) fn bind(
         &mut self,
         number: u64,
@@ -330,7 +332,8 @@ impl Store {
 
     /// Gives the delivery of a row the outcome that was decided, if it has none. Returns the place of its id, if it was undecided and had one.
     pub(crate) fn give(&mut self, decision: &Decision) -> Result<Option<Spot>, AllocError>
-        ensures place { IfOk result (λ place. place ≡ (standing (option_and_then (at_number self.old.deliveries) (at_name self.old.by_name (Row decision.now.row)))).consumer.durable) }
+        ensures place { IfOk result (λ place. place
+            ≡ (standing (option_and_then (at_number self.old.deliveries) (at_name self.old.by_name (Row decision.now.row)))).consumer.durable) }
         ensures deliveries { OnOk result (((n : ℕ) → IsKept (at_number self.old.deliveries n)) → Indexed self.old
             → (n : ℕ) → at_number self.new.deliveries n ≡ after_acts (Decide decision.now ∷ []) (at_number self.old.deliveries n)) }
         ensures indexed { OnOk result (Indexed self.old → Indexed self.new) }
@@ -544,7 +547,8 @@ impl Store {
         first: u32,
         last: u32,
     ) -> Result<BTreeSet<u64>, AllocError>
-        ensures { IfOk result (λ numbers. Indexed self.now → (n : ℕ) → is_id_there conn own first last (standing (at_number self.now.deliveries n)).producer.by_id ≡ true
+        ensures { IfOk result (λ numbers. Indexed self.now → (n : ℕ)
+            → is_id_there conn own first last (standing (at_number self.now.deliveries n)).producer.by_id ≡ true
             → contains nat_cmp numbers n ≡ true) }
     {
         let mut numbers = BTreeSet::new(self.alloc);

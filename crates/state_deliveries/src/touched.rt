@@ -42,7 +42,8 @@ impl Touched {
         self.links.remove(link);
     }
 
-    /// Notes the consumer's link of a delivery, if it waits there or is undecided there and was not before, or the other way round.
+    /// Notes the consumer's link of a delivery, if it waits there or is undecided there and was not before, or the
+    /// other way round.
     pub(crate) fn note_consumer(
         &mut self,
         link: u64,
@@ -50,7 +51,8 @@ impl Touched {
         after: AtConsumer,
     ) -> Result<(), AllocError>
         ensures { OnOk result ((k : ℕ) → is_touched_in self.new k ≡ false → (is_touched_in self.old k ≡ false)
-            × (is_number (on_link link before.waits) k ≡ is_number (on_link link after.waits) k) × (is_number (on_link link before.undecided) k ≡ is_number (on_link link after.undecided) k)) }
+            × (is_number (on_link link before.waits) k ≡ is_number (on_link link after.waits) k)
+            × (is_number (on_link link before.undecided) k ≡ is_number (on_link link after.undecided) k)) }
     {
         if before.waits == after.waits && before.undecided == after.undecided {
             return Ok(());

@@ -1,4 +1,4 @@
-use Rattle.std.proofs.Common.{◌≡◌, ◌∙◌, ℕ, ap, sym, false, Option}
+use Rattle.std.proofs.Common.{◌≡◌, ◌∙◌, ℕ, refl, ap, sym, false, Option}
 use Rattle.std.specs.Prelude.{◌==◌}
 use Rattle.std.specs.Option.{option_and_then}
 use Rattle.router_trace.specs.declared.binding.DeliveryName.TheVariants.{Row}
@@ -11,16 +11,16 @@ use Rattle.state_deliveries.proofs.Given.{decided_at, none_of}
 use Rattle.state_deliveries.proofs.Settled.{Stepped, one_stepped, steps_at}
 use Rattle.state_deliveries.proofs.store.Store.give.Goals as goal
 
-stepped : (c : goal.In_ok-left) → Stepped c.args.self.now c.settle.new.self
+stepped : (c : goal.After-settle) → Stepped c.args.self.now c.settle.new.self
 stepped c = one_stepped (with_outcome c.args.decision.now.outcome) c.in-Some.number c.in_ok-left.left c.args.self.now c.settle.new.self
-    (at_number c.give_to-left.new.deliveries) c.give_to-left.new.index c.give_to-left.new.touched (λ d. refl)
+    (at_number c.give_to.new.deliveries) c.give_to.new.index c.give_to.new.touched (λ d. refl)
     c.in_ok-left.ensures.left c.in_ok-left.ensures.deliveries c.settle.ensures.deliveries c.settle.ensures.called c.settle.ensures.index c.settle.ensures.touched
     c.in_ok-left.ensures.indexed c.in_ok-left.ensures.touched
 
 pub returns-clause-deliveries : goal.returns-clause-deliveries
 returns-clause-deliveries c = λ keeps before n.
     steps_at (with_outcome c.args.decision.now.outcome) c.in-Some.number c.in_ok-left.left c.args.self.now c.settle.new.self
-    (at_number c.give_to-left.new.deliveries) c.in_ok-left.ensures.left c.in_ok-left.ensures.deliveries c.settle.ensures.deliveries n
+    (at_number c.give_to.new.deliveries) c.in_ok-left.ensures.left c.in_ok-left.ensures.deliveries c.settle.ensures.deliveries n
     ∙ decided_at c.args.decision.now (c.in-Some.number == n) (at_number c.args.self.now.deliveries n)
     (ap (λ v. is_number v n) (sym c.in-Some.is ∙ c.get.ensures) ∙ before.called (Row c.args.decision.now.row) n) (keeps n)
 

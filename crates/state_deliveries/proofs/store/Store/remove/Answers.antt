@@ -12,22 +12,15 @@ use Rattle.state_deliveries.proofs.Reindexed.{put_at}
 use Rattle.state_deliveries.proofs.Touching.{touches_at}
 use Rattle.state_deliveries.proofs.store.Store.remove.Goals as goal
 
--- the delivery isn't there any more
-gone : (c : goal.In_ok-withdraw) (n : ℕ) → at_number c.take.new.self.deliveries n ≡ (if c.args.number == n then None else at_number c.args.self.now.deliveries n)
-gone c n = c.take.ensures.gone n
-
--- where it stood
-stood : (c : goal.In_ok-withdraw) → standing (at_number c.args.self.now.deliveries c.args.number) ≡ keys c.as_ref-delivery.result.now
-stood c = ap standing (sym c.take.ensures.gives ∙ c.in-Some.is) ∙ sym (ap keys c.as_ref-delivery.ensures)
-
 pub returns-clause-indexed : goal.returns-clause-indexed
 returns-clause-indexed c = λ before.
     let old = at_number c.args.self.now.deliveries in
     let known : ℕ → Keys = λ n. standing (old n) in
+    let was : old c.args.number ≡ Some c.in-Some.taken = sym c.take.ensures.gives ∙ c.in-Some.is in
     record {
-      indexes = put_at c.withdraw.new.self c.args.number (λ v. None) old (at_number c.take.new.self.deliveries) (gone c)
-          (c.in_ok-withdraw.ensures.indexed known (stood c) (subst (λ (x : Index). Indexes x known) (sym c.take.ensures.index) before.indexes));
-      called = called_out c.take.new.self.by_name c.forget.new.self c.args.number c.in-Some.taken old _ (sym c.take.ensures.gives ∙ c.in-Some.is) (gone c)
+      indexes = put_at c.withdraw.new.self c.args.number (λ v. None) old (at_number c.take.new.self.deliveries) c.take.ensures.gone
+          (c.in_ok-withdraw.ensures.indexed known (ap standing was ∙ sym (ap keys c.as_ref-delivery.ensures)) (subst (λ (x : Index). Indexes x known) (sym c.take.ensures.index) before.indexes));
+      called = called_out c.take.new.self.by_name c.forget.new.self c.args.number c.in-Some.taken old (at_number c.take.new.self.deliveries) was c.take.ensures.gone
           (λ m. c.forget.ensures m
           ∙ ap (λ (d : Delivery). if same_name d.name m then None else at_name c.take.new.self.by_name m) (c.delivery.view_is ∙ c.as_ref-delivery.ensures))
           (subst (λ (x : ByName). AreCalled x old) (sym c.take.ensures.by_name) before.called);
@@ -35,5 +28,7 @@ returns-clause-indexed c = λ before.
 
 pub returns-clause-touches : goal.returns-clause-touches
 returns-clause-touches c =
-    touches_at c.args.self.now _ c.args.number (λ v. None) (keys c.as_ref-delivery.result.now) nowhere (sym (stood c)) refl (gone c)
+    let was : at_number c.args.self.now.deliveries c.args.number ≡ Some c.in-Some.taken = sym c.take.ensures.gives ∙ c.in-Some.is in
+    touches_at c.args.self.now _ c.args.number (λ v. None) (keys c.as_ref-delivery.result.now) nowhere
+    (ap keys c.as_ref-delivery.ensures ∙ sym (ap standing was)) refl c.take.ensures.gone
     (λ k f. let noted = c.in_ok-withdraw.ensures.touched k f in (ap (λ s. is_touched_in s k) (sym c.take.ensures.touched) ∙ noted.0, noted.1))
