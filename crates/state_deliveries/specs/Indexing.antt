@@ -102,7 +102,10 @@ abbrev pub keys : Delivery → Keys
 keys d = record { consumer = consumer_keys (seat_of d) (at_consumer d); producer = at_producer d }
 
 abbrev pub nowhere : Keys
-nowhere = record { consumer = record { waiting = None; unsent = None; undecided = None; on = None; durable = None }; producer = no_producer }
+nowhere = record {
+  consumer = record { waiting = None; unsent = None; undecided = None; on = None; durable = None };
+  producer = no_producer;
+}
 
 abbrev pub standing : Option Delivery → Keys
 standing None = nowhere

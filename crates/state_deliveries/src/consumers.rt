@@ -70,7 +70,8 @@ impl Consumers {
         ensures { OnOk result ((number : ℕ) (waiting undecided : ℕ → Option ℕ) → waiting number
             ≡ on_link link before.waits → undecided number ≡ on_link link before.undecided
             → AreTallied self.old waiting undecided
-            → AreTallied self.new (λ n. if number == n then on_link link after.waits else waiting n) (λ n. if number == n then on_link link after.undecided else undecided n)) }
+            → AreTallied self.new (λ n. if number == n then on_link link after.waits else waiting n)
+            (λ n. if number == n then on_link link after.undecided else undecided n)) }
     {
         self.drop_at(
             link,

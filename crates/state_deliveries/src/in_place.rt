@@ -27,14 +27,16 @@ pub(crate) fn change_in(
     change: &Change,
 ) -> Result<Option<Left>, AllocError>
     ensures deliveries { OnOk result ((n : ℕ) → at_number deliveries.new n
-        ≡ (if number == n then option_map (changed change.now) (at_number deliveries.old n) else at_number deliveries.old n)) }
+        ≡ (if number == n then option_map (changed change.now) (at_number deliveries.old n)
+        else at_number deliveries.old n)) }
     ensures left { IfOk result (λ left. left
         ≡ option_map (λ d. left_of (changed change.now d)) (at_number deliveries.old number)) }
     ensures indexed { OnOk result ((known : ℕ → Keys) → known number ≡ standing (at_number deliveries.old number)
         → Indexes index.old known
         → Indexes index.new (λ n. if number == n then standing (stepped (changed change.now) (at_number deliveries.old number)) else known n)) }
     ensures touched { OnOk result ((k : ℕ) → is_touched_in touched.new k ≡ false → (is_touched_in touched.old k ≡ false)
-        × StandsSame k (standing (at_number deliveries.old number)) (standing (stepped (changed change.now) (at_number deliveries.old number)))) }
+        × StandsSame k (standing (at_number deliveries.old number))
+        (standing (stepped (changed change.now) (at_number deliveries.old number)))) }
 {
     let Some(kept) = deliveries.get_mut(number) else {
         return Ok(None);
@@ -57,14 +59,16 @@ pub(crate) fn give_to(
     outcome: &DeliveryState,
 ) -> Result<Option<Left>, AllocError>
     ensures deliveries { OnOk result ((n : ℕ) → at_number deliveries.new n
-        ≡ (if number == n then option_map (with_outcome outcome.now) (at_number deliveries.old n) else at_number deliveries.old n)) }
+        ≡ (if number == n then option_map (with_outcome outcome.now) (at_number deliveries.old n)
+        else at_number deliveries.old n)) }
     ensures left { IfOk result (λ left. left
         ≡ option_map (λ d. left_of (with_outcome outcome.now d)) (at_number deliveries.old number)) }
     ensures indexed { OnOk result ((known : ℕ → Keys) → known number ≡ standing (at_number deliveries.old number)
         → Indexes index.old known
         → Indexes index.new (λ n. if number == n then standing (stepped (with_outcome outcome.now) (at_number deliveries.old number)) else known n)) }
     ensures touched { OnOk result ((k : ℕ) → is_touched_in touched.new k ≡ false → (is_touched_in touched.old k ≡ false)
-        × StandsSame k (standing (at_number deliveries.old number)) (standing (stepped (with_outcome outcome.now) (at_number deliveries.old number)))) }
+        × StandsSame k (standing (at_number deliveries.old number))
+        (standing (stepped (with_outcome outcome.now) (at_number deliveries.old number)))) }
 {
     let Some(kept) = deliveries.get_mut(number) else {
         return Ok(None);
@@ -88,14 +92,16 @@ pub(crate) fn join_in(
     holding: Holding,
 ) -> Result<Option<Left>, AllocError>
     ensures deliveries { OnOk result ((n : ℕ) → at_number deliveries.new n
-        ≡ (if number == n then option_map (held_by holding) (at_number deliveries.old n) else at_number deliveries.old n)) }
+        ≡ (if number == n then option_map (held_by holding) (at_number deliveries.old n)
+        else at_number deliveries.old n)) }
     ensures left { IfOk result (λ left. left
         ≡ option_map (λ d. left_of (held_by holding d)) (at_number deliveries.old number)) }
     ensures indexed { OnOk result ((known : ℕ → Keys) → known number ≡ standing (at_number deliveries.old number)
         → Indexes index.old known
         → Indexes index.new (λ n. if number == n then standing (stepped (held_by holding) (at_number deliveries.old number)) else known n)) }
     ensures touched { OnOk result ((k : ℕ) → is_touched_in touched.new k ≡ false → (is_touched_in touched.old k ≡ false)
-        × StandsSame k (standing (at_number deliveries.old number)) (standing (stepped (held_by holding) (at_number deliveries.old number)))) }
+        × StandsSame k (standing (at_number deliveries.old number))
+        (standing (stepped (held_by holding) (at_number deliveries.old number)))) }
 {
     let Some(kept) = deliveries.get_mut(number) else {
         return Ok(None);
@@ -119,14 +125,16 @@ pub(crate) fn note_in(
     count: u64,
 ) -> Result<Option<Left>, AllocError>
     ensures deliveries { OnOk result ((n : ℕ) → at_number deliveries.new n
-        ≡ (if number == n then option_map (after_frame transfer.now count) (at_number deliveries.old n) else at_number deliveries.old n)) }
+        ≡ (if number == n then option_map (after_frame transfer.now count) (at_number deliveries.old n)
+        else at_number deliveries.old n)) }
     ensures left { IfOk result (λ left. left
         ≡ option_map (λ d. left_of (after_frame transfer.now count d)) (at_number deliveries.old number)) }
     ensures indexed { OnOk result ((known : ℕ → Keys) → known number ≡ standing (at_number deliveries.old number)
         → Indexes index.old known
         → Indexes index.new (λ n. if number == n then standing (stepped (after_frame transfer.now count) (at_number deliveries.old number)) else known n)) }
     ensures touched { OnOk result ((k : ℕ) → is_touched_in touched.new k ≡ false → (is_touched_in touched.old k ≡ false)
-        × StandsSame k (standing (at_number deliveries.old number)) (standing (stepped (after_frame transfer.now count) (at_number deliveries.old number)))) }
+        × StandsSame k (standing (at_number deliveries.old number))
+        (standing (stepped (after_frame transfer.now count) (at_number deliveries.old number)))) }
 {
     let Some(kept) = deliveries.get_mut(number) else {
         return Ok(None);

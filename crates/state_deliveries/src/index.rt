@@ -1,10 +1,13 @@
 //! Indexes of deliveries.
-ghost use Rattle.std.specs.Prelude.{◌≡◌, ◌==◌, ℕ, Bool, None, true, false, if◌then◌else◌, OnOk, IfOk, ◌||◌};
+ghost use Rattle.std.specs.Prelude.{◌≡◌, ◌==◌, ℕ, Bool, Option, None, true, false, if◌then◌else◌, OnOk, IfOk, ◌||◌};
 ghost use Rattle.std.specs.Ordering.{nat_cmp};
 ghost use Rattle.std.specs.BTreeSet.{contains};
 ghost use Rattle.state_deliveries.specs.Deciding.{decides, decide};
-ghost use Rattle.state_deliveries.specs.Indexing.{Keys, ConsumerKeys, Indexes, Begins, ConsumerBegins, ProducerBegins, followed, consumer_after, producer_after, left_of, keys, nowhere, consumer_keys, at_consumer_moved, by_producer_moved, concerns};
-ghost use Rattle.state_deliveries.specs.Placing.{is_gone_there};
+ghost use Rattle.state_deliveries.specs.Indexing.{Keys, ConsumerKeys, Indexes, Begins, ConsumerBegins, ProducerBegins, followed, consumer_after, producer_after, left_of, keys, nowhere, consumer_keys, turn_on, at_consumer_moved, by_producer_moved, concerns};
+ghost use Rattle.router_trace.specs.declared.binding.Rank.{Rank as TheRank};
+ghost use Rattle.state_deliveries.specs.declared.spots.Spot.{Spot as TheSpot};
+ghost use Rattle.state_deliveries.specs.Placing.{HandlesFit, SpotsFit, is_gone_there, on_spot, own_spot, spot_of};
+ghost use Rattle.state_deliveries.specs.Ranking.{in_group, is_turn};
 ghost use Rattle.state_deliveries.specs.Touching.{is_touched_in, SameAtConsumer, StandsSame};
 ghost use Rattle.state_deliveries.specs.declared.standing.AtProducer.{AtProducer as ProducerKeys};
 ghost use Rattle.router_trace.specs.Deliveries.{is_number, is_over};
@@ -69,8 +72,8 @@ impl Index {
     ) -> Result<(), AllocError>
         ensures indexed { OnOk result ((known : ℕ → Keys) → known number ≡ nowhere → Indexes self.old known
             → Indexes self.new (λ n. if number == n then keys delivery.now else known n)) }
-        ensures touched { OnOk result ((k : ℕ) → is_touched_in touched.new k ≡ false → (is_touched_in touched.old k
-            ≡ false) × StandsSame k nowhere (keys delivery.now)) }
+        ensures touched { OnOk result ((k : ℕ) → is_touched_in touched.new k ≡ false
+            → (is_touched_in touched.old k ≡ false) × StandsSame k nowhere (keys delivery.now)) }
     {
         self.shift_consumer(
             touched,
@@ -97,8 +100,8 @@ impl Index {
     ) -> Result<(), AllocError>
         ensures indexed { OnOk result ((known : ℕ → Keys) → known number ≡ keys delivery.now → Indexes self.old known
             → Indexes self.new (λ n. if number == n then nowhere else known n)) }
-        ensures touched { OnOk result ((k : ℕ) → is_touched_in touched.new k ≡ false → (is_touched_in touched.old k
-            ≡ false) × StandsSame k (keys delivery.now) nowhere) }
+        ensures touched { OnOk result ((k : ℕ) → is_touched_in touched.new k ≡ false
+            → (is_touched_in touched.old k ≡ false) × StandsSame k (keys delivery.now) nowhere) }
     {
         self.shift_consumer(
             touched,
@@ -154,7 +157,8 @@ impl Index {
     ) -> Result<(), AllocError>
         ensures indexed { OnOk result ((known : ℕ → Keys)
             → ConsumerBegins before delivery.now (known number).consumer → Indexes self.old known
-            → Indexes self.new (at_consumer_moved number (consumer_after before delivery.now (known number).consumer) known)) }
+            → Indexes self.new (at_consumer_moved number
+            (consumer_after before delivery.now (known number).consumer) known)) }
         ensures touched { OnOk result ((q : ConsumerKeys) (k : ℕ) → ConsumerBegins before delivery.now q
             → is_touched_in touched.new k ≡ false
             → (is_touched_in touched.old k ≡ false) × SameAtConsumer k q (consumer_after before delivery.now q)) }
@@ -183,11 +187,12 @@ impl Index {
     ) -> Result<(), AllocError>
         ensures indexed { OnOk result (over ≡ is_over delivery.now → (known : ℕ → Keys)
             → ProducerBegins before.now (known number).producer → Indexes self.old known
-            → Indexes self.new (by_producer_moved number (producer_after before.now delivery.now (known number).producer) known)) }
+            → Indexes self.new (by_producer_moved number
+            (producer_after before.now delivery.now (known number).producer) known)) }
         ensures touched { OnOk result (over ≡ is_over delivery.now → (q : ProducerKeys) (k : ℕ)
             → ProducerBegins before.now q → is_touched_in touched.new k ≡ false
-            → (is_touched_in touched.old k ≡ false) × (is_number q.held k
-            ≡ is_number (producer_after before.now delivery.now q).held k)) }
+            → (is_touched_in touched.old k ≡ false) × (is_number q.held k ≡ is_number
+            (producer_after before.now delivery.now q).held k)) }
     {
         match before {
             None => {}
@@ -213,18 +218,26 @@ impl Index {
         ensures indexed { OnOk result ((known : ℕ → Keys) → (known number).consumer ≡ consumer_keys seat before
             → Indexes self.old known
             → Indexes self.new (at_consumer_moved number (consumer_keys seat after) known)) }
-        ensures touched { OnOk result ((k : ℕ) → is_touched_in touched.new k ≡ false → (is_touched_in touched.old k
-            ≡ false)
+        ensures touched { OnOk result ((k : ℕ) → is_touched_in touched.new k ≡ false
+            → (is_touched_in touched.old k ≡ false)
             × SameAtConsumer k (consumer_keys seat before) (consumer_keys seat after)) }
     {
         touched.note_consumer(seat.link.number, before, after)?;
         self.consumers.shift(seat.link.number, before, after)?;
-        self.unsent.shift(number, seat.turn(before.goes_on), seat.turn(after.goes_on))?;
-        self.on.shift(number, seat.spot(before.is_on()), seat.spot(after.is_on()))?;
-        self.durable.shift(
+        shift_unsent(
+            &mut self.unsent,
             number,
-            seat.id_spot(before.durable),
-            seat.id_spot(after.durable),
+            seat,
+            before.goes_on,
+            after.goes_on,
+        )?;
+        shift_on(&mut self.on, number, seat, before.is_on(), after.is_on())?;
+        shift_durable(
+            &mut self.durable,
+            number,
+            seat,
+            before.durable,
+            after.durable,
         )?;
         Ok(())
     }
@@ -241,9 +254,8 @@ impl Index {
         ensures indexed { OnOk result ((known : ℕ → Keys) → (known number).producer ≡ before.now
             → Indexes self.old known
             → Indexes self.new (by_producer_moved number after.now known)) }
-        ensures touched { OnOk result ((k : ℕ) → is_touched_in touched.new k ≡ false → (is_touched_in touched.old k
-            ≡ false)
-            × (is_number before.now.held k ≡ is_number after.now.held k)) }
+        ensures touched { OnOk result ((k : ℕ) → is_touched_in touched.new k ≡ false
+            → (is_touched_in touched.old k ≡ false) × (is_number before.now.held k ≡ is_number after.now.held k)) }
     {
         touched.note_moved(before.held, after.held)?;
         self.held.shift(before.held, after.held)?;
@@ -377,6 +389,65 @@ impl Index {
         self.by_id.end(gone)?;
         Ok(())
     }
+}
+
+/// Moves a number to its turn on its link or away from it, if that changes.
+fn shift_unsent(
+    unsent: &mut ByRank,
+    number: u64,
+    seat: Seat,
+    before: bool,
+    after: bool,
+) -> Result<(), AllocError>
+    ensures { OnOk result (
+        ((k : ℕ) (r : TheRank) → in_group unsent.old k r number
+        ≡ is_turn (turn_on seat.link.number seat.rank before) k r)
+        → (k : ℕ) (r : TheRank) (n : ℕ) → in_group unsent.new k r n
+        ≡ (if number == n then is_turn (turn_on seat.link.number seat.rank after) k r else in_group unsent.old k r n)) }
+{
+    if before == after {
+        return Ok(());
+    }
+    unsent.shift(number, seat.turn(before), seat.turn(after))?;
+    Ok(())
+}
+
+/// Moves a number to the place of its link or away from it, if that changes.
+fn shift_on(
+    on: &mut Handles,
+    number: u64,
+    seat: Seat,
+    before: bool,
+    after: bool,
+) -> Result<(), AllocError>
+    ensures { OnOk result ((known : ℕ → Option TheSpot) → known number ≡ on_spot (spot_of seat.link) before
+        → HandlesFit on.old known → HandlesFit on.new
+        (λ n. if number == n then on_spot (spot_of seat.link) after else known n)) }
+{
+    if before == after {
+        return Ok(());
+    }
+    on.shift(number, seat.spot(before), seat.spot(after))?;
+    Ok(())
+}
+
+/// Moves a number from the place of one id that the router gave to that of another, if they differ.
+fn shift_durable(
+    durable: &mut Spots,
+    number: u64,
+    seat: Seat,
+    before: Option<u32>,
+    after: Option<u32>,
+) -> Result<(), AllocError>
+    ensures { OnOk result ((known : ℕ → Option TheSpot) → known number ≡ own_spot seat.link before
+        → SpotsFit durable.old known → SpotsFit durable.new (λ n. if number == n then own_spot seat.link after
+        else known n)) }
+{
+    if before == after {
+        return Ok(());
+    }
+    durable.shift(number, seat.id_spot(before), seat.id_spot(after))?;
+    Ok(())
 }
 
 /// Puts numbers into a set.

@@ -222,7 +222,8 @@ impl Store {
     /// Removes the delivery with a number, if it was changed in its place and is over.
     fn settle(&mut self, number: u64, left: Option<Left>)
         ensures deliveries { (n : ℕ) → at_number self.new.deliveries n
-            ≡ (if is_left_over left then (if number == n then None else at_number self.old.deliveries n) else at_number self.old.deliveries n) }
+            ≡ (if is_left_over left then (if number == n then None else at_number self.old.deliveries n)
+            else at_number self.old.deliveries n) }
         ensures called { (m : Name) → at_name self.new.by_name m
             ≡ (if is_left_name left m then None else at_name self.old.by_name m) }
         ensures index { self.new.index ≡ self.old.index }
@@ -333,7 +334,8 @@ impl Store {
     /// Gives the delivery of a row the outcome that was decided, if it has none. Returns the place of its id, if it was undecided and had one.
     pub(crate) fn give(&mut self, decision: &Decision) -> Result<Option<Spot>, AllocError>
         ensures place { IfOk result (λ place. place
-            ≡ (standing (option_and_then (at_number self.old.deliveries) (at_name self.old.by_name (Row decision.now.row)))).consumer.durable) }
+            ≡ (standing (option_and_then (at_number self.old.deliveries)
+            (at_name self.old.by_name (Row decision.now.row)))).consumer.durable) }
         ensures deliveries { OnOk result (((n : ℕ) → IsKept (at_number self.old.deliveries n)) → Indexed self.old
             → (n : ℕ) → at_number self.new.deliveries n ≡ after_acts (Decide decision.now ∷ []) (at_number self.old.deliveries n)) }
         ensures indexed { OnOk result (Indexed self.old → Indexed self.new) }
