@@ -1,11 +1,9 @@
-use Rattle.std.proofs.Common.{◌≡◌, ◌∙◌, ap, subst, List}
+use Rattle.std.proofs.Common.{◌∙◌, ap, subst}
 use Rattle.std.proofs.lemmas.Result.{IfOk-weaker}
 use Rattle.std.specs.Prelude.{Option}
 use Rattle.amqp_conn.specs.declared.conn.Conn.{Conn}
 use Rattle.reply_rows.specs.declared.answer.Answer.{Answer}
 use Rattle.router_state.specs.Tables.{at_finds}
-use Rattle.router_trace.specs.Connection.{phase_found}
-use Rattle.router_trace.specs.Trace.{Entry}
 use Rattle.router_trace.specs.declared.event.Event.TheVariants as event
 use Rattle.router_reply.specs.Acts.{live_answer}
 use Rattle.router_reply.specs.Deciding.{decided, forgotten, terminus_of_event}
