@@ -18,7 +18,7 @@ use Rattle.journal_store.specs.Store.{exceeds}
 use Rattle.router_trace.specs.declared.event.ConnectionId.{ConnectionId}
 use Rattle.router_trace.specs.declared.event.Event.{Event}
 use Rattle.router_trace.specs.declared.event.Event.TheVariants as event
-use Rattle.router_trace.specs.Trace.{Entry}
+use Rattle.router_trace.specs.Trace.{Entry, Booked}
 use Rattle.router_trace.specs.Connection.{due, standing, found}
 use Rattle.router_trace.specs.Deliveries.{giving, giving_of}
 use Rattle.router_trace.specs.Sessions.{theirs, maps}
@@ -28,10 +28,11 @@ use Rattle.reply_rows.specs.declared.answer.Answer.TheVariants.{Taken}
 use Rattle.reply_rows.specs.Booking.{answer_at}
 use Rattle.reply_rows.proofs.Mapped.{IsHere, answer_here}
 use Rattle.router_reply.specs.declared.heard.Heard.{Heard}
+use Rattle.router_reply.specs.declared.planning.Findings.{Findings}
 use Rattle.router_reply.specs.Acts.{event_answer, live_answer, answer_acts, planned_acts, acts_of, finds_full, journaled}
 use Rattle.router_reply.specs.Admitting.{answer_admission, taken_admission, part_admission, unless_ends, event_admission, admits, without_acts}
 use Rattle.router_reply.specs.Deciding.{decided, forgotten, terminus_of_event}
-use Rattle.router_reply.specs.Heard.{ItemHeard, IsHeard}
+use Rattle.router_reply.specs.Heard.{ItemHeard, IsHeard, IsSession, IsChange}
 use Rattle.router_core.specs.declared.router.Core.{Core}
 use Rattle.router_core.specs.Handling.{Fits, TakenHere, TakenIn, within, with_admission, full_with, kept_book}
 use Rattle.router_core.proofs.Books.{early_of, acts_are, full_is}
@@ -172,3 +173,14 @@ gives core t e full a planned f early answered are =
     event_gives full (kept_book core) t e a planned
     ∙ ap (giving_of e)
     (prepared core t e full a planned (with_admission full (kept_book core) planned (admits (kept_book core) (event_admission (kept_book core) t e a))) f early answered are refl)
+
+-- the session of an event's item is the same after acts; a start has none, and changes nothing at once
+pub session_after : (t : List Entry) (e : Event) (own : Option ℕ) → IsSession t e own → (acts : List Act) (full : List ℕ) → IsSession (Booked acts full ∷ t) e own
+session_after t (event.Item d i) own is acts full = is
+session_after t _ own is acts full = tt
+
+pub start_session : (t : List Entry) (e : Event) (own : Option ℕ) → e ≡ event.Start → IsSession t e own
+start_session t e own is = subst (λ (x : Event). IsSession t x own) (sym is) tt
+
+pub start_change : (ends : List ℕ) (e : Event) (f : Findings) → e ≡ event.Start → IsChange ends e f
+start_change ends e f is = subst (λ (x : Event). IsChange ends x f) (sym is) tt

@@ -14,7 +14,7 @@ ghost use Rattle.book_model.specs.Book.{effects};
 ghost use Rattle.twin_journal.specs.Room.{room};
 ghost use Rattle.router_reply.specs.Acts.{planned_acts, event_answer, acts_of, book_after_event, book_in, found_acts, booked, finds_full, journaled};
 ghost use Rattle.router_reply.specs.Admitting.{admits, event_admission, without_acts};
-ghost use Rattle.router_reply.specs.Heard.{IsHeard};
+ghost use Rattle.router_reply.specs.Heard.{IsHeard, IsSession, IsChange};
 ghost use Rattle.router_reply.specs.Replies.{row_found};
 ghost use Rattle.router_reply.specs.Resuming.{Resumes};
 ghost use Rattle.core_machine.specs.Turns.{declines};
@@ -39,8 +39,8 @@ use reply_rows::Answer;
 use route_table::{Config, Table};
 use router_after::after;
 use router_reply::{
-    Heard, Plan, Resumption, admission_for, free_rows, hear, make_plan, reply, row_in, take_up,
-    told_map,
+    Findings, Heard, Plan, Resumption, admission_for, free_rows, hear, make_plan, reply, row_in,
+    take_up, told_map,
 };
 use router_state::State;
 use router_trace::{ConnectionId, Event, RouterId};
@@ -52,14 +52,15 @@ use twin_journal::{JournalFault, OpenFault};
 /// The batch that was written, if one was: its number and its acts.
 type Written = Option<(u64, Vec<Act>)>;
 
-/// What is planned for an event: whether it finds the journal full, the answer to its item, its acts but for an admission, and what it takes
-/// up again.
+/// What is planned for an event: whether it finds the journal full, the answer to its item, its acts but for an admission,
+/// what it takes up again, and what was found of its item.
 #[derive(Drop)]
 struct Planned {
     full: bool,
     answer: Answer,
     acts: Vec<Act>,
     resumption: Option<Resumption>,
+    found: Findings,
 }
 
 /// What an event does to the book: its acts, and whether it finds the journal full.
@@ -377,6 +378,7 @@ impl<T: Twin> Core<T> {
             answer,
             acts,
             resumption,
+            found,
         } = self.plan(&ready.ends, phase, event)?;
         ready.answer = answer;
         ready.resumption = resumption;
@@ -385,6 +387,7 @@ impl<T: Twin> Core<T> {
             event,
             &ready.ends,
             phase,
+            found,
             &ready.answer,
             &acts,
             &mut ready.heard,
@@ -403,6 +406,8 @@ impl<T: Twin> Core<T> {
         ensures answer { IfOk result (λ p. (t : List Entry) → TablesAt (state_of self.now) t event.now ends.now → phase ≡ phase_found t event.now → p.answer ≡ event_answer p.full (kept_book self.now) t event.now) }
         ensures acts { IfOk result (λ p. (t : List Entry) → TablesAt (state_of self.now) t event.now ends.now → phase ≡ phase_found t event.now → p.acts.items ≡ planned_acts p.full (kept_book self.now) t event.now) }
         ensures resumed { IfOk result (λ p. (t : List Entry) → TablesAt (state_of self.now) t event.now ends.now → phase ≡ phase_found t event.now → Resumes (kept_book self.now) t event.now p.answer p.resumption) }
+        ensures session { IfOk result (λ p. (t : List Entry) → TablesAt (state_of self.now) t event.now ends.now → IsSession t event.now p.found.own) }
+        ensures change { IfOk result (λ p. IsChange ends.now event.now p.found) }
         ensures writable { IfOk result (λ p. Writable (kept_book self.now) p.acts.items) }
     {
         let planned = self.plan_as(false, ends, phase, event)?;
@@ -414,7 +419,7 @@ impl<T: Twin> Core<T> {
     }
 
     /// Plans an event that finds the journal full, or one that finds room.
-    #[tactic(auto, using(crate::proofs::Resuming::start_resumes))]
+    #[tactic(auto, using(crate::proofs::Resuming::start_resumes, crate::proofs::Preparing::start_session, crate::proofs::Preparing::start_change))]
     fn plan_as(
         &self,
         full: bool,
@@ -426,6 +431,8 @@ impl<T: Twin> Core<T> {
         ensures answer { IfOk result (λ p. (t : List Entry) → TablesAt (state_of self.now) t event.now ends.now → phase ≡ phase_found t event.now → p.answer ≡ event_answer full (kept_book self.now) t event.now) }
         ensures acts { IfOk result (λ p. (t : List Entry) → TablesAt (state_of self.now) t event.now ends.now → phase ≡ phase_found t event.now → p.acts.items ≡ planned_acts full (kept_book self.now) t event.now) }
         ensures resumed { IfOk result (λ p. (t : List Entry) → TablesAt (state_of self.now) t event.now ends.now → phase ≡ phase_found t event.now → Resumes (kept_book self.now) t event.now p.answer p.resumption) }
+        ensures session { IfOk result (λ p. (t : List Entry) → TablesAt (state_of self.now) t event.now ends.now → IsSession t event.now p.found.own) }
+        ensures change { IfOk result (λ p. IsChange ends.now event.now p.found) }
         ensures writable { IfOk result (λ p. Writable (kept_book self.now) p.acts.items) }
     {
         if let Event::Start = event {
@@ -434,6 +441,7 @@ impl<T: Twin> Core<T> {
                 answer: Answer::Nothing,
                 acts: self.store.start_acts(self.alloc)?,
                 resumption: None,
+                found: Findings::none(),
             });
         }
         let Plan {
@@ -442,6 +450,7 @@ impl<T: Twin> Core<T> {
             forgotten,
             terminus,
             resumption,
+            found,
         } = make_plan(&self.state, self.store.book(), full, ends, phase, event)?;
         let acts = self
             .store
@@ -451,6 +460,7 @@ impl<T: Twin> Core<T> {
             answer,
             acts,
             resumption,
+            found,
         })
     }
 

@@ -22,7 +22,9 @@ use Rattle.state_links.specs.Fits.{channel_of}
 use Rattle.router_reply.specs.Acts.{event_answer}
 use Rattle.router_reply.specs.Deciding.{as_kept, listed, lost, ended_by, session_found, event_changes, decided}
 use Rattle.router_reply.specs.Deciding.{forgotten, terminus_of_event}
+use Rattle.router_reply.specs.Heard.{IsSession, IsChange}
 use Rattle.router_reply.specs.Resuming.{Resumes, key_resumed, key_held, map_resumed, rows_resumed}
+use Rattle.router_reply.specs.declared.planning.Findings.{Findings}
 use Rattle.router_reply.specs.declared.planning.Plan.{Plan}
 
 -- the session of an item, by the connections that its event ends first
@@ -114,3 +116,15 @@ other_resumes s full b ends phase p _ item loss is =
       rows
           = ap rows_resumed is;
     }
+
+-- what it found of its item
+abbrev pub FindsFor : State → List ℕ → Plan → Event → Type 0
+FindsFor s ends p e = (t : List Entry) → TablesAt s t e ends → IsSession t e p.found.own
+
+pub other_session : (t : List Entry) (e : Event) (own : Option ℕ) → NoItem e → IsSession t e own
+other_session t (event.Item d i) own item = absurd (item d i refl)
+other_session t _ own item = tt
+
+pub other_change : (ends : List ℕ) (e : Event) (f : Findings) → NoItem e → IsChange ends e f
+other_change ends (event.Item d i) f item = absurd (item d i refl)
+other_change ends _ f item = tt

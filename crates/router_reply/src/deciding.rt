@@ -1,9 +1,7 @@
 //! Which rows an event decides: by the changes of deliveries that it brings, and by the map of its attach.
-ghost use Rattle.std.specs.Prelude.{◌≡◌, ◌++◌, ◌∷◌, [], List, ℕ, map, option_map, IfOk, OnOk};
+ghost use Rattle.std.specs.Prelude.{◌≡◌, ◌++◌, ◌∷◌, [], List, ℕ, map, option_map, is_some, IfOk, OnOk};
 ghost use Rattle.amqp_model.specs.declared.item.Item.{Item};
 ghost use Rattle.router_trace.specs.Trace.{Entry};
-ghost use Rattle.router_trace.specs.Deliveries.{none_if_ended};
-ghost use Rattle.router_trace.specs.Sessions.{session_on};
 ghost use Rattle.reply_rows.specs.declared.answer.Answer.TheVariants as reply;
 ghost use Rattle.router_state.specs.Tables.{TablesFind};
 ghost use Rattle.state_links.specs.Fits.{channel_of};
@@ -14,7 +12,7 @@ use amqp_model::Item;
 use book_model::Decision;
 use reply_frames::kept_outcome;
 use reply_rows::Answer;
-use router_state::{State, none_if_ended};
+use router_state::State;
 use router_trace::Attachment;
 use state_deliveries::{Change, Gone};
 use std::alloc::{AllocError, Global};
@@ -100,7 +98,7 @@ fn add_some(changes: &mut Vec<Change>, change: Option<Change>) -> Result<(), All
 
 /// Changes of deliveries: that by an item, if there is one, those by the loss of these connections, and that by an
 /// answer.
-pub(crate) fn changes(
+fn changes(
     alloc: Global,
     first: Option<Change>,
     ends: &[u64],
@@ -131,16 +129,8 @@ pub(crate) fn changes_lost(
     Ok(changes)
 }
 
-/// The session of an item, as an event finds it that ends these connections first.
-pub(crate) fn session_found(state: &State, ends: &[u64], conn: u64, item: &Item) -> Option<u16>
-    ensures { (t : List Entry) → TablesFind state.now t
-        → result ≡ none_if_ended ends.now conn (session_on t conn (channel_of item.now)) }
-{
-    none_if_ended(ends, conn, state.own_channel(conn, channel_of(item)))
-}
-
 /// The channel of an item; 0 if it has none.
-fn channel_of(item: &Item) -> u16
+pub(crate) fn channel_of(item: &Item) -> u16
     ensures { result ≡ channel_of item.now }
 {
     match item {
@@ -181,33 +171,57 @@ fn all_kept(alloc: Global, rows: &[Decision]) -> Result<Vec<Decision>, AllocErro
     Ok(kept)
 }
 
-/// The rows that these changes of deliveries decide, each with its outcome as the router keeps it; then `by_map`, those
-/// that the map of an attach decides.
+/// The rows that changes of deliveries decide, each with its outcome as the router keeps it: `change`, that by an item, if
+/// there is one, those by the loss of these connections, and `ended`, that by an answer; then `by_map`, those that the map
+/// of an attach decides. The change by the item is given back.
 ///
 /// # Errors
 ///
 /// `AllocError` if memory was refused.
 pub(crate) fn decided(
     state: &State,
-    changes: Vec<Change>,
+    change: Option<Change>,
+    ends: &[u64],
+    ended: Option<Change>,
     by_map: Vec<Decision>,
-) -> Result<Vec<Decision>, AllocError>
-    ensures { IfOk result (λ rows. (t : List Entry) → TablesFind state.now t
-        → rows.items ≡ map as_kept (decided_rows t changes.items) ++ by_map.items) }
+) -> Result<(Vec<Decision>, Option<Change>), AllocError>
+    ensures rows { IfOk result (λ made. (t : List Entry) → TablesFind state.now t → made.0.items
+        ≡ map as_kept (decided_rows t (listed change ++ map lost ends.now ++ listed ended)) ++ by_map.items) }
+    ensures change { IfOk result (λ made. made.1 ≡ change) }
 {
-    let Ok(rows) = changed_rows(state, changes) else {
+    let is_first = change.is_some();
+    let Ok(changes) = changes(state.alloc(), change, ends, ended) else {
         drop(by_map);
         return Err(AllocError);
     };
-    joined(rows, by_map)
+    let Ok(rows) = changed_rows(state, &changes) else {
+        drop(by_map);
+        drop(changes);
+        return Err(AllocError);
+    };
+    let Ok(rows) = joined(rows, by_map) else {
+        drop(changes);
+        return Err(AllocError);
+    };
+    Ok((rows, first_of(is_first, changes)))
+}
+
+/// The first change of a list, if it begins with one that was given.
+fn first_of(is_first: bool, changes: Vec<Change>) -> Option<Change>
+    ensures { (first : Option Change) (lost ended : List Change) → is_first ≡ is_some first
+        → changes.items ≡ listed first ++ lost ++ ended → result ≡ first }
+{
+    if !is_first {
+        return None;
+    }
+    changes.into_iter().next()
 }
 
 /// The rows that these changes of deliveries decide, each with its outcome as the router keeps it.
-fn changed_rows(state: &State, changes: Vec<Change>) -> Result<Vec<Decision>, AllocError>
+pub(crate) fn changed_rows(state: &State, changes: &[Change]) -> Result<Vec<Decision>, AllocError>
     ensures { IfOk result (λ rows. (t : List Entry) → TablesFind state.now t
-        → rows.items ≡ map as_kept (decided_rows t changes.items)) }
+        → rows.items ≡ map as_kept (decided_rows t changes.now)) }
 {
-    let rows = state.decided_rows(&changes)?;
-    drop(changes);
+    let rows = state.decided_rows(changes)?;
     all_kept(state.alloc(), &rows)
 }

@@ -6,8 +6,9 @@ ghost use Rattle.router_trace.specs.Deliveries.{acts_found, ended_first, giving,
 ghost use Rattle.router_trace.specs.Refusing.{refuses};
 ghost use Rattle.router_trace.specs.declared.event.Event.TheVariants as event;
 ghost use Rattle.router_state.specs.Tables.{TablesFit, TablesAt, TablesFind, beats};
-ghost use Rattle.router_reply.specs.Heard.{ids_found, ItemHeard, IsHeard};
+ghost use Rattle.router_reply.specs.Heard.{ids_found, ItemHeard, IsHeard, IsSession, IsChange};
 
+use crate::planning::Findings;
 use amqp_conn::Conn;
 use amqp_link::Part;
 use amqp_model::Item;
@@ -63,17 +64,22 @@ fn hear_item(
     item: &Item,
     ends: &[u64],
     phase: Option<Conn>,
+    found: Findings,
     answer: &Answer,
     acts: &[Act],
     heard: &mut Heard,
 ) -> Result<(), AllocError>
-    ensures heard { OnOk result ((t : List Entry) (ends : List ℕ) → TablesAt state.old t (event.Item conn item.now) ends → phase ≡ phase_found t (event.Item conn item.now) → ItemHeard t conn item.now answer.now heard.new) }
-    ensures fits { OnOk result ((t : List Entry) → TablesAt state.old t (event.Item conn item.now) ends.now → ended_first t ≡ ends.now
+    ensures heard { OnOk result ((t : List Entry) (ends : List ℕ) → TablesAt state.old t (event.Item conn item.now) ends
+        → phase ≡ phase_found t (event.Item conn item.now) → IsSession t (event.Item conn item.now) found.own
+        → ItemHeard t conn item.now answer.now heard.new) }
+    ensures fits { OnOk result ((t : List Entry) → TablesAt state.old t (event.Item conn item.now) ends.now
+        → IsSession t (event.Item conn item.now) found.own → IsChange ends.now (event.Item conn item.now) found
+        → ended_first t ≡ ends.now
         → giving item.now acts.now ≡ giving item.now (acts_found t) → TablesFit state.new (did (event.Item conn item.now) ∷ t)) }
 {
     heard.phase = phase;
     heard.ids = ids_in(state, conn.0, item, answer)?;
-    heard.part = state.hear(conn, item, ends, acts)?;
+    heard.part = state.hear(conn, found.own, found.change, item, ends, acts)?;
     Ok(())
 }
 
@@ -88,7 +94,7 @@ fn hear_tick(state: &mut State, moment: u64, heard: &mut Heard) -> Result<(), Al
 }
 
 /// Handles an event that is not refused, and puts nothing, after the turn that ended these connections because their outboxes were full
-/// (`State::turn`); `phase` is the phase of the item's connection as the event finds it, and `acts` are those that were planned. Fills in what the answer to it needs; the fields of `heard` that such an
+/// (`State::turn`); `phase` is the phase of the item's connection as the event finds it, `found` what its plan found, and `acts` are those that were planned. Fills in what the answer to it needs; the fields of `heard` that such an
 /// event doesn't fill stay as they were.
 ///
 /// # Errors
@@ -99,17 +105,23 @@ pub fn hear(
     event: &Event,
     ends: &[u64],
     phase: Option<Conn>,
+    found: Findings,
     answer: &Answer,
     acts: &[Act],
     heard: &mut Heard,
 ) -> Result<(), AllocError>
-    ensures heard { OnOk result ((t : List Entry) (ends : List ℕ) → TablesAt state.old t event.now ends → phase ≡ phase_found t event.now → IsHeard t event.now answer.now heard.new) }
-    ensures fits { OnOk result ((t : List Entry) → TablesAt state.old t event.now ends.now → ended_first t ≡ ends.now → refuses t event.now ≡ false
+    ensures heard { OnOk result ((t : List Entry) (ends : List ℕ) → TablesAt state.old t event.now ends → phase ≡ phase_found t event.now
+        → IsSession t event.now found.own → IsHeard t event.now answer.now heard.new) }
+    ensures fits { OnOk result ((t : List Entry) → TablesAt state.old t event.now ends.now
+        → IsSession t event.now found.own → IsChange ends.now event.now found
+        → ended_first t ≡ ends.now → refuses t event.now ≡ false
         → giving_of event.now acts.now ≡ giving_of event.now (acts_found t) → TablesFit state.new (did event.now ∷ t)) }
 {
     match event {
         Event::Up(conn, peer) => state.up(*conn, peer),
-        Event::Item(conn, item) => hear_item(state, *conn, item, ends, phase, answer, acts, heard),
+        Event::Item(conn, item) => {
+            hear_item(state, *conn, item, ends, phase, found, answer, acts, heard)
+        }
         Event::Down(conn) => state.down(*conn),
         Event::Tick(moment) => hear_tick(state, *moment, heard),
         Event::Start => {

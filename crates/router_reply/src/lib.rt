@@ -15,5 +15,5 @@ pub use admitting::{admission_for, row_in};
 pub use events::reply;
 pub use heard::{Heard, hear};
 pub use holding::free_rows;
-pub use planning::{Plan, make_plan};
+pub use planning::{Findings, Plan, make_plan};
 pub use resuming::{ConsumerResumption, ProducerResumption, Resumption, take_up, told_map};

@@ -13,6 +13,7 @@ ghost use Rattle.router_reply.specs.Deciding.{as_kept, listed, lost, stolen_from
 ghost use Rattle.router_reply.specs.Deciding.{forgotten, forgotten_by, forgotten_in, terminus_by, terminus_in};
 ghost use Rattle.router_reply.specs.Deciding.{terminus_of_event};
 ghost use Rattle.router_reply.specs.Doing.{TakesUp};
+ghost use Rattle.router_reply.specs.Heard.{IsSession, IsChange};
 ghost use Rattle.router_reply.specs.Resuming.{Resumes, attach_within, key_by, key_in};
 
 mod attach;
@@ -21,7 +22,7 @@ mod disposition;
 mod doings;
 mod transfer;
 
-use crate::deciding::{changes, changes_lost, decided, ended_by, joined, session_found};
+use crate::deciding::{changed_rows, changes_lost, channel_of, decided, ended_by, joined};
 use crate::planning::doings::Doings;
 use crate::resuming::{Resumption, planned_decisions, planned_forgotten};
 use amqp_conn::Conn;
@@ -30,10 +31,29 @@ use book_core::Book;
 use book_model::{Decision, RowNumber};
 use journal_store::TerminusAct;
 use reply_rows::{Answer, item_answer};
-use router_state::State;
+use router_state::{State, none_if_ended};
 use router_trace::{ConnectionId, Event};
 use state_deliveries::Change;
 use std::alloc::AllocError;
+
+/// What the plan of an item found, that its handling goes on with.
+#[derive(Drop)]
+pub struct Findings {
+    /// The router's channel of its session, if its channel has one.
+    pub own: Option<u16>,
+    /// What it changes of deliveries at once, unless the event ends its connection first.
+    pub change: Option<Change>,
+}
+
+impl Findings {
+    /// Those of an event that is no item.
+    pub fn none() -> Findings {
+        Findings {
+            own: None,
+            change: None,
+        }
+    }
+}
 
 /// What an event is answered with, and what it does to the book but for an admission.
 #[derive(Drop)]
@@ -50,6 +70,8 @@ pub struct Plan {
     /// What it takes up again; what the map of its attach decides and forgets is among the rows that it decides and
     /// forgets.
     pub resumption: Option<Resumption>,
+    /// What was found of its item.
+    pub found: Findings,
 }
 
 /// What a performative with this answer does, on its session, but for a SASL frame.
@@ -128,12 +150,15 @@ fn planned(
         → plan.terminus ≡ terminus_of_event book.now t (event.Item conn item.now) answer) }
     ensures resumed { IfOk result (λ plan. (t : List Entry) → TablesAt state.now t (event.Item conn item.now) ends.now
         → Resumes book.now t (event.Item conn item.now) answer plan.resumption) }
+    ensures session { IfOk result (λ plan. (t : List Entry) → TablesAt state.now t (event.Item conn item.now) ends.now
+        → IsSession t (event.Item conn item.now) plan.found.own) }
+    ensures change { IfOk result (λ plan. IsChange ends.now (event.Item conn item.now) plan.found) }
 {
-    let own = session_found(state, ends, conn.0, item);
-    let change = Change::of_item(conn.0, own, item)?;
-    let does = done_in(state, book, conn.0, own, item, &answer)?;
+    let own = state.own_channel(conn.0, channel_of(item));
+    let here = none_if_ended(ends, conn.0, own);
+    let does = done_in(state, book, conn.0, here, item, &answer)?;
+    let change = Change::of_item(conn.0, here, item)?;
     let ended = ended_by(conn.0, &answer, does.stolen);
-    let changes = changes(state.alloc(), change, ends, ended)?;
     let Doings {
         stolen: _stolen,
         forgotten,
@@ -142,7 +167,7 @@ fn planned(
     } = does;
     let mut resumption = resumption;
     let by_map = planned_decisions(state.alloc(), &mut resumption);
-    let decided = decided(state, changes, by_map)?;
+    let (decided, change) = decided(state, change, ends, ended, by_map)?;
     let lacking = planned_forgotten(state.alloc(), &mut resumption);
     let forgotten = joined(forgotten, lacking)?;
     Ok(Plan {
@@ -151,6 +176,7 @@ fn planned(
         forgotten,
         terminus,
         resumption,
+        found: Findings { own, change },
     })
 }
 
@@ -201,6 +227,9 @@ fn item_plan(
     ensures resumed { IfOk result (λ plan. (t : List Entry) → TablesAt state.now t (event.Item conn item.now) ends.now
         → phase ≡ phase_found t (event.Item conn item.now)
         → Resumes book.now t (event.Item conn item.now) (event_answer full book.now t (event.Item conn item.now)) plan.resumption) }
+    ensures session { IfOk result (λ plan. (t : List Entry) → TablesAt state.now t (event.Item conn item.now) ends.now
+        → IsSession t (event.Item conn item.now) plan.found.own) }
+    ensures change { IfOk result (λ plan. IsChange ends.now (event.Item conn item.now) plan.found) }
 {
     let answer = answered(state, book, full, phase, conn.0, item)?;
     planned(state, book, ends, conn, item, answer)
@@ -217,13 +246,15 @@ fn lost_plan(state: &State, down: Option<u64>, ends: &[u64]) -> Result<Plan, All
     ensures resumption { IfOk result (λ plan. plan.resumption ≡ None) }
 {
     let changes = changes_lost(state.alloc(), down, ends)?;
-    let decided = decided(state, changes, Vec::new(state.alloc()))?;
+    let rows = changed_rows(state, &changes)?;
+    let decided = joined(rows, Vec::new(state.alloc()))?;
     Ok(Plan {
         answer: Answer::Nothing,
         decided,
         forgotten: Vec::new(state.alloc()),
         terminus: None,
         resumption: None,
+        found: Findings::none(),
     })
 }
 
@@ -258,6 +289,9 @@ pub fn make_plan(
     ensures resumed { IfOk result (λ plan. (t : List Entry) → TablesAt state.now t event.now ends.now
         → phase ≡ phase_found t event.now
         → Resumes book.now t event.now (event_answer full book.now t event.now) plan.resumption) }
+    ensures session { IfOk result (λ plan. (t : List Entry) → TablesAt state.now t event.now ends.now
+        → IsSession t event.now plan.found.own) }
+    ensures change { IfOk result (λ plan. IsChange ends.now event.now plan.found) }
 {
     match event {
         Event::Item(conn, item) => item_plan(state, book, full, ends, phase, *conn, item),

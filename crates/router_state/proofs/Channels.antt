@@ -12,3 +12,12 @@ by_maps None (Some (Mapped own)) same = absurd (true≢false (sym (eq-eqb own ow
 by_maps (Some r) None same = absurd (true≢false (sym (eq-eqb r r refl) ∙ same r))
 by_maps (Some r) (Some Ending) same = absurd (true≢false (sym (eq-eqb r r refl) ∙ same r))
 by_maps (Some r) (Some (Mapped own)) same = ap Some (sym (eqb-true own r (sym (same r) ∙ eq-eqb r r refl)))
+
+-- a channel passes the same test as the session's
+of_session : (v : Option PeerChannel) (o : ℕ) → is_channel (own_of v) o ≡ maps v o
+of_session None o = refl
+of_session (Some Ending) o = refl
+of_session (Some (Mapped own)) o = refl
+
+pub on_session : (own : Option ℕ) (v : Option PeerChannel) → own ≡ own_of v → (o : ℕ) → is_channel own o ≡ maps v o
+on_session own v is o = ap (λ (r : Option ℕ). is_channel r o) is ∙ of_session v o

@@ -4,15 +4,16 @@ ghost use Rattle.std.specs.Prelude.{is_some};
 ghost use Rattle.route_table.specs.Places.{FindsAs};
 ghost use Rattle.router_trace.specs.Trace.{Beginning, Trace};
 ghost use Rattle.router_trace.specs.Configuration.{opened, distribution, is_multicast};
-ghost use Rattle.router_trace.specs.Sessions.{theirs, maps, session};
+ghost use Rattle.router_trace.specs.Sessions.{theirs, maps, session, session_on};
 ghost use Rattle.router_trace.specs.Frames.{told_of};
 ghost use Rattle.router_trace.specs.Links.{link, place_of, is_attached, durable_key};
 ghost use Rattle.router_trace.specs.Claims.{claims};
 ghost use Rattle.router_trace.specs.Settling.{part_of, is_claimed, is_claimed_on, ids_claimed, open_ids, unbound};
-ghost use Rattle.router_trace.specs.Deliveries.{called, joined_by, owned_in, acts_found, delivery, rank_at, ended_first, giving, is_to_tell, sending, named, next_id};
+ghost use Rattle.router_trace.specs.Deliveries.{called, joined_by, owned_in, acts_found, delivery, rank_at, ended_first, none_if_ended, giving, is_to_tell, sending, named, next_id};
 ghost use Rattle.router_trace.specs.declared.binding.DeliveryName.TheVariants.{Row};
 ghost use Rattle.router_trace.specs.Following.{link_of, first_delivery, is_unsent_on, is_wide, is_busy, is_used, takes_more};
 ghost use Rattle.state_deliveries.specs.Calling.{Knows};
+ghost use Rattle.state_deliveries.specs.Hearing.{heard_change};
 ghost use Rattle.state_deliveries.specs.Finding.{IsFirst, IsFirstBy, is_above, is_beyond};
 ghost use Rattle.state_messages.specs.Messages.{attachment_at, consumer_of, binding_for, taken_up_by, with_bound, grants_due, grant_flow};
 ghost use Rattle.state_messages.specs.Asking.{consumer_with, has_unsent, goes_on, owes_drain, drained_state};
@@ -50,7 +51,7 @@ use router_trace::{
     Peer, Resumed, SESSION_WINDOW, beat_item, link_flow_item,
 };
 use state_connections::{Clocks, Connections, Peers, Ready, Refused, Taken};
-use state_deliveries::Delivery as Bound;
+use state_deliveries::{Change, Delivery as Bound};
 use state_messages::{LinkGrant, Messages};
 use state_sessions::{Place, Sessions};
 use state_unsettled::IncomingDelivery;
@@ -243,25 +244,32 @@ impl State {
         Ok(())
     }
 
-    /// An item was received on a connection, by an event that ended these connections first (`State::turn`) and has these acts. Returns what a transfer
-    /// makes of its delivery.
-    #[tactic(auto, using(crate::proofs::Bound::found_on_session))]
+    /// An item was received on a connection, by an event that ended these connections first (`State::turn`) and has these
+    /// acts; `own` is the router's channel of its session, if its channel has one (`State::own_channel`), and `change`
+    /// what it changes of deliveries at once (`Change::of_item`), on that session unless the event ended the connection.
+    /// Returns what a transfer makes of its delivery.
+    #[tactic(auto, using(crate::proofs::Bound::found_on_session, crate::proofs::Channels::on_session))]
     pub fn hear(
         &mut self,
         conn: ConnectionId,
+        own: Option<u16>,
+        change: Option<Change>,
         item: &Item,
         ends: &[u64],
         acts: &[Act],
     ) -> Result<Option<Part>, AllocError>
-        ensures part { IfOk result (λ part. (t : List Entry) (ends : List ℕ) (own : ℕ) → TablesAt self.old t (event.Item conn item.now) ends → maps (theirs t conn.0 (channel_of item.now)) own ≡ true → part ≡ part_of item.now (link_place t conn.0 own)) }
-        ensures fits { OnOk result ((t : List Entry) → TablesAt self.old t (event.Item conn item.now) ends.now → ended_first t ≡ ends.now
+        ensures part { IfOk result (λ part. (t : List Entry) (ends : List ℕ) (o : ℕ) → TablesAt self.old t (event.Item conn item.now) ends
+            → own ≡ session_on t conn.0 (channel_of item.now) → maps (theirs t conn.0 (channel_of item.now)) o ≡ true
+            → part ≡ part_of item.now (link_place t conn.0 o)) }
+        ensures fits { OnOk result ((t : List Entry) → TablesAt self.old t (event.Item conn item.now) ends.now
+            → own ≡ session_on t conn.0 (channel_of item.now)
+            → change ≡ heard_change conn.0 (none_if_ended ends.now conn.0 own) item.now → ended_first t ≡ ends.now
             → giving item.now acts.now ≡ giving item.now (acts_found t) → TablesFit self.new (did (event.Item conn item.now) ∷ t)) }
     {
-        let own = self.sessions.own_channel(conn.0, channel_of(item));
         let found = none_if_ended(ends, conn.0, own);
         self.clocks.hear(conn, item)?;
         self.peers.hear(conn, item)?;
-        let part = self.messages.hear(conn, own, found, item, acts)?;
+        let part = self.messages.hear(conn, own, found, change, item, acts)?;
         self.sessions.hear(conn, item)?;
         Ok(part)
     }
@@ -677,16 +685,6 @@ fn told_by(window: Option<Window>) -> Option<FlowState>
 {
     let mut window = window?;
     Some(window.flow_state(SESSION_WINDOW))
-}
-
-/// The channel of an item; 0 if it has none.
-fn channel_of(item: &Item) -> u16
-    ensures { result ≡ channel_of item.now }
-{
-    match item {
-        Item::Frame { channel, .. } => *channel,
-        _ => 0,
-    }
 }
 
 /// The key that the table of links needs for an outgoing item: that of an attach.

@@ -99,7 +99,15 @@ impl Change {
     pub fn of_item(conn: u64, own: Option<u16>, item: &Item) -> Result<Option<Change>, AllocError>
         ensures { IfOk result (λ made. made ≡ heard_change conn own item.now) }
     {
-        after_heard(conn, own, item)
+        match item {
+            Item::Frame { sasl, perf, .. } => {
+                if *sasl {
+                    return Ok(None);
+                }
+                after_perf(conn, own, perf)
+            }
+            _ => Ok(None),
+        }
     }
 
     /// Whether it may move a delivery at its consumer's link. That the producer was told or has settled it moves
@@ -205,25 +213,6 @@ pub(crate) fn untold_by(conn: u64, own: u16, disposition: &Disposition) -> Optio
         first: disposition.first,
         last: disposition.last.unwrap_or(disposition.first),
     })
-}
-
-/// The immediate change to deliveries by an item of the peer, on the session with the router's channel `own`, if there is one.
-pub(crate) fn after_heard(
-    conn: u64,
-    own: Option<u16>,
-    item: &Item,
-) -> Result<Option<Change>, AllocError>
-    ensures { IfOk result (λ change. change ≡ heard_change conn own item.now) }
-{
-    match item {
-        Item::Frame { sasl, perf, .. } => {
-            if *sasl {
-                return Ok(None);
-            }
-            after_perf(conn, own, perf)
-        }
-        _ => Ok(None),
-    }
 }
 
 /// The immediate change to deliveries by a performative of the peer.

@@ -14,13 +14,14 @@ ghost use Rattle.router_trace.specs.Settling.{open_ids};
 ghost use Rattle.state_deliveries.specs.Calling.{Knows};
 ghost use Rattle.state_deliveries.specs.Deciding.{decided_rows, rows_from};
 ghost use Rattle.router_trace.specs.Counting.{IsCount};
+ghost use Rattle.state_deliveries.specs.Hearing.{heard_change};
 ghost use Rattle.state_deliveries.specs.Finding.{IsFirst, IsFirstBy, count_deliveries, is_above, is_beyond};
 ghost use Rattle.state_deliveries.specs.Naming.{Remembers};
 ghost use Rattle.router_trace.specs.Channels.{channel_of};
 ghost use Rattle.state_deliveries.specs.Fits.{DeliveriesFit, AreSending};
 ghost use Rattle.state_deliveries.specs.Touching.{is_touched, Touches};
 
-use crate::change::{Change, after_heard};
+use crate::change::Change;
 use crate::deciding::{decided_rows, rows_from};
 use crate::delivery::{Delivery, Producers};
 use crate::giving::give;
@@ -275,22 +276,23 @@ impl Deliveries {
         Ok(())
     }
 
-    /// An item was received on a connection; `own` is the router's channel of its session, if its channel has one and the event didn't
-    /// end the connection first. `acts` are those of the event: if the item is an attach, its deliveries get the outcomes that they give
-    /// their rows.
+    /// An item was received on a connection; `own` is the router's channel of its session, if its channel has one and the
+    /// event didn't end the connection first, and `change` is what the item changes at once (`Change::of_item`). `acts`
+    /// are those of the event: if the item is an attach, its deliveries get the outcomes that they give their rows.
     pub fn hear(
         &mut self,
         conn: ConnectionId,
         own: Option<u16>,
+        change: Option<Change>,
         item: &Item,
         acts: &[Act],
     ) -> Result<(), AllocError>
         ensures fits { OnOk result ((t : List Entry) → ((o : ℕ) → is_channel own o ≡ maps (channels_found t conn.0 (channel_of item.now)) o)
+            → change ≡ heard_change conn.0 own item.now
             → giving item.now acts.now ≡ giving item.now (acts_found t)
             → DeliveriesFit self.old t → DeliveriesFit self.new (did (event.Item conn item.now) ∷ t)) }
         ensures touches { OnOk result (Touches self.old self.new) }
     {
-        let change = after_heard(conn.0, own, item)?;
         hear(&mut self.store, &self.names, change)?;
         let mut given = Vec::new(self.alloc);
         give(&mut self.store, item, acts, &mut given)?;

@@ -10,6 +10,7 @@ ghost use Rattle.router_trace.specs.Settling.{part_at};
 ghost use Rattle.router_trace.specs.declared.event.Event.TheVariants as event;
 ghost use Rattle.state_unsettled.specs.Incoming.{IncomingFit};
 ghost use Rattle.state_deliveries.specs.Fits.{DeliveriesFit};
+ghost use Rattle.state_deliveries.specs.Hearing.{heard_change};
 ghost use Rattle.state_links.specs.Fits.{LinksFit, key_by, channel_of};
 ghost use Rattle.state_messages.specs.Fits.{MessagesFit};
 
@@ -19,7 +20,7 @@ use amqp_model::Item;
 use book_model::{Act, LinkKey};
 use route_table::Table;
 use router_trace::ConnectionId;
-use state_deliveries::Deliveries;
+use state_deliveries::{Change, Deliveries};
 use state_links::Links;
 use state_pools::Pools;
 use state_unsettled::IncomingDeliveries;
@@ -81,25 +82,28 @@ impl Messages {
         Ok(())
     }
 
-    /// An item was received on a connection; `own` is the router's channel of its session, if it has one, and `found` the same, unless the event
-    /// ended the connection first; `acts` are those of the event. Returns what a transfer makes of its delivery.
+    /// An item was received on a connection; `own` is the router's channel of its session, if it has one, and `found` the
+    /// same, unless the event ended the connection first; `change` is what the item changes of deliveries at once
+    /// (`Change::of_item`), and `acts` are those of the event. Returns what a transfer makes of its delivery.
     pub fn hear(
         &mut self,
         conn: ConnectionId,
         own: Option<u16>,
         found: Option<u16>,
+        change: Option<Change>,
         item: &Item,
         acts: &[Act],
     ) -> Result<Option<Part>, AllocError>
         ensures part { IfOk result (λ part. (t : List Entry) → MessagesFit self.old t → part ≡ part_at t conn.0 own item.now) }
         ensures fits { OnOk result ((t : List Entry) → ((o : ℕ) → is_channel own o ≡ maps (theirs t conn.0 (channel_of item.now)) o)
             → ((o : ℕ) → is_channel found o ≡ maps (channels_found t conn.0 (channel_of item.now)) o)
+            → change ≡ heard_change conn.0 found item.now
             → giving item.now acts.now ≡ giving item.now (acts_found t)
             → MessagesFit self.old t → MessagesFit self.new (did (event.Item conn item.now) ∷ t)) }
     {
         let link = receiving(&self.links, conn.0, own, item);
         self.incoming.hear(conn, own, item, link)?;
-        self.deliveries.hear(conn, found, item, acts)?;
+        self.deliveries.hear(conn, found, change, item, acts)?;
         let part = self.links.hear(conn, own, item)?;
         Ok(part)
     }

@@ -3,8 +3,11 @@ use Rattle.std.specs.Prelude.{Option, map}
 use Rattle.book_model.specs.declared.act.Decision.{Decision}
 use Rattle.book_model.specs.declared.row.RowNumber.{RowNumber}
 use Rattle.router_state.specs.Tables.{at_finds}
+use Rattle.router_trace.specs.Deliveries.{none_if_ended}
+use Rattle.router_trace.specs.Sessions.{session_on}
 use Rattle.router_trace.specs.declared.event.Event.TheVariants as event
 use Rattle.state_deliveries.specs.Deciding.{decided_rows}
+use Rattle.state_deliveries.specs.Hearing.{heard_change}
 use Rattle.state_deliveries.specs.declared.change.Change.{Change}
 use Rattle.router_reply.specs.Deciding.{as_kept, event_changes, forgotten_in, session_found}
 use Rattle.router_reply.proofs.Planned.{found_as, changed_as}
@@ -14,12 +17,14 @@ pub returns-clause-decided : goal.returns-clause-decided
 returns-clause-decided c = λ t at.
     let conn = c.args.conn in
     let item = c.args.item.now in
-    let own = c.session_found-own.result in
-    let found = found_as t conn item own c.args.ends.now (c.session_found-own.ensures t (at_finds at)) at.are_due in
-    c.in_ok-decided.ensures t (at_finds at)
+    let own = c.none_if_ended-here.result in
+    let found = found_as t conn item own c.args.ends.now
+    (c.none_if_ended-here.ensures
+    ∙ ap (λ (o : Option ℕ). none_if_ended c.args.ends.now conn.0 o)
+    (c.own_channel-own.ensures t (at_finds at) ∙ ap (λ (k : ℕ). session_on t conn.0 k) c.channel_of.ensures)) at.are_due in
+    c.in_ok-decided.ensures.rows t (at_finds at)
     ∙ ap (λ (cs : List Change). map as_kept (decided_rows t cs) ++ c.planned_decisions-by_map.result.items)
-    (c.in_ok-changes.ensures
-    ∙ changed_as t conn item c.args.answer own c.args.ends.now c.in_ok-change.change
+    (changed_as t conn item c.args.answer own c.args.ends.now c.in_ok-change.change
     c.ended_by-ended.result found at.are_due c.in_ok-change.ensures
     (c.ended_by-ended.ensures t item (λ on is. c.in_ok-does.ensures.stolen t on (at_finds at) is)))
     ∙ ap (λ (ds : List Decision). map as_kept (decided_rows t (event_changes t (event.Item conn item) c.args.answer))
@@ -30,8 +35,11 @@ pub returns-clause-forgotten : goal.returns-clause-forgotten
 returns-clause-forgotten c = λ t at.
     let conn = c.args.conn in
     let item = c.args.item.now in
-    let own = c.session_found-own.result in
-    let found = found_as t conn item own c.args.ends.now (c.session_found-own.ensures t (at_finds at)) at.are_due in
+    let own = c.none_if_ended-here.result in
+    let found = found_as t conn item own c.args.ends.now
+    (c.none_if_ended-here.ensures
+    ∙ ap (λ (o : Option ℕ). none_if_ended c.args.ends.now conn.0 o)
+    (c.own_channel-own.ensures t (at_finds at) ∙ ap (λ (k : ℕ). session_on t conn.0 k) c.channel_of.ensures)) at.are_due in
     c.in_ok-forgotten.ensures
     ∙ ap (λ (ns : List RowNumber). ns ++ c.planned_forgotten-lacking.result.items)
     (c.in_ok-does.ensures.forgotten t (at_finds at)
@@ -44,9 +52,19 @@ returns-clause-forgotten c = λ t at.
 pub returns-clause-resumed : goal.returns-clause-resumed
 returns-clause-resumed c = λ t at.
     let taken = c.in_ok-does.ensures.resumed t (at_finds at) in
+    let decisions = c.planned_decisions-by_map.ensures in
+    let lacking = c.planned_forgotten-lacking.ensures in
     record {
-      key = c.planned_forgotten-lacking.ensures.key ∙ c.planned_decisions-by_map.ensures.key ∙ taken.key;
-      held = c.planned_forgotten-lacking.ensures.held ∙ c.planned_decisions-by_map.ensures.held ∙ taken.held;
-      map = c.planned_forgotten-lacking.ensures.map ∙ c.planned_decisions-by_map.ensures.map ∙ taken.map;
-      rows = c.planned_forgotten-lacking.ensures.rows ∙ c.planned_decisions-by_map.ensures.rows ∙ taken.rows;
+      key = lacking.key ∙ decisions.key ∙ taken.key;
+      held = lacking.held ∙ decisions.held ∙ taken.held;
+      map = lacking.map ∙ decisions.map ∙ taken.map;
+      rows = lacking.rows ∙ decisions.rows ∙ taken.rows;
     }
+
+pub returns-clause-session : goal.returns-clause-session
+returns-clause-session c = λ t at.
+    c.own_channel-own.ensures t (at_finds at) ∙ ap (λ (k : ℕ). session_on t c.args.conn.0 k) c.channel_of.ensures
+
+pub returns-clause-change : goal.returns-clause-change
+returns-clause-change c = c.in_ok-decided.ensures.change ∙ c.in_ok-change.ensures
+    ∙ ap (λ (o : Option ℕ). heard_change c.args.conn.0 o c.args.item.now) c.none_if_ended-here.ensures

@@ -18,5 +18,7 @@ returns g c = record {
       subst (λ (b : BookView). Resumes b t c.args.event.now c.in_ok-answer.field-0.answer c.in_ok-answer.field-0.resumption) c.book.ensures
       (subst (λ (a : Answer). Resumes c.book.result.now t c.args.event.now a c.in_ok-answer.field-0.resumption) (sym (c.in_ok-answer.ensures.answer t at found))
       (c.in_ok-answer.ensures.resumed t at found));
+  session = λ t at. c.in_ok-answer.ensures.session t at;
+  change = c.in_ok-answer.ensures.change;
   writable = c.in_ok-acts.ensures.writable;
 }

@@ -18,20 +18,20 @@ use Rattle.state_deliveries.proofs.Heard.{heard_follows, kept_heard}
 use Rattle.state_deliveries.proofs.deliveries.Deliveries.hear.Goals as goal
 
 pub returns-clause-fits : goal.returns-clause-fits
-returns-clause-fits c = λ t channel gives fit.
+returns-clause-fits c = λ t channel made gives fit.
     let known = at_id c.args.self.now.names.ids in
     let hears = did (event.Item c.args.conn c.args.item.now) in
     let keeps : (n : ℕ) → IsKept (at_number c.args.self.now.store.deliveries n) = λ n. subst IsKept (sym (fit.store.deliveries n)) (kept t n) in
-    let heard : (n : ℕ) → at_number c.hear.new.store.deliveries n ≡ heard_by c.in_ok-change.change known n (at_number c.args.self.now.store.deliveries n) =
+    let heard : (n : ℕ) → at_number c.hear.new.store.deliveries n ≡ heard_by c.args.change known n (at_number c.args.self.now.store.deliveries n) =
     c.in_ok-hear.ensures.deliveries keeps fit.store.indexed fit.names.small in
     let indexed : Indexed c.hear.new.store = c.in_ok-hear.ensures.indexed fit.store.indexed in
     let store : StoreFit c.give.new.store (hears ∷ t) = record {
       deliveries = λ n.
           c.in_ok-give.ensures.deliveries
-          (λ m. subst IsKept (sym (heard m)) (kept_heard c.in_ok-change.change known m (at_number c.args.self.now.store.deliveries m) (keeps m))) indexed n
+          (λ m. subst IsKept (sym (heard m)) (kept_heard c.args.change known m (at_number c.args.self.now.store.deliveries m) (keeps m))) indexed n
           ∙ ap (after_acts (giving c.args.item.now c.args.acts.now)) (heard n
-          ∙ ap (heard_by c.in_ok-change.change known n) (fit.store.deliveries n)
-          ∙ ap (λ x. heard_by x known n (delivery t n)) c.in_ok-change.ensures)
+          ∙ ap (heard_by c.args.change known n) (fit.store.deliveries n)
+          ∙ ap (λ x. heard_by x known n (delivery t n)) made)
           ∙ heard_follows c.args.conn c.args.item.now t n c.args.own known c.args.acts.now gives channel (λ o id. fit.names.names c.args.conn.0 o id);
       indexed = c.in_ok-give.ensures.indexed indexed;
     } in

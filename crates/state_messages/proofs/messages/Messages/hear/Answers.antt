@@ -9,11 +9,11 @@ use Rattle.state_messages.proofs.Known.{channel_same, did_counts, moved}
 use Rattle.state_messages.proofs.messages.Messages.hear.Goals as goal
 
 pub returns-clause-fits : goal.returns-clause-fits
-returns-clause-fits c = λ t own found gives old.
+returns-clause-fits c = λ t own found made gives old.
     let its : (o : ℕ) → is_channel c.args.own o ≡ maps (theirs t c.args.conn.0 (channel_of c.args.item.now)) o =
     λ o. own o ∙ ap (λ channel. maps (theirs t c.args.conn.0 channel) o) (channel_same c.args.item.now) in
     let here : (o : ℕ) → is_channel c.args.found o ≡ maps (channels_found t c.args.conn.0 (channel_of c.args.item.now)) o =
     λ o. found o ∙ ap (λ channel. maps (channels_found t c.args.conn.0 channel) o) (channel_same c.args.item.now) in
     moved c.args.self.now _ t (did (event.Item c.args.conn c.args.item.now) ∷ t) (last_chosen t) (last_chosen (did (event.Item c.args.conn c.args.item.now) ∷ t)) refl
-    (search rules) (c.in_ok-hear-2.ensures.fits t here gives old.deliveries) (c.in_ok-hear.ensures t its (c.receiving-link.ensures t old.links) old.incoming) (search rules) (search rules)
+    (search rules) (c.in_ok-hear-2.ensures.fits t here made gives old.deliveries) (c.in_ok-hear.ensures t its (c.receiving-link.ensures t old.links) old.incoming) (search rules) (search rules)
     (did_counts (event.Item c.args.conn c.args.item.now) t) (λ a. refl) (λ a. refl) old
