@@ -1,11 +1,12 @@
 //! Which rows an event decides: by the changes of deliveries that it brings, and by the map of its attach.
-ghost use Rattle.std.specs.Prelude.{◌≡◌, ◌++◌, ◌∷◌, [], List, ℕ, map, option_map, is_some, IfOk, OnOk};
+ghost use Rattle.std.specs.Prelude.{◌≡◌, ◌++◌, ◌∷◌, [], List, ℕ, Option, map, option_map, is_some, IfOk, OnOk};
 ghost use Rattle.amqp_model.specs.declared.item.Item.{Item};
 ghost use Rattle.router_trace.specs.Trace.{Entry};
 ghost use Rattle.reply_rows.specs.declared.answer.Answer.TheVariants as reply;
 ghost use Rattle.router_state.specs.Tables.{TablesFind};
 ghost use Rattle.state_links.specs.Fits.{channel_of};
 ghost use Rattle.state_deliveries.specs.Deciding.{decided_rows};
+ghost use Rattle.state_deliveries.specs.declared.change.Change.{Change};
 ghost use Rattle.router_reply.specs.Deciding.{lost, listed, stolen_from, stolen_for, ended_by, as_kept};
 
 use amqp_model::Item;
@@ -208,8 +209,8 @@ pub(crate) fn decided(
 
 /// The first change of a list, if it begins with one that was given.
 fn first_of(is_first: bool, changes: Vec<Change>) -> Option<Change>
-    ensures { (first : Option Change) (lost ended : List Change) → is_first ≡ is_some first
-        → changes.items ≡ listed first ++ lost ++ ended → result ≡ first }
+    ensures { (first : Option Change) (more last : List Change) → is_first ≡ is_some first
+        → changes.items ≡ listed first ++ more ++ last → result ≡ first }
 {
     if !is_first {
         return None;

@@ -248,7 +248,6 @@ impl State {
     /// acts; `own` is the router's channel of its session, if its channel has one (`State::own_channel`), and `change`
     /// what it changes of deliveries at once (`Change::of_item`), on that session unless the event ended the connection.
     /// Returns what a transfer makes of its delivery.
-    #[tactic(auto, using(crate::proofs::Bound::found_on_session, crate::proofs::Channels::on_session))]
     pub fn hear(
         &mut self,
         conn: ConnectionId,
