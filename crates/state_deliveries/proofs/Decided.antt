@@ -22,11 +22,11 @@ use Rattle.state_deliveries.specs.declared.change.Change.{Change}
 use Rattle.state_deliveries.specs.declared.change.Change.TheVariants as change
 use Rattle.state_deliveries.specs.Indexing.{Keys, standing, concerns, durable_id}
 use Rattle.state_deliveries.specs.declared.store.Store.{Store}
-use Rattle.state_deliveries.specs.Deciding.{gathered_below, changed_by, bare, row_of, open_row, outcome_of_row, outcome_of, decision_of, decided_rows, listed_row, row_from, rows_from, decides, decide}
+use Rattle.state_deliveries.specs.Deciding.{gathered_below, changed_by, bare, row_of, open_row, outcome_of_row, outcome_of, decision_of, decided_rows, decides, decide}
 use Rattle.state_deliveries.specs.Fits.{StoreFit}
 use Rattle.state_deliveries.specs.Placing.{own_spot, is_id_there}
 use Rattle.state_deliveries.specs.Stepping.{is_gone, comes_with_id, is_in, is_decided_by, changed}
-use Rattle.state_deliveries.proofs.Keys.{changes_nothing, untells_nothing}
+use Rattle.state_deliveries.proofs.Keys.{changes_nothing}
 use Rattle.state_deliveries.proofs.Numbers.{none_beyond}
 
 -- one turn of a loop that gathers, and its end
@@ -222,22 +222,6 @@ decided_is s t xs ns fit rise there =
     ap (decision_of xs) (sym (fit.deliveries n))
     ∙ no_decision xs (at_number s.deliveries n) (none_there ns n (decide xs (standing (at_number s.deliveries n))) (there n) e))
     (λ n l. ap (decision_of xs) (none_beyond t n (above_bindings (bindings t) n l)))
-
--- and so are the rows of the deliveries that the index of ids gives
-no_row : (c o first last : ℕ) (v : Option Delivery) → is_id_there c o first last (standing v).producer.by_id ≡ false → row_from c o first last v ≡ []
-no_row c o first last None e = refl
-no_row c o first last (Some d) e = ap (λ b. if b then listed_row (row_of d.name) else []) (untells_nothing (source d) c o first last e)
-
-pub from_is : (s : Store) (t : Trace) (c o first last : ℕ) (ns : BTreeSet ℕ) → StoreFit s t → IsStrictlySortedBy nat_cmp ns.keys
-    → ((n : ℕ) → is_id_there c o first last (standing (at_number s.deliveries n)).producer.by_id ≡ true → contains nat_cmp ns n ≡ true)
-    → flat_map (λ n. row_from c o first last (at_number s.deliveries n)) ns.keys ≡ rows_from t c o first last
-from_is s t c o first last ns fit rise there =
-    gathered (bindings t + 1) (λ n. row_from c o first last (at_number s.deliveries n)) (λ n. row_from c o first last (delivery t n)) ns.keys rise
-    (λ n. ap (row_from c o first last) (fit.deliveries n))
-    (λ n e.
-    ap (row_from c o first last) (sym (fit.deliveries n))
-    ∙ no_row c o first last (at_number s.deliveries n) (none_there ns n (is_id_there c o first last (standing (at_number s.deliveries n)).producer.by_id) (there n) e))
-    (λ n l. ap (row_from c o first last) (none_beyond t n (above_bindings (bindings t) n l)))
 
 -- The message makes no difference.
 abbrev light : Delivery → Delivery

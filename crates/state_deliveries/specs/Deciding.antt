@@ -54,19 +54,6 @@ decision_of xs (Some d) = outcome_of (open_row d) (changed_by xs d).outcome
 abbrev pub decided_rows : Trace → List Change → List Decision
 decided_rows t xs = gathered_below (bindings t + 1) (λ n. decision_of xs (delivery t n))
 
--- the row of a delivery to which its producer gave an id in this range, on a session
-abbrev pub listed_row : Option RowNumber → List RowNumber
-listed_row None = []
-listed_row (Some r) = r ∷ []
-
-abbrev pub row_from : ℕ → ℕ → ℕ → ℕ → Option Delivery → List RowNumber
-row_from c o first last None = []
-row_from c o first last (Some d) = if comes_with_id (source d) c o first last then listed_row (row_of d.name) else []
-
--- the rows of all these, decided or not, in order of the deliveries' numbers
-abbrev pub rows_from : Trace → ℕ → ℕ → ℕ → ℕ → List RowNumber
-rows_from t c o first last = gathered_below (bindings t + 1) (λ n. row_from c o first last (delivery t n))
-
 -- a change may decide the row of a delivery with these entries
 abbrev pub decides : Change → Keys → Bool
 decides (change.Ends g closed) k = concerns (change.Ends g closed) k

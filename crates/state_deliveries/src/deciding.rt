@@ -1,4 +1,4 @@
-//! Which rows changes would decide, before they are made, and the rows of a producer's deliveries.
+//! Which rows changes would decide, before they are made.
 ghost use Rattle.std.specs.Prelude.{◌≡◌, ◌++◌, List, Some, IfOk, OnOk};
 ghost use Rattle.std.specs.List.{flat_map};
 ghost use Rattle.std.specs.List.Sorted.{IsStrictlySortedBy};
@@ -6,10 +6,10 @@ ghost use Rattle.std.specs.Option.{option_map};
 ghost use Rattle.std.specs.Ordering.{nat_cmp};
 ghost use Rattle.state_collections.specs.NumberMap.{at_number};
 ghost use Rattle.router_trace.specs.Trace.{Entry};
-ghost use Rattle.state_deliveries.specs.Deciding.{bare, changed_by, row_of, open_row, outcome_of_row, decision_of, decided_rows, row_from, rows_from};
+ghost use Rattle.state_deliveries.specs.Deciding.{bare, changed_by, row_of, open_row, outcome_of_row, decision_of, decided_rows};
 ghost use Rattle.state_deliveries.specs.Fits.{StoreFit};
 
-use crate::change::{Change, comes_with_id};
+use crate::change::Change;
 use crate::delivery::Delivery;
 use crate::store::Store;
 use amqp_model::DeliveryState;
@@ -128,64 +128,4 @@ fn row_of(name: DeliveryName) -> Option<RowNumber>
         DeliveryName::Row(row) => Some(row),
         DeliveryName::Counter(_) => None,
     }
-}
-
-/// The rows of the deliveries to which a producer gave an id in this range, on a session, in order of their numbers. It looks only at
-/// those that the index of the producers' ids gives.
-pub(crate) fn rows_from(
-    store: &Store,
-    alloc: Global,
-    conn: u64,
-    own: u16,
-    first: u32,
-    last: u32,
-) -> Result<Vec<RowNumber>, AllocError>
-    ensures { IfOk result (λ rows. (t : List Entry) → StoreFit store.now t → rows.items ≡ rows_from t conn own first last) }
-{
-    let numbers = store.with_ids(conn, own, first, last)?;
-    let mut rows = Vec::new(alloc);
-    append_rows(&mut rows, store, &numbers, conn, own, first, last)?;
-    Ok(rows)
-}
-
-/// Appends the rows of the deliveries with these numbers to which a producer gave an id in this range, on a session.
-fn append_rows(
-    rows: &mut Vec<RowNumber>,
-    store: &Store,
-    numbers: &BTreeSet<u64>,
-    conn: u64,
-    own: u16,
-    first: u32,
-    last: u32,
-) -> Result<(), AllocError>
-    ensures rows { OnOk result (rows.new.items ≡ rows.old.items ++ flat_map (λ n. row_from conn own first last (at_number store.now.deliveries n)) numbers.now.keys) }
-    ensures rise { OnOk result (IsStrictlySortedBy nat_cmp numbers.now.keys) }
-{
-    for number in numbers {
-        append_row(rows, store.get(*number), conn, own, first, last)?;
-    }
-    Ok(())
-}
-
-/// Appends the row of a delivery, if it has one, and its producer gave it an id in this range, on a session.
-fn append_row(
-    rows: &mut Vec<RowNumber>,
-    delivery: Option<&Delivery>,
-    conn: u64,
-    own: u16,
-    first: u32,
-    last: u32,
-) -> Result<(), AllocError>
-    ensures { OnOk result (rows.new.items ≡ rows.old.items ++ row_from conn own first last (option_map (λ d. d.now) delivery.entry)) }
-{
-    let Some(delivery) = delivery else {
-        return Ok(());
-    };
-    if !comes_with_id(delivery.source(), conn, own, first, last) {
-        return Ok(());
-    }
-    if let Some(row) = row_of(delivery.name) {
-        rows.push(row)?;
-    }
-    Ok(())
 }

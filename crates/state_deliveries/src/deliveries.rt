@@ -12,7 +12,7 @@ ghost use Rattle.router_trace.specs.Sessions.{maps, is_channel};
 ghost use Rattle.router_trace.specs.Following.{first_delivery, is_unsent_on, is_used};
 ghost use Rattle.router_trace.specs.Settling.{open_ids};
 ghost use Rattle.state_deliveries.specs.Calling.{Knows};
-ghost use Rattle.state_deliveries.specs.Deciding.{decided_rows, rows_from};
+ghost use Rattle.state_deliveries.specs.Deciding.{decided_rows};
 ghost use Rattle.router_trace.specs.Counting.{IsCount};
 ghost use Rattle.state_deliveries.specs.Hearing.{heard_change};
 ghost use Rattle.state_deliveries.specs.Finding.{IsFirst, IsFirstBy, count_deliveries, is_above, is_beyond};
@@ -22,7 +22,7 @@ ghost use Rattle.state_deliveries.specs.Fits.{DeliveriesFit, AreSending};
 ghost use Rattle.state_deliveries.specs.Touching.{is_touched, Touches};
 
 use crate::change::Change;
-use crate::deciding::{decided_rows, rows_from};
+use crate::deciding::decided_rows;
 use crate::delivery::{Delivery, Producers};
 use crate::giving::give;
 use crate::hearing::hear;
@@ -199,19 +199,6 @@ impl Deliveries {
         ensures { IfOk result (λ rows. (t : List Entry) → DeliveriesFit self.now t → rows.items ≡ decided_rows t changes.now) }
     {
         Ok(decided_rows(&self.store, self.alloc, changes)?)
-    }
-
-    /// The rows of the deliveries to which a producer gave an id in this range, on a session, in order of the deliveries' numbers.
-    pub fn rows_from(
-        &self,
-        conn: u64,
-        own: u16,
-        first: u32,
-        last: u32,
-    ) -> Result<Vec<RowNumber>, AllocError>
-        ensures { IfOk result (λ rows. (t : List Entry) → DeliveriesFit self.now t → rows.items ≡ rows_from t conn own first last) }
-    {
-        Ok(rows_from(&self.store, self.alloc, conn, own, first, last)?)
     }
 
     /// The producer's delivery of the delivery that has a name now, in whichever place it is.

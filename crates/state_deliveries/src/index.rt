@@ -329,22 +329,6 @@ impl Index {
         Ok(())
     }
 
-    /// Adds the numbers of the deliveries that a change may change, if it isn't a consumer's disposition.
-    pub(crate) fn add_concerned(
-        &self,
-        alloc: Global,
-        change: &Change,
-        numbers: &mut BTreeSet<u64>,
-    ) -> Result<(), AllocError>
-        ensures more { OnOk result ((n : ℕ) → contains nat_cmp numbers.old n ≡ true → contains nat_cmp numbers.new n ≡ true) }
-        ensures found { OnOk result ((known : ℕ → Keys) → Indexes self.now known → (n : ℕ)
-            → concerns change.now (known n) ≡ true → contains nat_cmp numbers.new n ≡ true) }
-    {
-        let found = self.concerned(alloc, change)?;
-        add_all(numbers, found.as_slice())?;
-        Ok(())
-    }
-
     /// Appends these numbers.
     fn append_concerned(&self, change: &Change, numbers: &mut Vec<u64>) -> Result<(), AllocError>
         ensures { OnOk result ((known : ℕ → Keys) → Indexes self.now known → (n : ℕ)

@@ -4,8 +4,7 @@
 //! producer's link has, `put` for an item that the router put out, `hear` for an item received, with the router's channel of its session and the event's acts, and `down` for a lost connection. Its state
 //! is read by `delivery`, `waiting`, `undecided`, `held`, `to_tell_after`, `named`, `sending` and `next_id`.
 //!
-//! Before a change is made, `decided_rows` tells which rows it would decide, so that these decisions can be written down first; `rows_from`
-//! tells the rows of a producer's deliveries.
+//! Before a change is made, `decided_rows` tells which rows it would decide, so that these decisions can be written down first.
 //!
 //! A delivery is in the table from its binding until it is over. The end of a link visits only the deliveries that go to it or
 //! come from it, and a disposition only those that its ids name. An id is forgotten once its delivery is decided.

@@ -541,29 +541,6 @@ impl Store {
         Ok(self.index.deciding_by(self.alloc, changes)?)
     }
 
-    /// The numbers of the deliveries to which a producer gave an id in this range, on a session.
-    pub(crate) fn with_ids(
-        &self,
-        conn: u64,
-        own: u16,
-        first: u32,
-        last: u32,
-    ) -> Result<BTreeSet<u64>, AllocError>
-        ensures { IfOk result (λ numbers. Indexed self.now → (n : ℕ)
-            → is_id_there conn own first last (standing (at_number self.now.deliveries n)).producer.by_id ≡ true
-            → contains nat_cmp numbers n ≡ true) }
-    {
-        let mut numbers = BTreeSet::new(self.alloc);
-        let change = Change::Untold {
-            conn,
-            own,
-            first,
-            last,
-        };
-        self.index.add_concerned(self.alloc, &change, &mut numbers)?;
-        Ok(numbers)
-    }
-
     /// An item is put into the outbox of a connection; `number` is the delivery that its transfer carries.
     #[tactic(auto, using(crate::proofs::Touching::touches_self))]
     pub(crate) fn put(

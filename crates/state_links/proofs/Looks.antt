@@ -1,6 +1,6 @@
 -- What is looked up of a table's link agrees with the view's.
 use Rattle.std.proofs.Common.{◌≡◌, ◌∙◌, ℕ, Bool, true, false, refl, sym, ap, List, [], ◌∷◌, Option, Some, None}
-use Rattle.std.specs.Prelude.{◌==◌, if◌then◌else◌, is_some, option_map}
+use Rattle.std.specs.Prelude.{◌==◌, if◌then◌else◌, option_map}
 use Rattle.amqp_link.specs.Deliveries.{Frame}
 use Rattle.amqp_link.specs.Gathering.{gathered}
 use Rattle.amqp_link.specs.Receiving.{middle}
@@ -15,8 +15,7 @@ use Rattle.router_trace.specs.Following.{is_sending}
 use Rattle.state_links.specs.declared.link.Link.{Link}
 use Rattle.state_links.specs.Ends.{end_of, link_of}
 use Rattle.state_links.specs.Fits.{found_end, found_at}
-use Rattle.state_links.specs.Giving.{handle_of}
-use Rattle.state_links.specs.Looking.{credit_on, credit_at, unused_on, unused_end, count_on, count_at, sends_at, middle_at, middle_here, middle_named, is_new, is_in_middle, durable_at, key_on, attachment_of, attachment_on, link_on, numbered_link, numbered_here}
+use Rattle.state_links.specs.Looking.{credit_on, credit_at, unused_on, unused_end, count_on, count_at, sends_at, middle_at, middle_here, is_new, is_in_middle, durable_at, key_on, attachment_of, attachment_on, link_on, numbered_link, numbered_here}
 use Rattle.state_links.specs.Naming.{Remembers}
 use Rattle.state_links.specs.Touching.{if_number}
 
@@ -75,12 +74,6 @@ middle_there : (h : ℕ) (v : Option view.Link) → middle_here (option_map link
 middle_there h None = refl
 middle_there h (Some l) = middle_same l.happened
 
-middle_on_handle : (p : Option PeerHandle) (known : ℕ → Option Link) (views : ℕ → Option view.Link)
-    → ((h : ℕ) → known h ≡ option_map link_of (views h)) → middle_named (handle_of p) known ≡ middle_on (link_place_by p views)
-middle_on_handle None known views fit = refl
-middle_on_handle (Some Detaching) known views fit = refl
-middle_on_handle (Some (Mapped h)) known views fit = ap middle_here (fit h) ∙ middle_there h (views h)
-
 -- what is found on a peer's handle that stands for a link
 pub found_follows : (h : ℕ) (p : Option PeerHandle) (k : Option Link) (views : ℕ → Option view.Link)
     → p ≡ Some (Mapped h) → k ≡ option_map link_of (views h) → found_at h k ≡ found_link (link_place_by p views)
@@ -94,10 +87,6 @@ pub key_found : (h : ℕ) (p : Option PeerHandle) (k : Option Link) (views : ℕ
     → p ≡ Some (Mapped h) → k ≡ option_map link_of (views h) → durable_at k ≡ key_on (link_place_by p views)
 key_found h p k views is fit = ap durable_at fit ∙ key_same h (views h) ∙ ap (λ q. key_on (link_place_by q views)) (sym is)
 
-pub middle_follows : (p q : Option PeerHandle) (known : ℕ → Option Link) (views : ℕ → Option view.Link)
-    → p ≡ q → ((h : ℕ) → known h ≡ option_map link_of (views h)) → middle_named (handle_of p) known ≡ middle_on (link_place_by q views)
-middle_follows p q known views is fit = ap (λ x. middle_named (handle_of x) known) is ∙ middle_on_handle q known views fit
-
 durable_same : (v : Option view.Link) → durable_at (option_map link_of v) ≡ durable_key v
 durable_same None = refl
 durable_same (Some l) = refl
@@ -105,9 +94,6 @@ durable_same (Some l) = refl
 -- the key of a durable link, and whether there is one
 pub durable_follows : (k : Option Link) (v : Option view.Link) → k ≡ option_map link_of v → durable_at k ≡ durable_key v
 durable_follows k v is = ap durable_at is ∙ durable_same v
-
-pub durable_there : (k : Option Link) (v : Option view.Link) → k ≡ option_map link_of v → is_some (durable_at k) ≡ is_some (durable_key v)
-durable_there k v is = ap is_some (durable_follows k v is)
 
 attached_there : (c o h : ℕ) (v : Option view.Link) → option_map (attachment_of c o h) (option_map link_of v) ≡ attachment_on c o h v
 attached_there c o h None = refl

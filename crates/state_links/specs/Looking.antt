@@ -56,10 +56,6 @@ abbrev pub middle_here : Option Link → Option Told
 middle_here None = None
 middle_here (Some l) = middle_at l.end
 
-abbrev pub middle_named : Option ℕ → (ℕ → Option Link) → Option Told
-middle_named None known = None
-middle_named (Some h) known = middle_here (known h)
-
 -- a delivery that isn't resumed is in the middle
 abbrev pub is_new : Option Told → Bool
 is_new None = false

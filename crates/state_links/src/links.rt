@@ -5,7 +5,7 @@ ghost use Rattle.router_trace.specs.Trace.{Beginning, Trace};
 ghost use Rattle.router_trace.specs.Configuration.{opened};
 ghost use Rattle.router_trace.specs.Trace.{Entry, Out, did};
 ghost use Rattle.router_trace.specs.Sessions.{is_channel, maps, theirs};
-ghost use Rattle.router_trace.specs.Links.{attachments, link, link_place, found_link, free_handle, holder, place_of, durable_key, holds_durable};
+ghost use Rattle.router_trace.specs.Links.{attachments, link, link_place, found_link, free_handle, holder, place_of, durable_key};
 ghost use Rattle.router_trace.specs.Settling.{part_at, middle_on};
 ghost use Rattle.state_links.specs.Ends.{link_of};
 ghost use Rattle.state_links.specs.Looking.{attachment_on, key_on, numbered_link};
@@ -25,7 +25,7 @@ use crate::found::FoundLink;
 use crate::handles::HandleTable;
 use crate::link::Link;
 use crate::table::LinkTable;
-use amqp_link::{Delivery, Part};
+use amqp_link::Part;
 use amqp_model::{Item, Perf};
 use book_model::LinkKey;
 use bytes::Bytes;
@@ -73,16 +73,6 @@ impl Links {
         self.table.find(conn, own, handle)
     }
 
-    /// The delivery in the middle of the link on a peer's handle, on the session with the router's channel
-    /// `own`.
-    #[tactic(auto, using(crate::proofs::Looks::middle_follows))]
-    pub fn middle(&self, conn: u64, own: u16, handle: u32) -> Option<&Delivery>
-        ensures { (t : List Entry) → LinksFit self.now t → option_map (λ d. d.now) result ≡ middle_on (link_place t conn own handle) }
-    {
-        let handle = self.handles.mapped(conn, own, handle);
-        self.table.middle(conn, own, handle)
-    }
-
     /// The link at an attachment's place; its number says whether it is that attachment's.
     pub fn link(&self, place: Attachment) -> Option<&Link>
         ensures { (t : List Entry) → LinksFit self.now t → option_map (λ l. l.now) result ≡ option_map link_of (link t place.conn.0 place.channel place.handle) }
@@ -118,13 +108,6 @@ impl Links {
         ensures { (t : List Entry) → LinksFit self.now t → result ≡ holder t key.now }
     {
         self.table.holder(key)
-    }
-
-    /// Whether a durable link is attached with a key.
-    pub fn holds_durable(&self, key: &LinkKey) -> bool
-        ensures { (t : List Entry) → LinksFit self.now t → result ≡ holds_durable t key.now }
-    {
-        self.table.holds_durable(key)
     }
 
     /// The attachment with a number, if it still has its link.

@@ -15,12 +15,12 @@ ghost use Rattle.router_trace.specs.Trace.{Beginning, Trace};
 ghost use Rattle.router_trace.specs.Configuration.{opened};
 ghost use Rattle.router_trace.specs.Trace.{Entry, Out, did};
 ghost use Rattle.router_trace.specs.Sessions.{is_channel, maps, theirs};
-ghost use Rattle.router_trace.specs.Links.{is_handle, their_handle, asked, key_at, is_attached, if_attached, holder, place_of, is_durable_at, holds_durable};
+ghost use Rattle.router_trace.specs.Links.{is_handle, their_handle, asked, key_at, is_attached, if_attached, holder, place_of};
 ghost use Rattle.router_trace.specs.declared.event.Event.TheVariants as event;
 ghost use Rattle.state_links.specs.declared.link.Side.TheVariants.{Peer, Router};
 ghost use Rattle.state_links.specs.Ends.{begun, noted};
 ghost use Rattle.state_links.specs.Giving.{part_here, part_named};
-ghost use Rattle.state_links.specs.Looking.{middle_here, middle_named, durable_at, attachment_of, numbered_here};
+ghost use Rattle.state_links.specs.Looking.{middle_here, durable_at, attachment_of, numbered_here};
 ghost use Rattle.state_links.specs.Fits.{TableFit, with_mark, asks_drain, names_in, key_in, asked_in, found_at, attachment, IsNoted};
 ghost use Rattle.state_links.specs.Naming.{on_conn, on_session, on_handle, Thinned};
 ghost use Rattle.state_collections.specs.Places.{at};
@@ -33,7 +33,7 @@ use crate::link::{Link, Side, address_by};
 use crate::names::Names;
 use crate::owed::{append_all, settle};
 use crate::touched::{touch, touch_at, touch_connection, touch_session};
-use amqp_link::{Delivery, Part};
+use amqp_link::Part;
 use amqp_model::{Attach, Detach, Perf, Text};
 use book_model::LinkKey;
 use bytes::Bytes;
@@ -96,19 +96,6 @@ impl LinkTable {
         self.links.get(conn, own, handle)
     }
 
-    /// The delivery in the middle of the link on a handle of the router, if there is one.
-    pub fn middle(&self, conn: u64, own: u16, handle: Option<u32>) -> Option<&Delivery>
-        ensures { option_map (λ d. d.now) result ≡ middle_named handle (at self.now.links conn own) }
-    {
-        match handle {
-            None => None,
-            Some(handle) => match self.links.get(conn, own, handle) {
-                None => None,
-                Some(link) => link.middle(),
-            },
-        }
-    }
-
     /// The attachment of the link on a handle of the router.
     pub fn attachment(&self, conn: u64, own: u16, handle: u32) -> Option<Attachment>
         ensures { result ≡ option_map (attachment_of conn own handle) (at self.now.links conn own handle) }
@@ -131,26 +118,6 @@ impl LinkTable {
         match self.links.get(conn, own, handle) {
             None => None,
             Some(link) => link.durable_key(),
-        }
-    }
-
-    /// Whether a durable link is attached with a key.
-    pub fn holds_durable(&self, key: &LinkKey) -> bool
-        ensures { (t : List Entry) → TableFit self.now t → result ≡ holds_durable t key.now }
-    {
-        self.is_durable_at(self.holder(key))
-    }
-
-    /// Whether a durable link is at an attachment's place.
-    #[tactic(auto, using(crate::proofs::Looks::durable_there))]
-    fn is_durable_at(&self, attachment: Option<Attachment>) -> bool
-        ensures { (t : List Entry) → TableFit self.now t → result ≡ is_durable_at t attachment }
-    {
-        match attachment {
-            None => false,
-            Some(attachment) => self
-                .durable_key(attachment.conn.0, attachment.channel, attachment.handle)
-                .is_some(),
         }
     }
 
