@@ -78,7 +78,3 @@ on_err (Err y) P p = p
 pub kept_on : (old mid new : List ℕ) → take (length old) mid ≡ old → take (length mid) new ≡ mid → take (length old) new ≡ old
 kept_on old mid new first second =
     still_kept old mid new (drop (length old) mid) (sym (take-append-drop (length old) mid) ∙ ap (λ l. l ++ drop (length old) mid) first) second
-
-pub on_err_map : {X Y : Type 0} (r : Result X Y) (P Q : Type 0) → (P → Q) → OnErr r P → OnErr r Q
-on_err_map (Ok x) P Q f is = tt
-on_err_map (Err y) P Q f is = f is

@@ -4,15 +4,9 @@ ghost use Rattle.std.specs.Option.{ForSome};
 ghost use Rattle.book_model.specs.Book.{admitted, decided, forgotten};
 ghost use Rattle.book_model.specs.Restoring.{admission_of};
 
-use amqp_model::{DeliveryState, DeliveryTag, Text, copy_state};
-use book_model::{Admission, LinkKey, Row, Terminus};
+use amqp_model::{DeliveryState, DeliveryTag, copy_state};
+use book_model::{Admission, Row, Terminus};
 use std::alloc::AllocError;
-
-pub(crate) fn text(text: &Text) -> Result<Text, AllocError>
-    ensures { IfOk result (λ t. t ≡ text.now) }
-{
-    text.clone()
-}
 
 fn tag(tag: &DeliveryTag) -> Result<DeliveryTag, AllocError>
     ensures { IfOk result (λ t. t ≡ tag.now) }
@@ -20,23 +14,12 @@ fn tag(tag: &DeliveryTag) -> Result<DeliveryTag, AllocError>
     tag.clone()
 }
 
-pub(crate) fn key(key: &LinkKey) -> Result<LinkKey, AllocError>
-    ensures { IfOk result (λ k. k ≡ key.now) }
-{
-    Ok(LinkKey {
-        role: key.role,
-        user: key.user.clone()?,
-        container: key.container.clone()?,
-        name: key.name.clone()?,
-    })
-}
-
 pub(crate) fn terminus(terminus: &Terminus) -> Result<Terminus, AllocError>
     ensures { IfOk result (λ t. t ≡ terminus.now) }
 {
     Ok(Terminus {
         number: terminus.number,
-        key: key(&terminus.key)?,
+        key: terminus.key.clone()?,
         address: terminus.address.clone()?,
     })
 }

@@ -20,7 +20,7 @@ pub(crate) fn set_key(
     ensures set { OnOk result ((q : LinkKey) → number_at key_cmp keys.new q ≡ (if is_eq (key_cmp key.now q) then number else number_at key_cmp keys.old q)) }
     ensures was { earlier key_cmp keys.new.log.items (get key_cmp keys.new.numbers) ≡ earlier key_cmp keys.old.log.items (get key_cmp keys.old.numbers) }
 {
-    let kept = copy::key(key)?;
-    let logged = copy::key(key)?;
+    let kept = key.clone()?;
+    let logged = key.clone()?;
     keys.set(kept, logged, number)
 }

@@ -1,5 +1,8 @@
 //! The termini of durable links.
+ghost use Rattle.std.specs.Prelude.{◌≡◌};
+
 use amqp_model::Text;
+use std::alloc::AllocError;
 use std::fmt;
 
 /// The number of a terminus: from 1, in the order in which termini were made, and never reused.
@@ -33,6 +36,19 @@ pub struct LinkKey {
     pub container: Text,
     /// The name of the attach (AMQP 1.0 part 2, section 2.7.3).
     pub name: Text,
+}
+
+impl Clone for LinkKey {
+    ghost is_clone = { λ key copy. copy ≡ key };
+
+    fn clone(&self) -> Result<LinkKey, AllocError> {
+        Ok(LinkKey {
+            role: self.role,
+            user: self.user.clone()?,
+            container: self.container.clone()?,
+            name: self.name.clone()?,
+        })
+    }
 }
 
 /// The terminus of a durable link.

@@ -9,7 +9,7 @@ use Rattle.router_trace.specs.declared.binding.Holding.{Holding}
 use Rattle.router_trace.specs.declared.binding.Holding.TheVariants as holding
 use Rattle.router_trace.specs.declared.binding.Origin.{Origin}
 use Rattle.router_trace.specs.declared.handle.Attachment.{Attachment}
-use Rattle.router_trace.specs.Deliveries.{Delivery, after_ends, after_frame, after_origin, decided_at_end, either_origin, ended, forsaken, has_row, held_by, holder, is_gone_with, is_over, sender, source, suspended_at_end, unforgotten, unless_over, unsettled, untold}
+use Rattle.router_trace.specs.Deliveries.{Delivery, after_ends, after_frame, decided_at_end, either_origin, ended, forsaken, has_row, held_by, holder, is_gone_with, is_over, sender, source, suspended_at_end, unforgotten, unless_over, unsettled, untold}
 use Rattle.state_deliveries.specs.declared.change.Change.{Change}
 use Rattle.state_deliveries.specs.declared.change.Change.TheVariants as change
 use Rattle.state_deliveries.specs.declared.index.Index.{Index}

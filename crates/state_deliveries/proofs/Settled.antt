@@ -5,7 +5,7 @@ use Rattle.std.specs.Option.{option_map}
 use Rattle.state_collections.specs.NumberMap.{at_number}
 use Rattle.std.proofs.lemmas.Bool.{eqb-true}
 use Rattle.router_trace.specs.declared.binding.DeliveryName.{DeliveryName}
-use Rattle.router_trace.specs.Deliveries.{Delivery, unless_over, is_number}
+use Rattle.router_trace.specs.Deliveries.{Delivery, is_number}
 use Rattle.state_deliveries.specs.declared.index.Index.{Index}
 use Rattle.state_deliveries.specs.declared.standing.Left.{Left}
 use Rattle.state_deliveries.specs.declared.store.Store.{Store}

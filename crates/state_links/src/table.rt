@@ -332,7 +332,7 @@ impl LinkTable {
             return Err(AllocError);
         };
         touch(&mut self.touched, number)?;
-        let link = Link::begun(self.alloc, number, copy(&key)?, attach, last, address)?;
+        let link = Link::begun(self.alloc, number, key.clone()?, attach, last, address)?;
         self.links.insert(conn, own, attach.handle, link)?;
         self.names.take(
             key,
@@ -552,16 +552,4 @@ fn mark(marks: &mut BTreeSet<u64>, conn: u64, drains: bool) -> Result<(), AllocE
         Ok(_) => Ok(()),
         Err(_) => Err(AllocError),
     }
-}
-
-/// A copy of a key.
-fn copy(key: &LinkKey) -> Result<LinkKey, AllocError>
-    ensures { IfOk result (λ k. k ≡ key.now) }
-{
-    Ok(LinkKey {
-        role: key.role,
-        user: key.user.clone()?,
-        container: key.container.clone()?,
-        name: key.name.clone()?,
-    })
 }

@@ -32,21 +32,6 @@ fn copied(alloc: Global, text: Option<&Text>) -> Result<Text, AllocError>
     }
 }
 
-/// A copy of a key.
-fn copied_key(key: &LinkKey) -> Result<LinkKey, AllocError>
-    ensures { IfOk result (λ copy. copy ≡ key.now) }
-{
-    let user = key.user.clone()?;
-    let container = key.container.clone()?;
-    let name = key.name.clone()?;
-    Ok(LinkKey {
-        role: key.role,
-        user,
-        container,
-        name,
-    })
-}
-
 /// The terminus that is made for a durable link with this key.
 fn new_terminus(
     alloc: Global,
@@ -56,7 +41,7 @@ fn new_terminus(
 ) -> Result<Terminus, AllocError>
     ensures { IfOk result (λ terminus. terminus ≡ new_terminus book.now key.now (wanted_address attach.now)) }
 {
-    let key = copied_key(key)?;
+    let key = key.clone()?;
     let Ok(address) = copied(alloc, wanted_address(attach)) else {
         drop(key);
         return Err(AllocError);

@@ -2,7 +2,7 @@ use Rattle.std.proofs.Common.{◌≡◌, ◌∙◌, ℕ, refl, ap, sym, subst}
 use Rattle.std.specs.Prelude.{◌==◌, if◌then◌else◌, Some}
 use Rattle.state_collections.specs.NumberMap.{at_number}
 use Rattle.router_trace.specs.Deliveries.{Delivery, bound}
-use Rattle.state_deliveries.specs.Indexing.{Indexes, Keys, keys, nowhere, standing}
+use Rattle.state_deliveries.specs.Indexing.{Indexes, keys, nowhere, standing}
 use Rattle.state_deliveries.specs.Touching.{StandsSame}
 use Rattle.state_deliveries.proofs.Called.{called_more}
 use Rattle.state_deliveries.proofs.Reindexed.{put_at}

@@ -1,4 +1,4 @@
-use Rattle.std.proofs.Common.{◌≡◌, ◌∙◌, ℕ, refl, ap, sym, false, Option}
+use Rattle.std.proofs.Common.{◌∙◌, refl, ap, sym, false, Option}
 use Rattle.std.specs.Prelude.{◌==◌}
 use Rattle.std.specs.Option.{option_and_then}
 use Rattle.router_trace.specs.declared.binding.DeliveryName.TheVariants.{Row}

@@ -1,7 +1,7 @@
-use Rattle.std.proofs.Common.{◌≡◌, ◌∙◌, ℕ, ap, sym, false, Option}
+use Rattle.std.proofs.Common.{◌∙◌, ap, sym, false, Option}
 use Rattle.std.specs.Prelude.{◌==◌, is_some}
 use Rattle.std.specs.Option.{option_and_then}
-use Rattle.router_trace.specs.Deliveries.{Delivery, is_number, held_by}
+use Rattle.router_trace.specs.Deliveries.{is_number, held_by}
 use Rattle.state_collections.specs.NumberMap.{at_number}
 use Rattle.state_deliveries.specs.declared.standing.Left.{Left}
 use Rattle.state_deliveries.proofs.Given.{none_of}

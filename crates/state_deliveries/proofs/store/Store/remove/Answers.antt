@@ -1,5 +1,5 @@
 use Rattle.std.proofs.Common.{◌≡◌, ◌∙◌, ℕ, refl, ap, sym, subst}
-use Rattle.std.specs.Prelude.{◌==◌, if◌then◌else◌, Some, None}
+use Rattle.std.specs.Prelude.{if◌then◌else◌, Some, None}
 use Rattle.state_collections.specs.NumberMap.{at_number}
 use Rattle.router_trace.specs.Deliveries.{Delivery, same_name}
 use Rattle.state_deliveries.specs.declared.by_name.ByName.{ByName}
