@@ -1,3 +1,5 @@
 pub mod Placed
 pub mod Mapped
-mod Taken
+pub mod Taken
+pub mod Transfers
+pub mod Landing

@@ -1,18 +1,51 @@
--- What is on a channel of the peer, if it is a session.
-use Rattle.std.proofs.Common.{◌≡◌, ℕ}
+-- What an item finds on its channel, if that is a session.
+use Rattle.std.proofs.Common.{◌≡◌, ◌∙◌, sym, ap, ℕ}
+use Rattle.std.specs.Prelude.{Option, Some, None}
 use Rattle.amqp_session.specs.declared.window.Window.{Window}
 use Rattle.amqp_session.specs.Session.{Session}
 use Rattle.amqp_session.specs.Figures.{window_of}
-use Rattle.router_trace.specs.Sessions.{Place, nowhere, ending, on}
+use Rattle.router_trace.specs.declared.channel.PeerChannel.{PeerChannel}
+use Rattle.router_trace.specs.declared.channel.PeerChannel.TheVariants.{Mapped, Ending}
+use Rattle.router_trace.specs.Trace.{Trace}
+use Rattle.router_trace.specs.Sessions.{Place, nowhere, ending, on, on_session, own_of, place_by, place, session, theirs}
+use Rattle.router_state.specs.Finding.{IsFoundBy}
+use Rattle.router_state.specs.declared.finding.Found.{Found}
 use Rattle.state_sessions.specs.declared.place.Place.TheVariants as found
 use Rattle.state_sessions.specs.Fits.{found_of}
 
-pub record IsOn (own : ℕ) (w : Window) (at : Place) : Type 0 where
+pub record IsOn (t : Trace) (c channel own : ℕ) (w : Window) (f : Found) : Type 0 where
   pub session : Session
-  pub place : at ≡ on own session
+  pub there : place t c channel ≡ on own session
+  pub window : w ≡ window_of session
+  pub found_own : f.own ≡ Some own
+
+record IsAt (own : ℕ) (w : Window) (at : Place) : Type 0 where
+  pub session : Session
+  pub there : at ≡ on own session
   pub window : w ≡ window_of session
 
-pub is_on : (at : Place) (own : ℕ) (w : Window) → found.On own w ≡ found_of at → IsOn own w at
-is_on nowhere own w e = absurd cc
-is_on ending own w e = absurd cc
-is_on (on o h) own w e = record { session = h; place = cc; window = cc }
+is_at : (at : Place) (own : ℕ) (w : Window) → found.On own w ≡ found_of at → IsAt own w at
+is_at nowhere own w e = absurd cc
+is_at ending own w e = absurd cc
+is_at (on o h) own w e = record { session = h; there = cc; window = cc }
+
+-- a session stands on the channel of the router that the peer's stands for
+own_on : (v : Option PeerChannel) (known : ℕ → Option Session) (own : ℕ) (h : Session) → place_by v known ≡ on own h → own_of v ≡ Some own
+own_on None known own h e = absurd cc
+own_on (Some Ending) known own h e = absurd cc
+own_on (Some (Mapped o)) known own h e = by (known o) e
+  where
+    by : (v : Option Session) → on_session o v ≡ on own h → Some o ≡ Some own
+    by None e = absurd cc
+    by (Some s) e = cc
+
+pub is_on : (t : Trace) (c channel : ℕ) (handle : Option ℕ) (own : ℕ) (w : Window) (f : Found)
+    → f.session ≡ found.On own w → IsFoundBy t c channel handle f → IsOn t c channel own w f
+is_on t c channel handle own w f is here =
+    let at : IsAt own w (place t c channel) = is_at (place t c channel) own w (sym is ∙ here.session) in
+    record {
+      session = at.session;
+      there = at.there;
+      window = at.window;
+      found_own = here.own ∙ own_on (theirs t c channel) (session t c) own at.session at.there;
+    }

@@ -48,7 +48,7 @@ takes_on own h claimed at x =
     by (on k l) = carried k l l.happened
 
 -- the key found on a handle is that of the link on which the transfer is taken
-key_there : (t : Trace) (c own p h : ℕ) → IsAt (link_place t c own p) h → key_on (link_place t c own p) ≡ durable_key (link t c own h)
+pub key_there : (t : Trace) (c own p h : ℕ) → IsAt (link_place t c own p) h → key_on (link_place t c own p) ≡ durable_key (link t c own h)
 key_there t c own p h = by (their_handle t c own p)
   where
     there : (g : ℕ) (v : Option Link) → v ≡ link t c own g → IsAt (on_link g v) h → key_on (on_link g v) ≡ durable_key (link t c own h)

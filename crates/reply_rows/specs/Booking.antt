@@ -22,6 +22,8 @@ use Rattle.router_trace.specs.Links.{LinkPlace, on, address_by, key_at, link, li
 use Rattle.router_trace.specs.Settling.{middle_on, uses_tag}
 use Rattle.router_trace.specs.declared.condition.Condition.{Condition}
 use Rattle.router_trace.specs.declared.condition.Condition.TheVariants.{NotAllowed, ResourceLimitExceeded}
+use Rattle.router_state.specs.Finding.{IsFoundLink}
+use Rattle.state_links.specs.declared.found.FoundLink.{FoundLink}
 use Rattle.reply_rows.specs.Finding.{finds}
 use Rattle.reply_rows.specs.Rows.{item_reply}
 use Rattle.reply_rows.specs.declared.answer.Answer.{Answer}
@@ -107,6 +109,19 @@ IsAt _ handle = ⊥
 abbrev pub TakesOn : ℕ → LinkPlace → Answer → Type 0
 TakesOn own at (Taken o handle) = (own ≡ o) × IsAt at handle
 TakesOn own at _ = Unit {0}
+
+-- A transfer that is taken is taken on the link that was found on its handle.
+abbrev pub TakesOnLink : Trace → ℕ → ATransfer → FoundLink → Answer → Type 0
+TakesOnLink t c x f (Taken own handle) = IsFoundLink (link_place t c own x.handle) f × IsAt (link_place t c own x.handle) handle
+TakesOnLink t c x f _ = Unit {0}
+
+abbrev pub TakesIn : Trace → ℕ → Perf → FoundLink → Answer → Type 0
+TakesIn t c (perf.Transfer x) f answer = TakesOnLink t c x f answer
+TakesIn t c _ f answer = Unit {0}
+
+abbrev pub TakesFound : Trace → ℕ → Item → FoundLink → Answer → Type 0
+TakesFound t c (item.Frame false channel body payload) f answer = TakesIn t c body f answer
+TakesFound t c _ f answer = Unit {0}
 
 abbrev pub booked_transfer : BookView → Trace → ℕ → ATransfer → Answer → Answer
 booked_transfer b t c x (Taken own handle) =

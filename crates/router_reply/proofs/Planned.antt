@@ -1,8 +1,11 @@
 -- What an item's plan is made of, by what was found before it.
-use Rattle.std.proofs.Common.{◌≡◌, ◌∙◌, ◌++◌, ap, refl, ℕ, Bool, List, []}
-use Rattle.std.specs.Prelude.{Option, None, map}
+use Rattle.std.proofs.Common.{◌≡◌, ◌∙◌, ◌++◌, ap, refl, ℕ, Bool, true, false, List, []}
+use Rattle.std.specs.Prelude.{Option, Some, None, map}
 use Rattle.amqp_conn.specs.declared.conn.Conn.{Conn}
 use Rattle.amqp_model.specs.declared.item.Item.{Item}
+use Rattle.amqp_model.specs.declared.item.Item.TheVariants as item
+use Rattle.amqp_model.specs.declared.perf.Perf.{Perf}
+use Rattle.amqp_model.specs.declared.perf.Perf.TheVariants as perf
 use Rattle.book_model.specs.Book.{BookView}
 use Rattle.router_trace.specs.Trace.{Entry}
 use Rattle.router_trace.specs.Connection.{due, phase_found}
@@ -13,13 +16,18 @@ use Rattle.router_trace.specs.declared.event.Event.{Event}
 use Rattle.router_trace.specs.declared.event.Event.TheVariants as event
 use Rattle.router_state.specs.declared.tables.State.{State}
 use Rattle.router_state.specs.Tables.{TablesAt, TablesFind, at_finds}
+use Rattle.router_state.specs.Finding.{IsFound}
+use Rattle.router_state.specs.declared.finding.Found.{Found}
+use Rattle.state_links.specs.declared.found.FoundLink.{FoundLink}
+use Rattle.reply_rows.proofs.Landing.{takes_found}
+use Rattle.reply_rows.specs.Booking.{TakesFound, TakesIn}
 use Rattle.reply_rows.specs.declared.answer.Answer.{Answer}
 use Rattle.reply_rows.specs.declared.answer.Answer.TheVariants.{Nothing}
 use Rattle.state_deliveries.specs.Deciding.{decided_rows}
 use Rattle.state_deliveries.specs.Hearing.{heard_change}
 use Rattle.state_deliveries.specs.declared.change.Change.{Change}
 use Rattle.state_links.specs.Fits.{channel_of}
-use Rattle.router_reply.specs.Acts.{event_answer}
+use Rattle.router_reply.specs.Acts.{event_answer, live_answer}
 use Rattle.router_reply.specs.Deciding.{as_kept, listed, lost, ended_by, session_found, event_changes, decided}
 use Rattle.router_reply.specs.Deciding.{forgotten, terminus_of_event}
 use Rattle.router_reply.specs.Heard.{IsSession, IsChange}
@@ -46,6 +54,21 @@ changed_as t d i a own ends change ended is_own are_due is_change is_ended =
     ∙ ap (λ (o : Option ℕ). listed (heard_change d.0 o i) ++ map lost ends ++ ended_by t d.0 i a) is_own
     ∙ ap (λ (es : List ℕ). listed (heard_change d.0 (session_found t d i) i) ++ map lost es
     ++ ended_by t d.0 i a) are_due
+
+-- a transfer that is taken is taken on the link that was found
+nothing_taken : (t : List Entry) (c : ℕ) (i : Item) (f : FoundLink) → TakesFound t c i f Nothing
+nothing_taken t c (item.Frame true channel body payload) f = tt
+nothing_taken t c (item.Frame false channel body payload) f = by body
+  where
+    by : (p : Perf) → TakesIn t c p f Nothing
+    by (perf.Transfer x) = tt
+    by _ = tt
+nothing_taken t c _ f = tt
+
+pub live_takes : (full : Bool) (b : BookView) (t : List Entry) (c : ℕ) (i : Item) (phase : Option Conn) (f : Found) → IsFound t c i f
+    → TakesFound t c i f.link (live_answer full b t c i phase)
+live_takes full b t c i None f found = nothing_taken t c i f.link
+live_takes full b t c i (Some p) f found = takes_found full b t c p i f found
 
 -- What the plan of an event promises, one clause of `make_plan` each.
 abbrev pub PlanFor : State → List ℕ → Option Conn → (List Entry → Event → Type 0) → Event → Type 0

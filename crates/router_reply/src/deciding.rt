@@ -4,7 +4,6 @@ ghost use Rattle.amqp_model.specs.declared.item.Item.{Item};
 ghost use Rattle.router_trace.specs.Trace.{Entry};
 ghost use Rattle.reply_rows.specs.declared.answer.Answer.TheVariants as reply;
 ghost use Rattle.router_state.specs.Tables.{TablesFind};
-ghost use Rattle.state_links.specs.Fits.{channel_of};
 ghost use Rattle.state_deliveries.specs.Deciding.{decided_rows};
 ghost use Rattle.state_deliveries.specs.declared.change.Change.{Change};
 ghost use Rattle.router_reply.specs.Deciding.{lost, listed, stolen_from, stolen_for, ended_by, as_kept};
@@ -128,16 +127,6 @@ pub(crate) fn changes_lost(
     }
     add_lost(&mut changes, ends)?;
     Ok(changes)
-}
-
-/// The channel of an item; 0 if it has none.
-pub(crate) fn channel_of(item: &Item) -> u16
-    ensures { result ≡ channel_of item.now }
-{
-    match item {
-        Item::Frame { channel, .. } => *channel,
-        _ => 0,
-    }
 }
 
 /// A decision with its outcome as the router keeps it.

@@ -6,7 +6,9 @@ ghost use Rattle.reply_rows.specs.declared.answer.Answer.TheVariants as reply;
 ghost use Rattle.router_trace.specs.Trace.{Entry};
 ghost use Rattle.router_trace.specs.Connection.{phase_found};
 ghost use Rattle.router_trace.specs.declared.event.Event.TheVariants as event;
+ghost use Rattle.router_state.specs.Finding.{IsFound};
 ghost use Rattle.router_state.specs.Tables.{TablesFind, TablesAt};
+ghost use Rattle.reply_rows.specs.Booking.{TakesFound, TakesIn};
 ghost use Rattle.state_deliveries.specs.Deciding.{decided_rows};
 ghost use Rattle.router_reply.specs.Acts.{live_answer, event_answer};
 ghost use Rattle.router_reply.specs.Deciding.{as_kept, listed, lost, stolen_from, stolen_for, stolen_in, decided};
@@ -22,7 +24,7 @@ mod disposition;
 mod doings;
 mod transfer;
 
-use crate::deciding::{changed_rows, changes_lost, channel_of, decided, ended_by, joined};
+use crate::deciding::{changed_rows, changes_lost, decided, ended_by, joined};
 use crate::planning::doings::Doings;
 use crate::resuming::{Resumption, planned_decisions, planned_forgotten};
 use amqp_conn::Conn;
@@ -31,9 +33,10 @@ use book_core::Book;
 use book_model::{Decision, RowNumber};
 use journal_store::TerminusAct;
 use reply_rows::{Answer, item_answer};
-use router_state::{State, none_if_ended};
+use router_state::{Found, State, none_if_ended};
 use router_trace::{ConnectionId, Event};
 use state_deliveries::Change;
+use state_links::FoundLink;
 use std::alloc::AllocError;
 
 /// What the plan of an item found, that its handling goes on with.
@@ -47,7 +50,10 @@ pub struct Findings {
 
 impl Findings {
     /// Those of an event that is no item.
-    pub fn none() -> Findings {
+    pub fn none() -> Findings
+        ensures own { result.own ≡ None }
+        ensures change { result.change ≡ None }
+    {
         Findings {
             own: None,
             change: None,
@@ -74,18 +80,20 @@ pub struct Plan {
     pub found: Findings,
 }
 
-/// What a performative with this answer does, on its session, but for a SASL frame.
+/// What a performative with this answer does, on its session, but for a SASL frame; it finds this link on its handle.
 fn done_by(
     state: &State,
     book: &Book,
     conn: u64,
     own: Option<u16>,
+    link: &FoundLink<'_>,
     perf: &Perf,
     answer: &Answer,
 ) -> Result<Doings, AllocError>
     ensures stolen { IfOk result (λ does. (t : List Entry) (on : ℕ) → TablesFind state.now t
         → answer.now ≡ reply.Attach on → stolen_from does.stolen ≡ stolen_in t conn perf.now) }
     ensures forgotten { IfOk result (λ does. (t : List Entry) → TablesFind state.now t
+        → TakesIn t conn perf.now link.now answer.now
         → does.forgotten.items ≡ forgotten_by book.now t conn own perf.now answer.now) }
     ensures terminus { IfOk result (λ does. (t : List Entry) → TablesFind state.now t
         → does.terminus ≡ terminus_by book.now t conn perf.now answer.now) }
@@ -94,25 +102,27 @@ fn done_by(
 {
     match perf {
         Perf::Attach(attach) => attach::does(state, book, conn, attach.as_ref(), answer),
-        Perf::Transfer(transfer) => transfer::does(state, book, conn, transfer, answer),
+        Perf::Transfer(transfer) => transfer::does(state.alloc(), book, link, transfer, answer),
         Perf::Disposition(disposition) => disposition::does(state, book, conn, own, disposition),
         Perf::Detach(_) => detach::does(state, book, conn, answer),
         _ => Ok(Doings::nothing(state.alloc())),
     }
 }
 
-/// What an item with this answer does, on its session.
+/// What an item with this answer does, on its session; it finds this link on its handle.
 fn done_in(
     state: &State,
     book: &Book,
     conn: u64,
     own: Option<u16>,
+    link: &FoundLink<'_>,
     item: &Item,
     answer: &Answer,
 ) -> Result<Doings, AllocError>
     ensures stolen { IfOk result (λ does. (t : List Entry) (on : ℕ) → TablesFind state.now t
         → answer.now ≡ reply.Attach on → stolen_from does.stolen ≡ stolen_for t conn item.now) }
     ensures forgotten { IfOk result (λ does. (t : List Entry) → TablesFind state.now t
+        → TakesFound t conn item.now link.now answer.now
         → does.forgotten.items ≡ forgotten_in book.now t conn own item.now answer.now) }
     ensures terminus { IfOk result (λ does. (t : List Entry) → TablesFind state.now t
         → does.terminus ≡ terminus_in book.now t conn item.now answer.now) }
@@ -121,7 +131,7 @@ fn done_in(
 {
     match item {
         Item::Frame { sasl, perf, .. } => {
-            let does = done_by(state, book, conn, own, perf, answer)?;
+            let does = done_by(state, book, conn, own, link, perf, answer)?;
             if *sasl {
                 return Ok(does.without_rows(state.alloc()));
             }
@@ -131,32 +141,35 @@ fn done_in(
     }
 }
 
-/// The plan of an item with this answer, by an event that ends these connections first.
+/// The plan of an item with this answer, by an event that ends these connections first; the item finds this link on its
+/// handle, and its channel stands for the router's channel `own`.
 fn planned(
     state: &State,
     book: &Book,
     ends: &[u64],
     conn: ConnectionId,
+    own: Option<u16>,
+    link: &FoundLink<'_>,
     item: &Item,
     answer: Answer,
 ) -> Result<Plan, AllocError>
     ensures answer { IfOk result (λ plan. plan.answer ≡ answer) }
     ensures decided { IfOk result (λ plan. (t : List Entry) → TablesAt state.now t (event.Item conn item.now) ends.now
+        → IsSession t (event.Item conn item.now) own
         → plan.decided.items ≡ decided book.now t (event.Item conn item.now) answer) }
     ensures forgotten { IfOk result (λ plan. (t : List Entry)
         → TablesAt state.now t (event.Item conn item.now) ends.now
+        → IsSession t (event.Item conn item.now) own → TakesFound t conn.0 item.now link.now answer
         → plan.forgotten.items ≡ forgotten book.now t (event.Item conn item.now) answer) }
     ensures terminus { IfOk result (λ plan. (t : List Entry) → TablesAt state.now t (event.Item conn item.now) ends.now
         → plan.terminus ≡ terminus_of_event book.now t (event.Item conn item.now) answer) }
     ensures resumed { IfOk result (λ plan. (t : List Entry) → TablesAt state.now t (event.Item conn item.now) ends.now
         → Resumes book.now t (event.Item conn item.now) answer plan.resumption) }
-    ensures session { IfOk result (λ plan. (t : List Entry) → TablesAt state.now t (event.Item conn item.now) ends.now
-        → IsSession t (event.Item conn item.now) plan.found.own) }
+    ensures session { IfOk result (λ plan. plan.found.own ≡ own) }
     ensures change { IfOk result (λ plan. IsChange ends.now (event.Item conn item.now) plan.found) }
 {
-    let own = state.own_channel(conn.0, channel_of(item));
     let here = none_if_ended(ends, conn.0, own);
-    let does = done_in(state, book, conn.0, here, item, &answer)?;
+    let does = done_in(state, book, conn.0, here, link, item, &answer)?;
     let change = Change::of_item(conn.0, here, item)?;
     let ended = ended_by(conn.0, &answer, does.stolen);
     let Doings {
@@ -180,21 +193,22 @@ fn planned(
     })
 }
 
-/// The answer to an item on a connection in this phase, as an event finds it; nothing if the connection isn't live
-/// then.
+/// The answer to an item that finds this, on a connection in this phase, as an event finds it; nothing if the connection
+/// isn't live then.
 fn answered(
     state: &State,
     book: &Book,
     full: bool,
     phase: Option<Conn>,
     conn: u64,
+    found: &Found<'_>,
     item: &Item,
 ) -> Result<Answer, AllocError>
-    ensures { IfOk result (λ answer. (t : List Entry) → TablesFind state.now t
+    ensures { IfOk result (λ answer. (t : List Entry) → TablesFind state.now t → IsFound t conn item.now found.now
         → answer ≡ live_answer full book.now t conn item.now phase) }
 {
     match phase {
-        Some(phase) => item_answer(state, book, full, conn, phase, item),
+        Some(phase) => item_answer(state, book, full, conn, phase, found, item),
         None => Ok(Answer::Nothing),
     }
 }
@@ -231,8 +245,18 @@ fn item_plan(
         → IsSession t (event.Item conn item.now) plan.found.own) }
     ensures change { IfOk result (λ plan. IsChange ends.now (event.Item conn item.now) plan.found) }
 {
-    let answer = answered(state, book, full, phase, conn.0, item)?;
-    planned(state, book, ends, conn, item, answer)
+    let found = state.find(conn.0, item);
+    let answer = answered(state, book, full, phase, conn.0, &found, item)?;
+    planned(
+        state,
+        book,
+        ends,
+        conn,
+        found.own,
+        &found.link,
+        item,
+        answer,
+    )
 }
 
 /// Plans an event that is no item: it loses a connection, if it is the loss of one, and those that it ends first.

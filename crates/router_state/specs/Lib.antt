@@ -1,3 +1,4 @@
+pub mod Finding
 pub mod Tables
 pub mod Waiting
 pub use Rattle.router_trace.specs.Trace

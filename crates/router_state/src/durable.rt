@@ -2,7 +2,6 @@
 ghost use Rattle.std.specs.Prelude.{◌≡◌, List, OnOk, IfOk, is_some};
 ghost use Rattle.router_trace.specs.Trace.{Entry};
 ghost use Rattle.router_trace.specs.Deliveries.{none_if_ended};
-ghost use Rattle.router_trace.specs.Sessions.{session_on};
 ghost use Rattle.router_trace.specs.Links.{durable_key, link};
 ghost use Rattle.router_trace.specs.Settling.{uses_tag};
 ghost use Rattle.state_deliveries.specs.Deciding.{decided_rows};
@@ -25,13 +24,6 @@ pub fn none_if_ended(ends: &[u64], conn: u64, own: Option<u16>) -> Option<u16>
 }
 
 impl State {
-    /// The router's channel of the session on a channel of the peer (AMQP 1.0 part 2, section 2.5.1).
-    pub fn own_channel(&self, conn: u64, channel: u16) -> Option<u16>
-        ensures { (t : List Entry) → TablesFind self.now t → result ≡ session_on t conn channel }
-    {
-        self.sessions.own_channel(conn, channel)
-    }
-
     /// Whether the link on a handle of the router is durable.
     pub fn is_durable(&self, at: LinkPlace) -> bool
         ensures { (t : List Entry) → TablesFit self.now t → result ≡ is_some (durable_key (link t at.conn.0 at.own at.handle)) }

@@ -1,23 +1,71 @@
-//! What a frame finds on its handle.
-ghost use Rattle.std.specs.Prelude.{◌≡◌, List, option_map};
+//! What an item finds.
+ghost use Rattle.std.specs.Prelude.{◌≡◌, ℕ, List, Some};
+ghost use Rattle.router_trace.specs.Links.{link_place};
 ghost use Rattle.router_trace.specs.Trace.{Entry};
-ghost use Rattle.router_trace.specs.Links.{link_place, found_link};
-ghost use Rattle.router_trace.specs.Settling.{middle_on};
-ghost use Rattle.state_links.specs.Looking.{key_on};
+ghost use Rattle.router_state.specs.Finding.{IsFound, IsFoundBy, IsFoundLink, handle_in};
 ghost use Rattle.router_state.specs.Tables.{TablesFind};
 
-use crate::place::LinkPlace;
 use crate::tables::State;
+use amqp_model::{Item, Perf};
+use router_trace::LinkAt;
 use state_links::FoundLink;
+use state_sessions::Place;
+
+/// What an item of a peer finds, each looked up once: what its channel stands for, and what its performative's handle
+/// stands for on the session there.
+#[derive(Clone, Copy)]
+pub struct Found<'a> {
+    /// The router's channel that its channel stands for, if it stands for one.
+    pub own: Option<u16>,
+    /// What is on its channel.
+    pub session: Place,
+    /// What is on its handle; nothing if its channel stands for no session, or if its performative has no handle.
+    pub link: FoundLink<'a>,
+}
 
 impl State {
-    /// What is on a handle of the peer, as an event finds it, with the delivery in the middle of the link there, and the link's key if
-    /// it is durable; all by one look-up.
-    pub fn find_link(&self, at: LinkPlace) -> FoundLink<'_>
-        ensures place { (t : List Entry) → TablesFind self.now t → result.place ≡ found_link (link_place t at.conn.0 at.own at.handle) }
-        ensures middle { (t : List Entry) → TablesFind self.now t → option_map (λ d. d.now) result.middle ≡ middle_on (link_place t at.conn.0 at.own at.handle) }
-        ensures key { (t : List Entry) → TablesFind self.now t → option_map (λ k. k.now) result.key ≡ key_on (link_place t at.conn.0 at.own at.handle) }
+    /// What an item on a connection finds, as an event finds it.
+    pub fn find(&self, conn: u64, item: &Item) -> Found<'_>
+        ensures { (t : List Entry) → TablesFind self.now t → IsFound t conn item.now result }
     {
-        self.messages.links().find(at.conn.0, at.own, at.handle)
+        match item {
+            Item::Frame { channel, perf, .. } => self.find_on(conn, *channel, handle_in(perf)),
+            _ => self.find_on(conn, 0, None),
+        }
+    }
+
+    /// What is on a channel of the peer, and on a handle of the session there.
+    fn find_on(&self, conn: u64, channel: u16, handle: Option<u32>) -> Found<'_>
+        ensures { (t : List Entry) → TablesFind self.now t → IsFoundBy t conn channel handle result }
+    {
+        let session = self.sessions.find(conn, channel);
+        Found {
+            own: session.own,
+            session: session.place,
+            link: self.find_link(conn, session.own, handle),
+        }
+    }
+
+    /// What is on a handle of a session, if there are both.
+    fn find_link(&self, conn: u64, own: Option<u16>, handle: Option<u32>) -> FoundLink<'_>
+        ensures { (t : List Entry) → TablesFind self.now t → (o h : ℕ) → own ≡ Some o → handle ≡ Some h → IsFoundLink (link_place t conn o h) result }
+    {
+        match (own, handle) {
+            (Some(own), Some(handle)) => self.messages.links().find(conn, own, handle),
+            _ => FoundLink::unlinked(LinkAt::Nowhere),
+        }
+    }
+}
+
+/// The handle that a performative has, if it has one.
+fn handle_in(perf: &Perf) -> Option<u32>
+    ensures { result ≡ handle_in perf.now }
+{
+    match perf {
+        Perf::Attach(attach) => Some(attach.as_ref().handle),
+        Perf::Flow(flow) => flow.handle,
+        Perf::Transfer(transfer) => Some(transfer.handle),
+        Perf::Detach(detach) => Some(detach.handle),
+        _ => None,
     }
 }

@@ -7,5 +7,6 @@ mod place;
 mod tables;
 
 pub use durable::none_if_ended;
+pub use finding::Found;
 pub use place::LinkPlace;
 pub use tables::State;

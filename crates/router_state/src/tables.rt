@@ -18,15 +18,15 @@ ghost use Rattle.state_deliveries.specs.Finding.{IsFirst, IsFirstBy, is_above, i
 ghost use Rattle.state_messages.specs.Messages.{attachment_at, consumer_of, binding_for, taken_up_by, with_bound, grants_due, grant_flow};
 ghost use Rattle.state_messages.specs.Asking.{consumer_with, has_unsent, goes_on, owes_drain, drained_state};
 ghost use Rattle.router_trace.specs.Trace.{Bound as BoundTo, Entry, Out, Took, did, newest, goes, puts_of};
-ghost use Rattle.router_trace.specs.Sessions.{place, free_channel};
+ghost use Rattle.router_trace.specs.Sessions.{free_channel};
 ghost use Rattle.router_trace.specs.Clocks.{terms, channel_max_of};
 ghost use Rattle.router_trace.specs.Peers.{user, container, largest_frame};
-ghost use Rattle.router_trace.specs.Links.{link_place, found_link, free_handle, holder, key_of};
+ghost use Rattle.router_trace.specs.Links.{link_place, free_handle, holder, key_of};
 ghost use Rattle.state_connections.specs.Peering.{PeersFit};
 ghost use Rattle.state_links.specs.Fits.{key_in, key_by, channel_of};
 ghost use Rattle.state_connections.specs.Timing.{ClocksFit};
 ghost use Rattle.amqp_session.specs.Session.{Session};
-ghost use Rattle.state_sessions.specs.Fits.{SessionsFit, found_of, window_by};
+ghost use Rattle.state_sessions.specs.Fits.{SessionsFit, window_by};
 ghost use Rattle.state_sessions.specs.Windows.{windows};
 ghost use Rattle.router_trace.specs.Connection.{conn as known, standing, phase_before, is_ready, has};
 ghost use Rattle.state_connections.specs.Fits.{at_number, IsLeast, IsBatch, count};
@@ -47,13 +47,13 @@ use book_model::{Act, LinkKey, RowNumber};
 use bytes::Bytes;
 use route_table::Table;
 use router_trace::{
-    Attachment, ConnectionId, DeliveryName, Event, Holding, LinkAt, LinkState, Origin, Outgoing,
-    Peer, Resumed, SESSION_WINDOW, beat_item, link_flow_item,
+    Attachment, ConnectionId, DeliveryName, Event, Holding, LinkState, Origin, Outgoing, Peer,
+    Resumed, SESSION_WINDOW, beat_item, link_flow_item,
 };
 use state_connections::{Clocks, Connections, Peers, Ready, Refused, Taken};
 use state_deliveries::{Change, Delivery as Bound};
 use state_messages::{LinkGrant, Messages};
-use state_sessions::{Place, Sessions};
+use state_sessions::Sessions;
 use state_unsettled::IncomingDelivery;
 use std::alloc::{AllocError, Global};
 
@@ -113,26 +113,12 @@ impl State {
         self.connections.phase(conn)
     }
 
-    /// What is on a channel of the peer as an event finds it.
-    pub fn place(&self, conn: u64, channel: u16) -> Place
-        ensures { (t : List Entry) → TablesFind self.now t → result ≡ found_of (place t conn channel) }
-    {
-        self.sessions.place(conn, channel)
-    }
-
     /// The router's lowest channel, as an event finds it, that the peer accepts too and that has no session.
     pub fn free_channel(&self, conn: u64) -> Option<u16>
         ensures { (t : List Entry) → TablesFind self.now t → result ≡ free_channel t conn (channel_max_of (terms t conn)) }
     {
         self.sessions
             .free_channel(conn, self.clocks.channel_max(conn))
-    }
-
-    /// What is on a handle of the peer, as an event finds it.
-    pub fn link_place(&self, at: LinkPlace) -> LinkAt
-        ensures { (t : List Entry) → TablesFind self.now t → result ≡ found_link (link_place t at.conn.0 at.own at.handle) }
-    {
-        self.messages.links().place(at.conn.0, at.own, at.handle)
     }
 
     /// The router's lowest handle, of 64, that the session's peer accepts too and on which nothing is attached.

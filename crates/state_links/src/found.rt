@@ -18,7 +18,7 @@ pub struct FoundLink<'a> {
 
 impl<'a> FoundLink<'a> {
     /// A handle that stands for no link.
-    pub(crate) fn unlinked(place: LinkAt) -> FoundLink<'a>
+    pub fn unlinked(place: LinkAt) -> FoundLink<'a>
         ensures place { result.place ≡ place }
         ensures middle { result.middle ≡ None }
         ensures key { result.key ≡ None }

@@ -51,14 +51,8 @@ impl Links {
         }
     }
 
-    /// What is on a peer's handle, on the session with the router's channel `own`.
-    pub fn place(&self, conn: u64, own: u16, handle: u32) -> LinkAt
-        ensures { (t : List Entry) → LinksFit self.now t → result ≡ found_link (link_place t conn own handle) }
-    {
-        self.find(conn, own, handle).place
-    }
-
-    /// The same, with the delivery in the middle of the link there, and the link's key if it is durable.
+    /// What is on a peer's handle, on the session with the router's channel `own`, with the delivery in the middle of the link there, and the
+    /// link's key if it is durable.
     #[tactic(auto, using(crate::proofs::Looks::found_follows, crate::proofs::Looks::middle_found, crate::proofs::Looks::key_found))]
     pub fn find(&self, conn: u64, own: u16, handle: u32) -> FoundLink<'_>
         ensures place { (t : List Entry) → LinksFit self.now t → result.place ≡ found_link (link_place t conn own handle) }

@@ -6,12 +6,12 @@ ghost use Rattle.std.specs.BTreeMap.{get};
 ghost use Rattle.state_collections.specs.NumberMap.{at_number};
 ghost use Rattle.amqp_session.specs.Figures.{after_our_flow, after_our_transfer};
 ghost use Rattle.router_trace.specs.Trace.{puts_of};
-ghost use Rattle.router_trace.specs.Sessions.{begin_state, flow_state, offered_in, after_their_end, place_by, is_channel, maps};
+ghost use Rattle.router_trace.specs.Sessions.{begin_state, flow_state, offered_in, after_their_end, on_session, own_of, place_by, is_channel, maps};
 ghost use Rattle.state_sessions.specs.Windows.{is_narrow_window, is_narrow_at, flow_due};
 ghost use Rattle.state_sessions.specs.Fits.{listed, heard_in_window, heard_window, begun_window, window_by, found_of};
 ghost use Rattle.router_trace.specs.declared.channel.PeerChannel.TheVariants.{Mapped, Ending};
 
-use crate::place::Place;
+use crate::place::{FoundSession, Place};
 use amqp_model::{Begin, Flow, Perf};
 use amqp_session::{BeginState, FlowState, Serial, Window};
 use router_trace::{ConnectionId, Outgoing, PeerChannel, SESSION_WINDOW, flow_item};
@@ -110,29 +110,40 @@ impl ConnectionSessions {
         }
     }
 
-    /// What is on a channel of the peer.
-    pub fn place(&self, channel: u16) -> Place
-        ensures { (known : ℕ → Option Session) → ((o : ℕ) → at_number self.now.windows o ≡ window_by (known o))
-            → result ≡ found_of (place_by (at_number self.now.theirs channel) known) }
+    /// What a channel of the peer stands for.
+    pub fn find(&self, channel: u16) -> FoundSession
+        ensures own { result.own ≡ own_of (at_number self.now.theirs channel) }
+        ensures place { (known : ℕ → Option Session) → ((o : ℕ) → at_number self.now.windows o ≡ window_by (known o))
+            → result.place ≡ found_of (place_by (at_number self.now.theirs channel) known) }
     {
         match self.theirs.get(u64::from(channel)) {
-            None => Place::Nowhere,
-            Some(PeerChannel::Ending) => Place::Ending,
-            Some(PeerChannel::Mapped(own)) => match self.windows.get(u64::from(*own)) {
-                None => Place::Nowhere,
-                Some(window) => Place::On {
-                    own: *own,
-                    window: *window,
-                },
+            None => FoundSession {
+                own: None,
+                place: Place::Nowhere,
+            },
+            Some(PeerChannel::Ending) => FoundSession {
+                own: None,
+                place: Place::Ending,
+            },
+            Some(PeerChannel::Mapped(own)) => FoundSession {
+                own: Some(*own),
+                place: self.place_on(*own),
             },
         }
     }
 
-    /// The router's channel that a channel of the peer stands for.
-    pub fn own_channel(&self, channel: u16) -> Option<u16>
-        ensures { (o : ℕ) → is_channel result o ≡ maps (at_number self.now.theirs channel) o }
+    /// The session on a channel of the router, if there is one.
+    fn place_on(&self, own: u16) -> Place
+        ensures { (known : ℕ → Option Session) → ((o : ℕ) → at_number self.now.windows o ≡ window_by (known o))
+            → result ≡ found_of (on_session own (known own)) }
     {
-        mapped(&self.theirs, channel)
+        match self.windows.get(u64::from(own)) {
+            None => Place::Nowhere,
+            Some(window) => Place::On {
+                own,
+                window: *window,
+            },
+        }
     }
 
     /// The windows of the session on a channel of the router.

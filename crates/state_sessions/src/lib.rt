@@ -7,5 +7,5 @@ mod rows;
 mod sessions;
 
 pub use connection::{NARROW, flow_state};
-pub use place::Place;
+pub use place::{FoundSession, Place};
 pub use sessions::{CHANNELS, Sessions};

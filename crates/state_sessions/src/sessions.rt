@@ -7,7 +7,7 @@ ghost use Rattle.router_trace.specs.Trace.{Beginning, Trace};
 ghost use Rattle.router_trace.specs.Configuration.{opened};
 ghost use Rattle.router_trace.specs.Trace.{Entry, Out, did, puts_of};
 ghost use Rattle.std.specs.List.{find};
-ghost use Rattle.router_trace.specs.Sessions.{place, session, is_free, free_channel, is_channel, maps, theirs};
+ghost use Rattle.router_trace.specs.Sessions.{place, session, session_on, is_free, free_channel};
 ghost use Rattle.state_sessions.specs.Windows.{flow_due, flows_below, is_narrow_window};
 ghost use Rattle.state_sessions.specs.Fits.{SessionsFit, with_mark, window_in, found_of, listed};
 ghost use Rattle.router_trace.specs.declared.event.Event.TheVariants as event;
@@ -17,7 +17,7 @@ ghost use Rattle.amqp_model.specs.declared.perf.Transfer.{Transfer};
 ghost use Rattle.amqp_model.specs.declared.perf.End.{End};
 
 use crate::connection::ConnectionSessions;
-use crate::place::Place;
+use crate::place::{FoundSession, Place};
 use crate::rows;
 use amqp_model::{Begin, Flow, Item, Perf};
 use amqp_session::Window;
@@ -56,23 +56,17 @@ impl Sessions {
         }
     }
 
-    /// What is on a channel of the peer.
-    pub fn place(&self, conn: u64, channel: u16) -> Place
-        ensures { (t : List Entry) → SessionsFit self.now t → result ≡ found_of (place t conn channel) }
+    /// What a channel of the peer stands for.
+    pub fn find(&self, conn: u64, channel: u16) -> FoundSession
+        ensures own { (t : List Entry) → SessionsFit self.now t → result.own ≡ session_on t conn channel }
+        ensures place { (t : List Entry) → SessionsFit self.now t → result.place ≡ found_of (place t conn channel) }
     {
         match self.rows.get(conn) {
-            None => Place::Nowhere,
-            Some(row) => row.place(channel),
-        }
-    }
-
-    /// The router's channel that a channel of the peer stands for; none if it has no session.
-    pub fn own_channel(&self, conn: u64, channel: u16) -> Option<u16>
-        ensures { (t : List Entry) → SessionsFit self.now t → (o : ℕ) → is_channel result o ≡ maps (theirs t conn channel) o }
-    {
-        match self.rows.get(conn) {
-            None => None,
-            Some(row) => row.own_channel(channel),
+            None => FoundSession {
+                own: None,
+                place: Place::Nowhere,
+            },
+            Some(row) => row.find(channel),
         }
     }
 

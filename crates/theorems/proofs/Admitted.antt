@@ -48,7 +48,7 @@ use Rattle.router_reply.specs.Deciding.{decided, forgotten, terminus_of_event}
 use Rattle.router_reply.specs.Replies.{row_found, ends, heard, bound_for, item_bound, bound_by}
 use Rattle.theorems.specs.Admitted.{IsFromTerminus, IsAdmitted, IsAdmittedUnder}
 use Rattle.theorems.proofs.Arriving.{CameAt, came_whole, bound_on, bound_there}
-use Rattle.theorems.proofs.Transfers.{IsOn, IfTaken, transfer_taken}
+use Rattle.reply_rows.proofs.Transfers.{IsOn, IfTaken, transfer_taken}
 use Rattle.theorems.proofs.Made.{AllOfRows, settled_of_rows}
 use Rattle.theorems.proofs.Tests.{some_same, none_not_some}
 

@@ -47,7 +47,7 @@ use Rattle.theorems.proofs.Resumed.{resumed_takes, replied_book, replied_found}
 use Rattle.theorems.proofs.Rows.{Rows, start_rows, took_rows, resumed_rows, handled_rows}
 use Rattle.theorems.proofs.Sound.{Sound, sound_start, did_sound, took_sound, batch_sound, held_sound, taken_sound, goes_sound, quiet_sound, QuietPut, quiet_both, quiet_to, still_handled}
 use Rattle.theorems.proofs.Quiet.{closing_of_quiet, said_quiet, taken_quiet, refused_quiet, settled_quiet, beats_quiet, windows_quiet, drains_quiet, grants_quiet}
-use Rattle.theorems.proofs.Transfers.{IfTaken, transfer_taken}
+use Rattle.reply_rows.proofs.Transfers.{IfTaken, transfer_taken}
 use Rattle.theorems.proofs.Arriving.{transfer_sound}
 use Rattle.theorems.proofs.Names.{names_told}
 use Rattle.theorems.proofs.GoingOn.{going_sends}

@@ -75,7 +75,7 @@ use Rattle.theorems.proofs.Settling.{found_at_number}
 use Rattle.theorems.proofs.Sound.{Sound}
 use Rattle.theorems.proofs.Standing.{WasLink, did_link, out_link, was_link_on, same_link, did_way}
 use Rattle.theorems.proofs.Tests.{some_same, none_not_some}
-use Rattle.theorems.proofs.Transfers.{IsOn}
+use Rattle.reply_rows.proofs.Transfers.{IsOn}
 
 clash : true ≡ false → ⊥
 clash e = cc

@@ -41,7 +41,7 @@ use Rattle.theorems.proofs.Claimed.{ClaimedRow, claimed_row}
 use Rattle.theorems.proofs.Tests.{some_same, none_not_some}
 use Rattle.theorems.proofs.Sound.{Sound, Lawful, AllLawful, quiet_lawful, goes_sound, bound_sound, quiet_sound, quiet_to}
 use Rattle.theorems.proofs.Quiet.{let_go_quiet, ignored_quiet}
-use Rattle.theorems.proofs.Transfers.{IsOn}
+use Rattle.reply_rows.proofs.Transfers.{IsOn}
 
 -- a complete message
 

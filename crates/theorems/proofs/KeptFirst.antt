@@ -91,7 +91,7 @@ use Rattle.theorems.proofs.Rowing.{Holds, MayBind, bound_kept, Receives, plain_r
 use Rattle.theorems.proofs.Sound.{Sound, none_sound, opened_sound, sound_start, did_sound, took_sound, batch_sound}
 use Rattle.theorems.proofs.Standing.{began_standing, booked_standing}
 use Rattle.theorems.proofs.Tests.{none_not_some}
-use Rattle.theorems.proofs.Transfers.{IfTaken, transfer_taken}
+use Rattle.reply_rows.proofs.Transfers.{IfTaken, transfer_taken}
 
 clash : true ≡ false → ⊥
 clash e = cc

@@ -20,7 +20,6 @@ pub mod LinkNumbers
 pub mod Sending
 pub mod Tells
 pub mod Quiet
-pub mod Transfers
 pub mod Claimed
 pub mod Middles
 pub mod Owning

@@ -1,8 +1,10 @@
 //! What a transfer does to the book: one that makes a resumed delivery whole, and is settled, forgets its row.
-ghost use Rattle.std.specs.Prelude.{◌≡◌, List, None, option_map, IfOk};
+ghost use Rattle.std.specs.Prelude.{◌≡◌, ℕ, List, None, option_map, IfOk};
 ghost use Rattle.std.specs.Option.{option_copied};
 ghost use Rattle.router_trace.specs.Trace.{Entry};
-ghost use Rattle.router_state.specs.Tables.{TablesFind};
+ghost use Rattle.router_trace.specs.Links.{link_place};
+ghost use Rattle.router_state.specs.Finding.{IsFoundLink};
+ghost use Rattle.reply_rows.specs.Booking.{IsAt, TakesOnLink};
 ghost use Rattle.router_reply.specs.Joining.{settled_again, settled_whole, row_alone, settled_on_link};
 ghost use Rattle.router_reply.specs.Joining.{settled_by_transfer};
 
@@ -13,9 +15,8 @@ use amqp_model::{DeliveryTag, Transfer};
 use book_core::Book;
 use book_model::{Row, RowNumber};
 use reply_rows::Answer;
-use reply_transfers::{row_joined, row_under};
-use router_state::{LinkPlace, State};
-use router_trace::ConnectionId;
+use reply_transfers::row_joined;
+use state_links::FoundLink;
 use std::alloc::{AllocError, Global};
 
 /// The tag of the delivery to which a transfer belongs, if that is resumed and settled; `earlier` is what its earlier
@@ -58,10 +59,10 @@ fn settled_whole<'a>(
 }
 
 /// A row alone, if there is one.
-fn row_alone(state: &State, row: Option<&Row>) -> Result<Vec<RowNumber>, AllocError>
+fn row_alone(alloc: Global, row: Option<&Row>) -> Result<Vec<RowNumber>, AllocError>
     ensures { IfOk result (λ rows. rows.items ≡ row_alone (option_copied row.entry)) }
 {
-    let mut rows = Vec::new(state.alloc());
+    let mut rows = Vec::new(alloc);
     match row {
         None => Ok(rows),
         Some(row) => {
@@ -71,69 +72,60 @@ fn row_alone(state: &State, row: Option<&Row>) -> Result<Vec<RowNumber>, AllocEr
     }
 }
 
-/// The row that a transfer on the link on a handle of the router settles: that which its delivery joins, if it makes a
-/// settled one whole.
+/// The row that a transfer on this link settles: that which its delivery joins, if it makes a settled one whole.
 fn settled_on_link(
-    state: &State,
+    alloc: Global,
     book: &Book,
-    at: LinkPlace,
+    link: &FoundLink<'_>,
     transfer: &Transfer,
 ) -> Result<Vec<RowNumber>, AllocError>
-    ensures { IfOk result (λ rows. (t : List Entry) → TablesFind state.now t
-        → rows.items ≡ settled_on_link book.now t at.conn.0 at.own at.handle transfer.now) }
+    ensures { IfOk result (λ rows. (t : List Entry) (conn own handle : ℕ)
+        → IsFoundLink (link_place t conn own transfer.now.handle) link.now
+        → IsAt (link_place t conn own transfer.now.handle) handle
+        → rows.items ≡ settled_on_link book.now t conn own handle transfer.now) }
 {
-    let found = state.find_link(LinkPlace {
-        conn: at.conn,
-        own: at.own,
-        handle: transfer.handle,
-    });
-    let tag = settled_whole(transfer, found.middle);
-    let row = row_joined(book, state.durable_key(at), tag);
-    row_alone(state, row)
+    let tag = settled_whole(transfer, link.middle);
+    let row = row_joined(book, link.key, tag);
+    row_alone(alloc, row)
 }
 
-/// The same of a transfer with this answer: one that isn't taken settles none.
+/// The same of a transfer with this answer, which finds this link: one that isn't taken settles none.
 fn settled_by_transfer(
-    state: &State,
+    alloc: Global,
     book: &Book,
-    conn: u64,
+    link: &FoundLink<'_>,
     transfer: &Transfer,
     answer: &Answer,
 ) -> Result<Vec<RowNumber>, AllocError>
-    ensures { IfOk result (λ rows. (t : List Entry) → TablesFind state.now t
+    ensures { IfOk result (λ rows. (t : List Entry) (conn : ℕ)
+        → TakesOnLink t conn transfer.now link.now answer.now
         → rows.items ≡ settled_by_transfer book.now t conn transfer.now answer.now) }
 {
     match answer {
-        Answer::Taken { own, handle } => {
-            let at = LinkPlace {
-                conn: ConnectionId(conn),
-                own: *own,
-                handle: *handle,
-            };
-            settled_on_link(state, book, at, transfer)
-        }
-        _ => Ok(Vec::new(state.alloc())),
+        Answer::Taken { .. } => settled_on_link(alloc, book, link, transfer),
+        _ => Ok(Vec::new(alloc)),
     }
 }
 
-/// What a transfer with this answer does.
+/// What a transfer with this answer does, which finds this link on its handle.
 ///
 /// # Errors
 ///
 /// `AllocError` if memory was refused.
 pub(crate) fn does(
-    state: &State,
+    alloc: Global,
     book: &Book,
-    conn: u64,
+    link: &FoundLink<'_>,
     transfer: &Transfer,
     answer: &Answer,
 ) -> Result<Doings, AllocError>
-    ensures forgotten { IfOk result (λ does. (t : List Entry) → TablesFind state.now t
+    ensures forgotten { IfOk result (λ does. (t : List Entry) (conn : ℕ)
+        → TakesOnLink t conn transfer.now link.now answer.now
         → does.forgotten.items ≡ settled_by_transfer book.now t conn transfer.now answer.now) }
     ensures stolen { IfOk result (λ does. does.stolen ≡ None) }
     ensures terminus { IfOk result (λ does. does.terminus ≡ None) }
     ensures resumption { IfOk result (λ does. does.resumption ≡ None) }
 {
-    let rows = settled_by_transfer(state, book, conn, transfer, answer)?;
+    let rows = settled_by_transfer(alloc, book, link, transfer, answer)?;
     Ok(Doings::forgetting(rows))
 }

@@ -8,9 +8,9 @@ use Rattle.reply_rows.proofs.deciding.perf_answer.Goals as goal
 
 pub returns-in_default : goal.returns-in_default
 returns-in_default c = IfOk-weaker c.turn_by.result _ _
-    (λ r is t at.
+    (λ r is t at found.
     let turns : perf_reply c.args.phase (finds t c.args.conn) c.args.channel c.args.perf.now
     ≡ turn_by (finds t c.args.conn) c.args.channel c.args.perf.now (frame_in_turn c.args.channel c.args.phase)
     = search rules in
-    is t at ∙ ap (booked_perf c.args.full c.args.book.now t c.args.conn c.args.perf.now) (sym turns))
+    is t at found ∙ ap (booked_perf c.args.full c.args.book.now t c.args.conn c.args.perf.now) (sym turns))
     c.turn_by.ensures

@@ -4,7 +4,6 @@ use Rattle.book_model.specs.declared.act.Decision.{Decision}
 use Rattle.book_model.specs.declared.row.RowNumber.{RowNumber}
 use Rattle.router_state.specs.Tables.{at_finds}
 use Rattle.router_trace.specs.Deliveries.{none_if_ended}
-use Rattle.router_trace.specs.Sessions.{session_on}
 use Rattle.router_trace.specs.declared.event.Event.TheVariants as event
 use Rattle.state_deliveries.specs.Deciding.{decided_rows}
 use Rattle.state_deliveries.specs.Hearing.{heard_change}
@@ -14,14 +13,12 @@ use Rattle.router_reply.proofs.Planned.{found_as, changed_as}
 use Rattle.router_reply.proofs.planning.planned.Goals as goal
 
 pub returns-clause-decided : goal.returns-clause-decided
-returns-clause-decided c = λ t at.
+returns-clause-decided c = λ t at finds.
     let conn = c.args.conn in
     let item = c.args.item.now in
     let own = c.none_if_ended-here.result in
     let found = found_as t conn item own c.args.ends.now
-    (c.none_if_ended-here.ensures
-    ∙ ap (λ (o : Option ℕ). none_if_ended c.args.ends.now conn.0 o)
-    (c.own_channel-own.ensures t (at_finds at) ∙ ap (λ (k : ℕ). session_on t conn.0 k) c.channel_of.ensures)) at.are_due in
+    (c.none_if_ended-here.ensures ∙ ap (λ (o : Option ℕ). none_if_ended c.args.ends.now conn.0 o) finds) at.are_due in
     c.in_ok-decided.ensures.rows t (at_finds at)
     ∙ ap (λ (cs : List Change). map as_kept (decided_rows t cs) ++ c.planned_decisions-by_map.result.items)
     (changed_as t conn item c.args.answer own c.args.ends.now c.in_ok-change.change
@@ -32,17 +29,15 @@ returns-clause-decided c = λ t at.
     (c.planned_decisions-by_map.ensures.decisions ∙ (c.in_ok-does.ensures.resumed t (at_finds at)).decisions)
 
 pub returns-clause-forgotten : goal.returns-clause-forgotten
-returns-clause-forgotten c = λ t at.
+returns-clause-forgotten c = λ t at finds takes.
     let conn = c.args.conn in
     let item = c.args.item.now in
     let own = c.none_if_ended-here.result in
     let found = found_as t conn item own c.args.ends.now
-    (c.none_if_ended-here.ensures
-    ∙ ap (λ (o : Option ℕ). none_if_ended c.args.ends.now conn.0 o)
-    (c.own_channel-own.ensures t (at_finds at) ∙ ap (λ (k : ℕ). session_on t conn.0 k) c.channel_of.ensures)) at.are_due in
+    (c.none_if_ended-here.ensures ∙ ap (λ (o : Option ℕ). none_if_ended c.args.ends.now conn.0 o) finds) at.are_due in
     c.in_ok-forgotten.ensures
     ∙ ap (λ (ns : List RowNumber). ns ++ c.planned_forgotten-lacking.result.items)
-    (c.in_ok-does.ensures.forgotten t (at_finds at)
+    (c.in_ok-does.ensures.forgotten t (at_finds at) takes
     ∙ ap (λ (o : Option ℕ). forgotten_in c.args.book.now t conn.0 o item c.args.answer) found)
     ∙ ap (λ (ns : List RowNumber). forgotten_in c.args.book.now t conn.0 (session_found t conn item) item c.args.answer
     ++ ns)
@@ -60,10 +55,6 @@ returns-clause-resumed c = λ t at.
       map = lacking.map ∙ decisions.map ∙ taken.map;
       rows = lacking.rows ∙ decisions.rows ∙ taken.rows;
     }
-
-pub returns-clause-session : goal.returns-clause-session
-returns-clause-session c = λ t at.
-    c.own_channel-own.ensures t (at_finds at) ∙ ap (λ (k : ℕ). session_on t c.args.conn.0 k) c.channel_of.ensures
 
 pub returns-clause-change : goal.returns-clause-change
 returns-clause-change c = c.in_ok-decided.ensures.change ∙ c.in_ok-change.ensures
