@@ -6,7 +6,6 @@ ghost use Rattle.book_model.specs.Keys.{key_cmp};
 ghost use Rattle.book_model.specs.declared.terminus.LinkKey.{LinkKey};
 ghost use Rattle.book_core.specs.Numbers.{number_at, earlier};
 
-use crate::copy;
 use crate::numbers::Numbers;
 use book_model::LinkKey;
 use std::alloc::AllocError;

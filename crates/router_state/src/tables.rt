@@ -1,6 +1,8 @@
 //! All tables, changed together.
 ghost use Rattle.std.specs.Prelude.{◌≡◌, ◌==◌, ◌-◌, ◌≤◌, ◌&&◌, nat_lt, if◌then◌else◌, ◌∷◌, ◌++◌, ℕ, List, [], true, false, length, slice_get, Option, option_copied, option_map, OnOk, OnErr, IfOk};
-ghost use Rattle.std.specs.Prelude.{is_some};
+ghost use Rattle.std.specs.Prelude.{is_some, Bool};
+ghost use Rattle.amqp_model.specs.declared.item.Item.TheVariants as item;
+ghost use Rattle.amqp_model.specs.declared.perf.Perf.TheVariants as perf;
 ghost use Rattle.route_table.specs.Places.{FindsAs};
 ghost use Rattle.router_trace.specs.Trace.{Beginning, Trace};
 ghost use Rattle.router_trace.specs.Configuration.{opened, distribution, is_multicast};
@@ -11,7 +13,7 @@ ghost use Rattle.router_trace.specs.Claims.{claims};
 ghost use Rattle.router_trace.specs.Settling.{part_of, is_claimed, is_claimed_on, ids_claimed, open_ids, unbound};
 ghost use Rattle.router_trace.specs.Deliveries.{called, joined_by, owned_in, acts_found, delivery, rank_at, ended_first, none_if_ended, giving, is_to_tell, sending, named, next_id};
 ghost use Rattle.router_trace.specs.declared.binding.DeliveryName.TheVariants.{Row};
-ghost use Rattle.router_trace.specs.Following.{link_of, first_delivery, is_unsent_on, is_wide, is_busy, is_used, takes_more};
+ghost use Rattle.router_trace.specs.Following.{link_of, is_unsent_on, is_wide, is_busy, is_used, takes_more};
 ghost use Rattle.state_deliveries.specs.Calling.{Knows};
 ghost use Rattle.state_deliveries.specs.Hearing.{heard_change};
 ghost use Rattle.state_deliveries.specs.Finding.{IsFirst, IsFirstBy, is_above, is_beyond};
@@ -41,7 +43,7 @@ use crate::durable::none_if_ended;
 use crate::place::LinkPlace;
 use amqp_conn::Conn;
 use amqp_link::Part;
-use amqp_model::{Attach, DeliveryState, Item, Perf};
+use amqp_model::{Attach, DeliveryState, Disposition, Flow, Item, Perf, Transfer};
 use amqp_session::{FlowState, Window};
 use book_model::{Act, LinkKey, RowNumber};
 use bytes::Bytes;
@@ -287,21 +289,102 @@ impl State {
     pub fn put(&mut self, conn: u64, item: Item) -> Result<(), AllocError>
         ensures { OnOk result ((t : List Entry) → TablesFit self.old t → TablesFit self.new (Out conn item ∷ t)) }
     {
-        let Ok(()) = self.clocks.put(conn, &item) else {
-            return Err(let_go(item));
-        };
-        let Ok(key) = key_by(&self.peers, conn, &item) else {
-            return Err(let_go(item));
-        };
-        self.peers.put(conn, &item);
-        let Ok(()) = self.messages.put(conn, &item, key) else {
-            return Err(let_go(item));
-        };
-        let Ok(()) = self.sessions.put(conn, &item) else {
+        let Ok(()) = self.note_put(conn, &item) else {
             return Err(let_go(item));
         };
         self.connections.put(conn, item)?;
         note(&mut self.ready, &self.connections, conn)?;
+        Ok(())
+    }
+
+    /// Notes an item that goes into the outbox of a connection in the tables by which items are answered. Transfers,
+    /// dispositions and flows are three items of each message: only the tables that they change are told of them.
+    fn note_put(&mut self, conn: u64, item: &Item) -> Result<(), AllocError>
+        ensures found { OnOk result ((t : List Entry) → TablesFind self.old t → TablesFind self.new (Out conn item.now ∷ t)) }
+        ensures connections { self.new.connections ≡ self.old.connections }
+        ensures ready { self.new.ready ≡ self.old.ready }
+    {
+        match item {
+            Item::Frame {
+                channel,
+                perf,
+                payload,
+                ..
+            } => match perf {
+                Perf::Transfer(transfer) => self.note_transfer(conn, *channel, transfer, payload)?,
+                Perf::Disposition(disposition) => self.note_disposition(
+                    conn,
+                    *channel,
+                    disposition,
+                )?,
+                Perf::Flow(flow) => self.note_flow(conn, *channel, flow)?,
+                _ => self.note_other(conn, item)?,
+            },
+            _ => self.note_other(conn, item)?,
+        }
+        Ok(())
+    }
+
+    /// The router's transfer with this payload, on its channel `own`.
+    fn note_transfer(
+        &mut self,
+        conn: u64,
+        own: u16,
+        transfer: &Transfer,
+        payload: &Bytes,
+    ) -> Result<(), AllocError>
+        ensures found { OnOk result ((t : List Entry) (sasl : Bool) → TablesFind self.old t
+            → TablesFind self.new (Out conn (item.Frame sasl own (perf.Transfer transfer.now) payload.now) ∷ t)) }
+        ensures connections { self.new.connections ≡ self.old.connections }
+        ensures ready { self.new.ready ≡ self.old.ready }
+    {
+        self.clocks.write(conn)?;
+        self.messages.put_transfer(conn, own, transfer, payload)?;
+        self.sessions.put_transfer(conn, own);
+        Ok(())
+    }
+
+    /// The router's disposition, on its channel `own`.
+    fn note_disposition(
+        &mut self,
+        conn: u64,
+        own: u16,
+        disposition: &Disposition,
+    ) -> Result<(), AllocError>
+        ensures found { OnOk result ((t : List Entry) (sasl : Bool) (payload : List ℕ) → TablesFind self.old t
+            → TablesFind self.new (Out conn (item.Frame sasl own (perf.Disposition disposition.now) payload) ∷ t)) }
+        ensures connections { self.new.connections ≡ self.old.connections }
+        ensures ready { self.new.ready ≡ self.old.ready }
+    {
+        self.clocks.write(conn)?;
+        self.messages.put_disposition(conn, own, disposition)?;
+        Ok(())
+    }
+
+    /// The router's flow, on its channel `own`.
+    fn note_flow(&mut self, conn: u64, own: u16, flow: &Flow) -> Result<(), AllocError>
+        ensures found { OnOk result ((t : List Entry) (sasl : Bool) (payload : List ℕ) → TablesFind self.old t
+            → TablesFind self.new (Out conn (item.Frame sasl own (perf.Flow flow.now) payload) ∷ t)) }
+        ensures connections { self.new.connections ≡ self.old.connections }
+        ensures ready { self.new.ready ≡ self.old.ready }
+    {
+        self.clocks.write(conn)?;
+        self.messages.put_flow(conn, own, flow)?;
+        self.sessions.put_flow(conn, own, flow)?;
+        Ok(())
+    }
+
+    /// Any item of the router.
+    fn note_other(&mut self, conn: u64, item: &Item) -> Result<(), AllocError>
+        ensures found { OnOk result ((t : List Entry) → TablesFind self.old t → TablesFind self.new (Out conn item.now ∷ t)) }
+        ensures connections { self.new.connections ≡ self.old.connections }
+        ensures ready { self.new.ready ≡ self.old.ready }
+    {
+        self.clocks.put(conn, item)?;
+        let key = key_by(&self.peers, conn, item)?;
+        self.peers.put(conn, item);
+        self.messages.put(conn, item, key)?;
+        self.sessions.put(conn, item)?;
         Ok(())
     }
 

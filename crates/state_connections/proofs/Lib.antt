@@ -1,3 +1,4 @@
 pub mod Lists
 pub mod Turns
 pub mod Emptying
+pub mod Beside

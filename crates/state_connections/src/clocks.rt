@@ -8,6 +8,7 @@ ghost use Rattle.router_trace.specs.Clocks.{terms, written, needs_beat, channel_
 ghost use Rattle.state_connections.specs.Timing.{ClocksFit, is_close};
 ghost use Rattle.router_trace.specs.declared.event.Event.TheVariants as event;
 ghost use Rattle.amqp_model.specs.declared.perf.Perf.TheVariants as perf;
+ghost use Rattle.amqp_model.specs.declared.item.Item.{Item as AnItem};
 ghost use Rattle.amqp_model.specs.declared.item.Item.TheVariants as item;
 
 use crate::row::CONNECTIONS;
@@ -126,6 +127,14 @@ impl Clocks {
             self.forget(conn);
             return Ok(());
         }
+        self.write(conn)?;
+        Ok(())
+    }
+
+    /// An item that isn't a close is put into the outbox of a connection.
+    pub fn write(&mut self, conn: u64) -> Result<(), AllocError>
+        ensures { OnOk result ((t : List Entry) (i : AnItem) → is_close i ≡ false → ClocksFit self.old t → ClocksFit self.new (Out conn i ∷ t)) }
+    {
         let _ = self.written.insert(conn, self.moment)?;
         Ok(())
     }

@@ -23,7 +23,11 @@ use Rattle.router_trace.specs.declared.handle.Attachment.{Attachment}
 use Rattle.router_trace.specs.Trace.{Entry, Trace, Did, Out, Took, Booked, Bound, Began}
 use Rattle.router_trace.specs.Deliveries.{Delivery, source, delivery, bindings, bound, held_by, holds_standing, joined, with_binding, name_in, same_name, number_named, unless_called, unless_over, is_over, is_undecided, after_ends, is_gone_with, ended, decided_at_end, suspended_at_end, untold, unsettled, failed, closes, after_put, after_frame, after_event, put_in, is_number, carried, tag_in, told, is_meant, origin_id, heard, heard_in, given, outcome_named, outcome_or, disposed, decided, is_settled_at, is_on, ended_by, lost_with, named, sending, sender, forsaken, channels_found, acts_found, rank_in}
 use Rattle.amqp_model.specs.declared.state.DeliveryState.TheVariants as state
+use Rattle.state_deliveries.specs.declared.change.Change.{Change}
+use Rattle.state_deliveries.specs.declared.change.Change.TheVariants as change
+use Rattle.state_deliveries.specs.Giving.{after_acts}
 use Rattle.state_deliveries.specs.Naming.{is_open}
+use Rattle.state_deliveries.specs.Stepping.{is_gone, comes_with_id, is_decided_by, changed, after_change}
 
 abbrev Closes : (Delivery → Delivery) → Type 0
 Closes f = (d : Delivery) → is_undecided d ≡ false → is_undecided (f d) ≡ false
@@ -163,3 +167,17 @@ stays_closed (Bound b) t n there closed = by_kind (holds_standing b.kind)
     by_kind : (j : Option Holding) → is_open (with_binding j (name_in t b) (rank_in t b) b (bindings t + 1 == n) (delivery t n)) ≡ false
     by_kind None = fresh (bindings t + 1 == n) refl
     by_kind (Some q) = rejoined q (delivery t n) closed
+
+-- nor by a table's change, nor by the outcomes that acts give
+changed_closed : (x : Change) → Closes (changed x)
+changed_closed (change.Ends g closed) d e = ends_closed closed (is_gone g) d e
+changed_closed (change.Untold c o first last) d e = either (comes_with_id (source d) c o first last) (untold d) d e e
+changed_closed (change.Told c o first last) d e = either (comes_with_id (source d) c o first last) (unsettled d) d e e
+changed_closed (change.Decided c o first last made) d e = either (is_decided_by d c o first last) (record d { outcome = Some made }) d refl e
+
+pub closed_if : (b : Bool) (x : Change) (v : Option Delivery) → is_open v ≡ false → is_open (if b then after_change x v else v) ≡ false
+closed_if true x v e = closed_after (changed x) (changed_closed x) v e
+closed_if false x v e = e
+
+pub acts_closed : (acts : List Act) (v : Option Delivery) → is_open v ≡ false → is_open (after_acts acts v) ≡ false
+acts_closed acts v e = closed_after (given acts) (given_closed acts) v e

@@ -1,8 +1,9 @@
 -- Numbers by delivery-id: the first at each, and further ones.
-use Rattle.std.proofs.Common.{◌≡◌, ◌∙◌, ◌<◌, ◌^◌, ◌||◌, ℕ, Bool, true, false, refl, sym, ap, List, Option, Some, None}
-use Rattle.std.specs.Prelude.{◌&&◌, ◌==◌, if◌then◌else◌}
+use Rattle.std.proofs.Common.{◌≡◌, ◌∙◌, ◌<◌, ◌^◌, ◌||◌, ℕ, Bool, true, false, refl, sym, ap, arith, List, [], ◌∷◌, Option, Some, None}
+use Rattle.std.specs.Prelude.{◌&&◌, ◌==◌, if◌then◌else◌, IfSome}
 use Rattle.std.specs.BTreeSet.{contains}
 use Rattle.std.proofs.lemmas.Bool.{eqb-true}
+use Rattle.std.proofs.lemmas.Bool.Decides.{nat_tests}
 use Rattle.amqp_session.specs.Ranges.{has, in_range}
 use Rattle.router_trace.specs.Deliveries.{is_number}
 use Rattle.state_deliveries.specs.declared.by_id.ById.{ById}
@@ -106,3 +107,26 @@ found_ids s c o first last middle new known x firsts more furthers n there = by_
         (sym (λ i. in_rows s.first (conn i) (own i) p.at) ∙ is_first_there (in_rows s.first p.conn p.own p.at) n here)))
         (λ here. furthers (λ k. further_of s (known k) k) (further_fits s known x) n
         (ap (λ v. is_id_there c o first last (further_of s v n)) e ∙ ap (λ b. is_id_there c o first last (if b then Some p else None)) here ∙ f)) at
+
+-- a range of one id
+alone : (id q : ℕ) → id < 2 ^ 32 → q < 2 ^ 32 → (id == q) ≡ in_range id id q
+alone id q f l = grind (arith, nat_tests)
+
+-- a list of the number that is found
+abbrev in_one : Option ℕ → ℕ → Bool
+in_one None n = false
+in_one (Some k) n = has n (k ∷ [])
+
+-- the first number at an id is the only one there, if no id has a further one
+pub sole_id : (s : ById) (c o id last : ℕ) (found : Option ℕ) → id < 2 ^ 32 → id ≡ last → found ≡ in_rows s.first c o id
+    → ((known : ℕ → Option Spot) → SpotsFit s.further known → (n : ℕ) → known n ≡ None)
+    → IfSome found (λ k. (known : ℕ → Option Spot) → IdsFit s known → (n : ℕ) → is_id_there c o id last (known n) ≡ true → has n (k ∷ []) ≡ true)
+sole_id s c o id last None small one is none = tt
+sole_id s c o id last (Some k) small one is none = λ known x n there.
+    found_ids s c o id id (k ∷ []) (k ∷ []) known x
+    (λ q m low inside at.
+    let same : id ≡ q = eqb-true id q (alone id q small low ∙ inside) in
+    ap (λ v. in_one v m) (is ∙ ap (λ w. in_rows s.first c o w) same ∙ at) ∙ ap (λ b. b || false) (same_number m))
+    (λ m e. e)
+    (λ f fit m e. let wrong : true ≡ false = sym e ∙ ap (is_id_there c o id id) (none f fit m) in absurd cc)
+    n (ap (λ l. is_id_there c o id l (known n)) one ∙ there)

@@ -72,7 +72,7 @@ known_tagged known f g fit (Some tag) = by_name (tagged tag)
     by_name None = tt
     by_name (Some name) = fit name
 
-known_carried : (known : ℕ → Option Delivery) (f g : DeliveryName → Option ℕ) → ((name : DeliveryName) → Knows known (f name) (g name))
+pub known_carried : (known : ℕ → Option Delivery) (f g : DeliveryName → Option ℕ) → ((name : DeliveryName) → Knows known (f name) (g name))
     → (tag : Option (List ℕ)) (a b : Option ℕ) → Knows known a b → Knows known (carried f tag a) (carried g tag b)
 known_carried known f g fit None a b x = x
 known_carried known f g fit (Some tag) a b x = known_tagged known f g fit (Some tag)
@@ -86,17 +86,7 @@ known_carried_by known f g fit (item.Frame sasl own body payload) a b x = by bod
     by _ = tt
 known_carried_by known f g fit _ a b x = tt
 
--- what remains to be sent on handles, after the router's frames: a transfer, the end of links, and any other
-pub known_transfer : (known : ℕ → Option Delivery) (f g : DeliveryName → Option ℕ) → ((name : DeliveryName) → Knows known (f name) (g name))
-    → (tag : Option (List ℕ)) (here own on more : Bool) (new old view : Option ℕ)
-    → new ≡ (if here then (if own then (if on then (if more then carried f tag old else None) else old) else old) else old)
-    → Knows known old view → Knows known new (if here then (if own && on then (if more then carried g tag view else None) else view) else view)
-known_transfer known f g fit tag true true true true new old view e x = rw e (known_carried known f g fit tag old view x)
-known_transfer known f g fit tag true true true false new old view e x = rw e tt
-known_transfer known f g fit tag true true false more new old view e x = rw e x
-known_transfer known f g fit tag true false on more new old view e x = rw e x
-known_transfer known f g fit tag false own on more new old view e x = rw e x
-
+-- what remains to be sent on handles, after the end of links and after any other frame of the router
 pub known_ended : (known : ℕ → Option Delivery) (here own on : Bool) (new old view : Option ℕ)
     → new ≡ (if here then (if own then (if on then None else old) else old) else old)
     → Knows known old view → Knows known new (if here then (if own && on then None else view) else view)

@@ -11,6 +11,7 @@ mod Joined
 mod Bound
 mod Picked
 mod Given
+mod Forgotten
 mod Heard
 mod Reindexed
 mod Settled
@@ -31,3 +32,4 @@ mod Handled
 mod Identified
 pub mod Detached
 mod Decided
+pub mod Beside

@@ -44,7 +44,7 @@ some_picked names n k (id ∷ ids) = by_test (k == id) refl (some_picked names n
         rw (e, rest) (ap (λ j. is_number (names j) n || (has k ids && is_number (names k) n)) (sym same) ∙ or_and (is_number (names k) n) (has k ids))
     by_test false e rest = rw e rest
 
-pub all_picked : (names : ℕ → Option ℕ) (n first last : ℕ) (ids : List ℕ) (v : Option Delivery) → ((id : ℕ) → IsSmall id (names id))
+all_picked : (names : ℕ → Option ℕ) (n first last : ℕ) (ids : List ℕ) (v : Option Delivery) → ((id : ℕ) → IsSmall id (names id))
     → ((id : ℕ) → id < 2 ^ 32 → has id ids ≡ (in_range first last id && is_some (names id)))
     → list_any (picks names n (id_of v)) ids ≡ is_named_in first last names n v
 all_picked names n first last ids None small exact = none_picked names n ids
@@ -75,7 +75,7 @@ all_picked names n first last ids (Some d) small exact = by_id d.id
 alone : (first k : ℕ) → first < 2 ^ 32 → k < 2 ^ 32 → (k == first) ≡ in_range first first k
 alone first k f l = grind (arith, nat_tests)
 
-pub one_picked : (names : ℕ → Option ℕ) (n first last : ℕ) (v : Option Delivery) → ((id : ℕ) → IsSmall id (names id)) → first < 2 ^ 32 → first ≡ last
+one_picked : (names : ℕ → Option ℕ) (n first last : ℕ) (v : Option Delivery) → ((id : ℕ) → IsSmall id (names id)) → first < 2 ^ 32 → first ≡ last
     → picks names n (id_of v) first ≡ is_named_in first last names n v
 one_picked names n first last None small f same = refl
 one_picked names n first last (Some d) small f same = by_id d.id
@@ -103,6 +103,13 @@ pub decided_one : (x : Change) (conn own first last : ℕ) (made : DeliveryState
     → here ≡ picks (names conn own) n (id_of old) first → new ≡ (if here then after_change x old else old) → new ≡ done_to x names n old
 decided_one x conn own first last made names n here old new is few same small pick e =
     e ∙ ap (λ b. if b then after_change x old else old) (pick ∙ one_picked (names conn own) n first last old small few same) ∙ rw is refl
+
+pub decided_range : (x : Change) (conn own first last : ℕ) (made : DeliveryState) (names : ℕ → ℕ → ℕ → Option ℕ) (n : ℕ) (ids : List ℕ) (old new : Option Delivery)
+    → x ≡ change.Decided conn own first last made → ((id : ℕ) → IsSmall id (names conn own id))
+    → ((id : ℕ) → id < 2 ^ 32 → has id ids ≡ (in_range first last id && is_some (names conn own id)))
+    → new ≡ (if list_any (picks (names conn own) n (id_of old)) ids then after_change x old else old) → new ≡ done_to x names n old
+decided_range x conn own first last made names n ids old new is small exact e =
+    e ∙ ap (λ b. if b then after_change x old else old) (all_picked (names conn own) n first last ids old small exact) ∙ rw is refl
 
 or_false : (a : Bool) → (a || false) ≡ a
 or_false true = refl

@@ -1,12 +1,14 @@
 -- A table's indexes after a change.
-use Rattle.std.proofs.Common.{◌≡◌, ◌∙◌, ℕ, Bool, true, false, refl, sym, ap, subst, Option, Some}
-use Rattle.std.specs.Prelude.{◌==◌, if◌then◌else◌}
+use Rattle.std.proofs.Common.{◌≡◌, ◌∙◌, ℕ, Bool, true, false, refl, sym, ap, subst, [], ◌∷◌, Option, Some, None}
+use Rattle.std.specs.Prelude.{◌==◌, if◌then◌else◌, IfSome}
+use Rattle.amqp_session.specs.Ranges.{has}
 use Rattle.std.proofs.lemmas.Bool.{eqb-true}
 use Rattle.router_trace.specs.declared.binding.Rank.{Rank}
 use Rattle.router_trace.specs.Deliveries.{Delivery, unless_over}
 use Rattle.state_deliveries.specs.declared.by_id.ById.{ById}
 use Rattle.state_deliveries.specs.declared.by_rank.ByRank.{ByRank}
 use Rattle.state_deliveries.specs.declared.by_rank.Turn.{Turn}
+use Rattle.state_deliveries.specs.declared.change.Change.{Change}
 use Rattle.state_deliveries.specs.declared.consumers.Consumers.{Consumers}
 use Rattle.state_deliveries.specs.declared.handles.Handles.{Handles}
 use Rattle.state_deliveries.specs.declared.index.Index.{Index}
@@ -16,8 +18,8 @@ use Rattle.state_deliveries.specs.declared.standing.Seat.{Seat}
 use Rattle.state_deliveries.specs.declared.spots.Spot.{Spot}
 use Rattle.state_deliveries.specs.declared.spots.Spots.{Spots}
 use Rattle.state_deliveries.specs.declared.tallies.Tallies.{Tallies}
-use Rattle.state_deliveries.specs.Indexing.{ConsumerBegins, ConsumerKeys, Indexes, Keys, ProducerBegins, at_consumer, at_consumer_moved, by_producer_moved, consumer_after, consumer_keys, producer_after, producer_of, seat_of, standing, with_consumer, with_producer}
-use Rattle.state_deliveries.specs.Placing.{SpotsFit, HandlesFit, IdsFit}
+use Rattle.state_deliveries.specs.Indexing.{ConsumerBegins, ConsumerKeys, Indexes, Keys, ProducerBegins, at_consumer, at_consumer_moved, by_producer_moved, concerns, consumer_after, consumer_keys, producer_after, producer_of, seat_of, standing, with_consumer, with_producer}
+use Rattle.state_deliveries.specs.Placing.{SpotsFit, HandlesFit, IdsFit, is_id_there}
 use Rattle.state_deliveries.specs.Ranking.{in_group, is_turn}
 use Rattle.state_deliveries.specs.Tallying.{IsTallied, AreTallied}
 use Rattle.state_deliveries.proofs.Handled.{handles_same}
@@ -182,3 +184,15 @@ put_at s m g old new at x = indexes_same s (λ n. if m == n then standing (g (ol
     by_test : (b : Bool) (n : ℕ) → (m == n) ≡ b → (if b then standing (g (old m)) else standing (old n)) ≡ standing (if b then g (old n) else old n)
     by_test true n e = ap (λ k. standing (g (old k))) (eqb-true m n e)
     by_test false n e = refl
+
+-- the only delivery that a change may change, by the only one with an id from its producer
+pub sole_there : (s : Index) (x : Change) (c o first last : ℕ) (v : Option ℕ) → ((k : Keys) → concerns x k ≡ is_id_there c o first last k.producer.by_id)
+    → IfSome v (λ k. (known : ℕ → Option Spot) → IdsFit s.by_id known → (n : ℕ) → is_id_there c o first last (known n) ≡ true → has n (k ∷ []) ≡ true)
+    → IfSome v (λ k. (known : ℕ → Keys) → Indexes s known → (n : ℕ) → concerns x (known n) ≡ true → has n (k ∷ []) ≡ true)
+sole_there s x c o first last None same only = tt
+sole_there s x c o first last (Some k) same only = λ known fit n there. only (λ m. (known m).producer.by_id) fit.by_id n (sym (same (known n)) ∙ there)
+
+pub sole_found : (s : Index) (x : Change) (v : Option ℕ) (k : ℕ) → v ≡ Some k
+    → IfSome v (λ k. (known : ℕ → Keys) → Indexes s known → (n : ℕ) → concerns x (known n) ≡ true → has n (k ∷ []) ≡ true)
+    → (known : ℕ → Keys) → Indexes s known → (n : ℕ) → concerns x (known n) ≡ true → has n (k ∷ []) ≡ true
+sole_found s x v k is only = subst (λ (w : Option ℕ). IfSome w (λ k. (known : ℕ → Keys) → Indexes s known → (n : ℕ) → concerns x (known n) ≡ true → has n (k ∷ []) ≡ true)) is only

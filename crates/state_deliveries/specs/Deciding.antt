@@ -6,12 +6,12 @@ use Rattle.book_model.specs.declared.row.RowNumber.{RowNumber}
 use Rattle.router_trace.specs.declared.binding.DeliveryName.{DeliveryName}
 use Rattle.router_trace.specs.declared.binding.DeliveryName.TheVariants.{Row, Counter}
 use Rattle.router_trace.specs.Trace.{Trace}
-use Rattle.router_trace.specs.Deliveries.{Delivery, source, is_undecided, bindings, delivery}
+use Rattle.router_trace.specs.Deliveries.{Delivery, is_undecided, bindings, delivery}
 use Rattle.state_deliveries.specs.declared.change.Change.{Change}
 use Rattle.state_deliveries.specs.declared.change.Change.TheVariants as change
 use Rattle.state_deliveries.specs.Indexing.{Keys, concerns}
 use Rattle.state_deliveries.specs.Placing.{is_id_there}
-use Rattle.state_deliveries.specs.Stepping.{changed, comes_with_id}
+use Rattle.state_deliveries.specs.Stepping.{changed}
 
 -- what each number below this one gives, in order of the numbers
 unfoldable pub gathered_below : {A : Type 0} → ℕ → (ℕ → List A) → List A

@@ -1,7 +1,5 @@
 -- When the table of deliveries agrees with a trace.
 use Rattle.std.specs.Prelude.{◌≡◌, ℕ, List, Option, None, unwrap_or}
-use Rattle.std.specs.Ordering.{nat_cmp}
-use Rattle.std.specs.BTreeMap.{get}
 use Rattle.state_collections.specs.NumberMap.{at_number}
 use Rattle.amqp_model.specs.declared.perf.Perf.{Perf}
 use Rattle.amqp_model.specs.declared.perf.Perf.TheVariants as perf

@@ -5,7 +5,7 @@ use Rattle.amqp_model.specs.declared.perf.Perf.TheVariants as perf
 use Rattle.amqp_model.specs.declared.item.Item.{Item}
 use Rattle.amqp_model.specs.declared.item.Item.TheVariants as item
 use Rattle.router_trace.specs.Trace.{Trace}
-use Rattle.router_trace.specs.Deliveries.{Delivery, is_undecided, delivery, named, last_of}
+use Rattle.router_trace.specs.Deliveries.{Delivery, is_undecided, delivery, named}
 use Rattle.router_trace.specs.Settling.{is_open_as}
 use Rattle.state_deliveries.specs.declared.names.Names.{Names}
 use Rattle.state_deliveries.specs.declared.change.Change.TheVariants as change
@@ -27,6 +27,15 @@ abbrev pub Remembers : Trace → Option ℕ → Option ℕ → Type 0
 Remembers t (Some n) named = named ≡ Some n
 Remembers t None named = MayBeForgotten t named
 
+-- an entry that stays, or that is forgotten after its delivery isn't undecided
+abbrev pub IsClosed : (ℕ → Option Delivery) → Option ℕ → Type 0
+IsClosed known None = Unit {0}
+IsClosed known (Some n) = is_open (known n) ≡ false
+
+abbrev pub Forgets : (ℕ → Option Delivery) → Option ℕ → Option ℕ → Type 0
+Forgets known (Some n) old = old ≡ Some n
+Forgets known None old = IsClosed known old
+
 -- ids have 32 bits
 abbrev pub IsSmall : ℕ → Option ℕ → Type 0
 IsSmall id None = Unit {0}
@@ -44,15 +53,7 @@ abbrev pub kept_name : Option ℕ → (ℕ → Option Delivery) → Option ℕ
 kept_name None known = None
 kept_name (Some n) known = if is_open (known n) then Some n else None
 
--- the range of ids in a disposition, and the session on which the router detaches a link
-abbrev pub decided_in_body : Perf → Option (ℕ × ℕ)
-decided_in_body (perf.Disposition x) = Some (x.first, last_of x)
-decided_in_body _ = None
-
-abbrev pub decided_in : Item → Option (ℕ × ℕ)
-decided_in (item.Frame sasl channel body payload) = decided_in_body body
-decided_in _ = None
-
+-- the session on which the router detaches a link
 abbrev pub detached_in_body : Perf → ℕ → Option ℕ
 detached_in_body (perf.Detach x) own = Some own
 detached_in_body _ own = None

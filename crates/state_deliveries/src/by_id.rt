@@ -1,5 +1,5 @@
 //! Delivery numbers by delivery-id.
-ghost use Rattle.std.specs.Prelude.{◌≡◌, ◌==◌, ◌<◌, ◌^◌, ◌||◌, ℕ, Option, None, Some, true, false, if◌then◌else◌, OnOk};
+ghost use Rattle.std.specs.Prelude.{◌≡◌, ◌==◌, ◌<◌, ◌^◌, ◌||◌, [], ◌∷◌, ℕ, Option, None, Some, true, false, if◌then◌else◌, IfSome, OnOk};
 ghost use Rattle.amqp_session.specs.Ranges.{has, in_range};
 ghost use Rattle.amqp_session.specs.Serials.{distance};
 ghost use Rattle.state_collections.specs.NumberMap.{at_number};
@@ -115,6 +115,21 @@ impl ById {
         self.first
             .insert(spot.conn, spot.own, spot.at as u64, number)?;
         Ok(())
+    }
+
+    /// The number at the one id of a range, if the range is one id and no id has two numbers.
+    pub(crate) fn sole(&self, conn: u64, own: u16, first: u32, last: u32) -> Option<u64>
+        ensures { IfSome result (λ k. (known : ℕ → Option TheSpot) → IdsFit self.now known → (n : ℕ)
+            → is_id_there conn own first last (known n) ≡ true → has n (k ∷ []) ≡ true) }
+    {
+        if first != last || !self.further.is_empty() {
+            return None;
+        }
+        self.first_at(Spot {
+            conn,
+            own,
+            at: first,
+        })
     }
 
     /// Appends the numbers at the ids of a range, on a session (AMQP 1.0 part 2, section 2.7.6). A range of up to 64 ids is

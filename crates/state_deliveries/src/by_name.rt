@@ -3,7 +3,7 @@ ghost use Rattle.std.specs.Prelude.{◌≡◌, ◌==◌, ℕ, Some, None, if◌t
 ghost use Rattle.std.specs.Option.{option_and_then};
 ghost use Rattle.state_collections.specs.NumberMap.{at_number};
 ghost use Rattle.router_trace.specs.declared.binding.DeliveryName.{DeliveryName as Name};
-ghost use Rattle.router_trace.specs.Deliveries.{same_name, carried, number_tagged, tag_in};
+ghost use Rattle.router_trace.specs.Deliveries.{same_name, number_tagged, tag_in};
 ghost use Rattle.state_deliveries.specs.Calling.{at_name};
 
 use crate::tag::tagged;
@@ -49,16 +49,6 @@ impl ByName {
         ensures { result ≡ number_tagged (at_name self.now) tag.now }
     {
         self.get(tagged(tag)?)
-    }
-
-    /// The number of the delivery that a transfer of the router carries, after a frame of `before`.
-    pub(crate) fn carried(&self, transfer: &Transfer, before: Option<u64>) -> Option<u64>
-        ensures { result ≡ carried (at_name self.now) (tag_in transfer.now) before }
-    {
-        match &transfer.delivery_tag {
-            None => before,
-            Some(tag) => self.tagged(tag.as_slice()),
-        }
     }
 
     /// The number of the delivery that a transfer of the router begins, by its tag.

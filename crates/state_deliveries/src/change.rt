@@ -4,7 +4,7 @@ ghost use Rattle.amqp_session.specs.Ranges.{in_range};
 ghost use Rattle.state_deliveries.specs.Hearing.{heard_change, heard_in_change, disposed_change, decided_by};
 ghost use Rattle.state_deliveries.specs.declared.change.Change.TheVariants as change;
 ghost use Rattle.state_deliveries.specs.declared.change.Gone.TheVariants as gone;
-ghost use Rattle.state_deliveries.specs.Stepping.{is_gone, is_gone_from, comes_with_id, put_change, told_by, untold_by, is_in};
+ghost use Rattle.state_deliveries.specs.Stepping.{is_gone, is_gone_from, comes_with_id, put_by, put_change, told_by, untold_by, is_in};
 ghost use Rattle.state_deliveries.specs.Indexing.{moves_consumer};
 
 use crate::state::decision;
@@ -153,10 +153,7 @@ pub(crate) fn after_put(conn: u64, own: u16, perf: &Perf) -> Option<Change>
     ensures { result ≡ put_change conn own perf.now }
 {
     match perf {
-        Perf::Disposition(disposition) => match disposition.role {
-            Role::Sender => None,
-            Role::Receiver => Some(told_by(conn, own, disposition)),
-        },
+        Perf::Disposition(disposition) => after_disposition(conn, own, disposition),
         Perf::Detach(detach) => Some(Change::Ends {
             gone: Gone::Link {
                 conn,
@@ -174,6 +171,16 @@ pub(crate) fn after_put(conn: u64, own: u16, perf: &Perf) -> Option<Change>
             closed: false,
         }),
         _ => None,
+    }
+}
+
+/// The immediate change to deliveries when the router sends a disposition on its channel `own`.
+pub(crate) fn after_disposition(conn: u64, own: u16, disposition: &Disposition) -> Option<Change>
+    ensures { result ≡ put_by disposition.now.role conn own disposition.now }
+{
+    match disposition.role {
+        Role::Sender => None,
+        Role::Receiver => Some(told_by(conn, own, disposition)),
     }
 }
 

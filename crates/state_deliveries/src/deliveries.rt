@@ -1,5 +1,5 @@
 //! The table of deliveries.
-ghost use Rattle.std.specs.Prelude.{◌≡◌, ◌==◌, ◌-◌, ◌&&◌, ◌∷◌, List, ℕ, OnOk, IfOk, true, false, if◌then◌else◌};
+ghost use Rattle.std.specs.Prelude.{◌≡◌, ◌==◌, ◌-◌, ◌&&◌, ◌∷◌, List, ℕ, Bool, OnOk, IfOk, true, false, if◌then◌else◌};
 ghost use Rattle.std.specs.Option.{option_copied, option_map, is_none, is_some};
 ghost use Rattle.state_collections.specs.NumberMap.{at_number};
 ghost use Rattle.router_trace.specs.Trace.{Beginning, Trace};
@@ -7,6 +7,8 @@ ghost use Rattle.router_trace.specs.Configuration.{opened};
 ghost use Rattle.router_trace.specs.Trace.{Entry, Out, Bound, did};
 ghost use Rattle.router_trace.specs.declared.binding.JoinedTo.TheVariants.{New};
 ghost use Rattle.router_trace.specs.declared.event.Event.TheVariants as event;
+ghost use Rattle.amqp_model.specs.declared.item.Item.TheVariants as item;
+ghost use Rattle.amqp_model.specs.declared.perf.Perf.TheVariants as perf;
 ghost use Rattle.router_trace.specs.Deliveries.{called, rank_at, last_with, row_or, joined_by, joining, holds_standing, origin_in, told_in, early_in, owned_in, delivery, acts_found, channels_found, giving, name_of, next_id, sending, named, waits_on, undecided_on, held_from, is_to_tell};
 ghost use Rattle.router_trace.specs.Sessions.{maps, is_channel};
 ghost use Rattle.router_trace.specs.Following.{first_delivery, is_unsent_on, is_used};
@@ -21,7 +23,7 @@ ghost use Rattle.router_trace.specs.Channels.{channel_of};
 ghost use Rattle.state_deliveries.specs.Fits.{DeliveriesFit, AreSending};
 ghost use Rattle.state_deliveries.specs.Touching.{is_touched, Touches};
 
-use crate::change::Change;
+use crate::change::{Change, after_disposition};
 use crate::deciding::decided_rows;
 use crate::delivery::{Delivery, Producers};
 use crate::giving::give;
@@ -30,7 +32,7 @@ use crate::names::Names;
 use crate::next_ids::NextIds;
 use crate::sending::Sending;
 use crate::store::Store;
-use amqp_model::{DeliveryState, Item, copy_state};
+use amqp_model::{DeliveryState, Disposition, Item, Transfer, copy_state};
 use book_model::{Act, Decision, RowNumber};
 use bytes::Bytes;
 use router_trace::{Binding, BindingKind, ConnectionId, DeliveryName, Holding, JoinedTo};
@@ -280,10 +282,9 @@ impl Deliveries {
             → DeliveriesFit self.old t → DeliveriesFit self.new (did (event.Item conn item.now) ∷ t)) }
         ensures touches { OnOk result (Touches self.old self.new) }
     {
-        hear(&mut self.store, &self.names, change)?;
+        hear(&mut self.store, &mut self.names, change)?;
         let mut given = Vec::new(self.alloc);
         give(&mut self.store, item, acts, &mut given)?;
-        self.names.settle_heard(&self.store, conn.0, own, item)?;
         self.names.settle_at(&self.store, given.as_slice())?;
         Ok(())
     }
@@ -302,6 +303,45 @@ impl Deliveries {
             .settle_put(&self.store, conn, item, ids.as_slice())?;
         self.sending.put(conn, item, &self.store.by_name)?;
         self.next_ids.put(conn, item)?;
+        Ok(())
+    }
+
+    /// The router's transfer with this payload is put into the outbox of a connection, on its channel `own`. Fails if
+    /// memory is refused, and if the sent bytes of the delivery overflow their counter.
+    pub fn put_transfer(
+        &mut self,
+        conn: u64,
+        own: u16,
+        transfer: &Transfer,
+        payload: &Bytes,
+    ) -> Result<(), AllocError>
+        ensures fits { OnOk result ((t : List Entry) (sasl : Bool) → DeliveriesFit self.old t
+            → DeliveriesFit self.new (Out conn (item.Frame sasl own (perf.Transfer transfer.now) payload.now) ∷ t)) }
+        ensures touches { OnOk result (Touches self.old self.new) }
+    {
+        let begun = self.store.by_name.begun(transfer);
+        let number = self.sending.carried(conn, own, transfer, begun);
+        self.store.note_carried(number, transfer, payload)?;
+        self.names.begin(conn, own, transfer, begun, &self.store)?;
+        self.sending.put_transfer(conn, own, transfer, number)?;
+        self.next_ids.count(conn, own, transfer)?;
+        Ok(())
+    }
+
+    /// The router's disposition is put into the outbox of a connection, on its channel `own`. Fails if memory is
+    /// refused.
+    pub fn put_disposition(
+        &mut self,
+        conn: u64,
+        own: u16,
+        disposition: &Disposition,
+    ) -> Result<(), AllocError>
+        ensures fits { OnOk result ((t : List Entry) (sasl : Bool) (payload : List ℕ) → DeliveriesFit self.old t
+            → DeliveriesFit self.new (Out conn (item.Frame sasl own (perf.Disposition disposition.now) payload) ∷ t)) }
+        ensures touches { OnOk result (Touches self.old self.new) }
+    {
+        self.store
+            .apply_any(after_disposition(conn, own, disposition))?;
         Ok(())
     }
 }

@@ -1,5 +1,5 @@
 //! Indexes of deliveries.
-ghost use Rattle.std.specs.Prelude.{◌≡◌, ◌==◌, ℕ, Bool, Option, None, true, false, if◌then◌else◌, OnOk, IfOk, ◌||◌};
+ghost use Rattle.std.specs.Prelude.{◌≡◌, ◌==◌, [], ◌∷◌, ℕ, Bool, Option, None, true, false, if◌then◌else◌, IfSome, OnOk, IfOk, ◌||◌};
 ghost use Rattle.std.specs.Ordering.{nat_cmp};
 ghost use Rattle.std.specs.BTreeSet.{contains};
 ghost use Rattle.state_deliveries.specs.Deciding.{decides, decide};
@@ -273,6 +273,29 @@ impl Index {
         let mut numbers = Vec::new(alloc);
         self.append_concerned(change, &mut numbers)?;
         Ok(numbers)
+    }
+
+    /// The number of the only delivery that a change may change, if it is found without a list: by one id from its
+    /// producer.
+    pub(crate) fn sole(&self, change: &Change) -> Option<u64>
+        ensures { IfSome result (λ k. (known : ℕ → Keys) → Indexes self.now known → (n : ℕ)
+            → concerns change.now (known n) ≡ true → has n (k ∷ []) ≡ true) }
+    {
+        match change {
+            Change::Untold {
+                conn,
+                own,
+                first,
+                last,
+            } => self.by_id.sole(*conn, *own, *first, *last),
+            Change::Told {
+                conn,
+                own,
+                first,
+                last,
+            } => self.by_id.sole(*conn, *own, *first, *last),
+            _ => None,
+        }
     }
 
     /// The numbers of the deliveries whose rows one of these changes may decide.

@@ -1,6 +1,6 @@
 //! Deliveries by the delivery-ids that the router gave them.
-ghost use Rattle.std.specs.Prelude.{◌≡◌, ◌==◌, ◌∷◌, List, ℕ, Bool, None, if◌then◌else◌, OnOk, IfOk, ◌||◌};
-ghost use Rattle.std.specs.Option.{option_and_then};
+ghost use Rattle.std.specs.Prelude.{◌≡◌, ◌==◌, ◌<◌, ◌^◌, ◌&&◌, ◌∷◌, List, ℕ, Bool, None, if◌then◌else◌, OnOk, IfOk};
+ghost use Rattle.std.specs.Option.{option_and_then, is_some};
 ghost use Rattle.state_collections.specs.NumberMap.{at_number};
 ghost use Rattle.amqp_model.specs.declared.perf.Perf.TheVariants as perf;
 ghost use Rattle.amqp_model.specs.declared.item.Item.TheVariants as item;
@@ -12,15 +12,16 @@ ghost use Rattle.router_trace.specs.Deliveries.{delivery, is_id, number_tagged, 
 ghost use Rattle.state_deliveries.specs.Calling.{at_name};
 ghost use Rattle.state_collections.specs.Ids.{at_id};
 ghost use Rattle.state_deliveries.specs.Fits.{StoreFit};
-ghost use Rattle.amqp_session.specs.Ranges.{has};
-ghost use Rattle.state_deliveries.specs.Hearing.{id_of, picks, is_named_in};
-ghost use Rattle.state_deliveries.specs.Naming.{NamesFit, AreSmall, kept_name, decided_in, detached_in, uses, opens};
+ghost use Rattle.amqp_session.specs.Ranges.{has, in_range};
+ghost use Rattle.state_deliveries.specs.Hearing.{id_of, picks};
+ghost use Rattle.state_deliveries.specs.Naming.{NamesFit, AreSmall, is_open, kept_name, detached_in, uses, opens};
 ghost use Rattle.router_trace.specs.Settling.{ids_between};
 ghost use Rattle.std.specs.List.{filter};
 
 use crate::spots::Spot;
 use crate::store::Store;
 use amqp_model::{Item, Perf, Transfer};
+use amqp_session::Serial;
 use router_trace::ConnectionId;
 use state_collections::BySession;
 use std::alloc::{AllocError, Global};
@@ -51,12 +52,12 @@ impl Names {
         self.ids.get(conn, own, id).copied()
     }
 
-    /// The number of the delivery that an id names, if the delivery has this id.
-    pub(crate) fn picked(&self, store: &Store, conn: u64, own: u16, id: u32) -> Option<u64>
-        ensures { (n : ℕ) → is_number result n ≡ picks (at_id self.now.ids conn own) n (id_of (at_number store.now.deliveries n)) id }
+    /// The number of the delivery that the id at a place names, if the delivery has this id.
+    pub(crate) fn picked(&self, store: &Store, place: Spot) -> Option<u64>
+        ensures { (n : ℕ) → is_number result n ≡ picks (at_id self.now.ids place.conn place.own) n (id_of (at_number store.now.deliveries n)) place.at }
     {
-        let number = self.get(conn, own, id)?;
-        if store.has_id(number, id) {
+        let number = self.get(place.conn, place.own, place.at)?;
+        if store.has_id(number, place.at) {
             Some(number)
         } else {
             None
@@ -106,24 +107,18 @@ impl Names {
         Ok(found)
     }
 
-    /// The numbers of the deliveries that the ids in a disposition's range name, in the range's order.
+    /// The ids in a disposition's range that name deliveries, in the range's order.
     pub(crate) fn in_range(
         &self,
-        store: &Store,
         conn: u64,
         own: u16,
         first: u32,
         last: u32,
-    ) -> Result<Vec<u64>, AllocError>
-        ensures { IfOk result (λ numbers. AreSmall (at_id self.now.ids)
-            → (n : ℕ) → has n numbers.items ≡ is_named_in first last (at_id self.now.ids conn own) n (at_number store.now.deliveries n)) }
+    ) -> Result<Vec<Serial>, AllocError>
+        ensures { IfOk result (λ ids. (id : ℕ) → id < 2 ^ 32
+            → has id ids.items ≡ (in_range first last id && is_some (at_id self.now.ids conn own id))) }
     {
-        let mut numbers = Vec::new(self.alloc);
-        let ids = self.ids.in_range(conn, own, first, last)?;
-        for id in &ids {
-            add(&mut numbers, self.picked(store, conn, own, id.number()))?;
-        }
-        Ok(numbers)
+        Ok(self.ids.in_range(conn, own, first, last)?)
     }
 
     /// A connection is lost.
@@ -156,7 +151,10 @@ impl Names {
             → NamesFit self.old t → NamesFit self.new (Out conn (item.Frame sasl own perf.now payload) ∷ t)) }
     {
         match perf {
-            Perf::Transfer(transfer) => self.begin(conn, own, transfer, store)?,
+            Perf::Transfer(transfer) => {
+                let number = store.by_name.begun(transfer);
+                self.begin(conn, own, transfer, number, store)?
+            }
             Perf::End(_) => self.ids.end(conn, own),
             Perf::Close(_) => self.ids.forget(conn),
             _ => {}
@@ -164,25 +162,21 @@ impl Names {
         Ok(())
     }
 
-    /// The router's transfer, which may begin a delivery with an id.
-    fn begin(
+    /// The router's transfer, which may begin a delivery with an id: the one with this number, if there is one.
+    pub(crate) fn begin(
         &mut self,
         conn: u64,
         own: u16,
         transfer: &Transfer,
+        number: Option<u64>,
         store: &Store,
     ) -> Result<(), AllocError>
         ensures named { OnOk result ((c o q : ℕ) → at_id self.new.ids c o q
-            ≡ (if conn == c then (if own == o then (if is_id transfer.now.delivery_id q then kept_name (option_and_then (number_tagged (at_name store.now.by_name)) (tag_in transfer.now)) (at_number store.now.deliveries) else at_id self.old.ids c o q) else at_id self.old.ids c o q) else at_id self.old.ids c o q)) }
+            ≡ (if conn == c then (if own == o then (if is_id transfer.now.delivery_id q then kept_name number (at_number store.now.deliveries) else at_id self.old.ids c o q) else at_id self.old.ids c o q) else at_id self.old.ids c o q)) }
         ensures small { OnOk result (AreSmall (at_id self.old.ids) → AreSmall (at_id self.new.ids)) }
     {
         if let Some(id) = transfer.delivery_id {
-            self.set(
-                conn,
-                own,
-                id,
-                kept_name(store.by_name.begun(transfer), store),
-            )?;
+            self.set(conn, own, id, kept_name(number, store))?;
         }
         Ok(())
     }
@@ -200,25 +194,14 @@ impl Names {
         Ok(())
     }
 
-    /// Forgets those ids in a session's range that name deliveries which aren't undecided. One id alone is looked up, and no list of ids is made.
-    pub(crate) fn settle(
-        &mut self,
-        store: &Store,
-        conn: u64,
-        own: u16,
-        first: u32,
-        last: u32,
-    ) -> Result<(), AllocError>
-        ensures { OnOk result ((t : List Entry) → ((n : ℕ) → at_number store.now.deliveries n ≡ delivery t n) → NamesFit self.old t → NamesFit self.new t) }
+    /// Forgets the id at a place, which names the delivery with this number, if that isn't undecided.
+    pub(crate) fn forget_closed(&mut self, store: &Store, place: Spot, number: u64)
+        ensures { (c o q : ℕ) → at_id self.new.ids c o q
+            ≡ (if place.conn == c then (if place.own == o then (if place.at == q then (if is_open (at_number store.now.deliveries number) then at_id self.old.ids c o q else None) else at_id self.old.ids c o q) else at_id self.old.ids c o q) else at_id self.old.ids c o q) }
     {
-        if first == last {
-            return self.settle_one(store, conn, own, first);
+        if !store.is_open(number) {
+            self.ids.remove(place.conn, place.own, place.at);
         }
-        let ids = self.ids.in_range(conn, own, first, last)?;
-        for id in &ids {
-            self.settle_one(store, conn, own, id.number())?;
-        }
-        Ok(())
     }
 
     /// Forgets an id if it names a delivery which isn't undecided.
@@ -227,25 +210,6 @@ impl Names {
     {
         let name = kept_name(self.get(conn, own, id), store);
         self.set(conn, own, id, name)?;
-        Ok(())
-    }
-
-    /// After an item of the peer, forgets the ids of the deliveries that it decided, on the session with the router's channel `own`.
-    pub(crate) fn settle_heard(
-        &mut self,
-        store: &Store,
-        conn: u64,
-        own: Option<u16>,
-        item: &Item,
-    ) -> Result<(), AllocError>
-        ensures { OnOk result ((t : List Entry) → ((n : ℕ) → at_number store.now.deliveries n ≡ delivery t n) → NamesFit self.old t → NamesFit self.new t) }
-    {
-        let Some(own) = own else {
-            return Ok(());
-        };
-        if let Some((first, last)) = decided_in(item) {
-            self.settle(store, conn, own, first, last)?;
-        }
         Ok(())
     }
 
@@ -292,22 +256,6 @@ impl Names {
     }
 }
 
-/// The range of ids in a consumer's disposition.
-fn decided_in(item: &Item) -> Option<(u32, u32)>
-    ensures { result ≡ decided_in item.now }
-{
-    match item {
-        Item::Frame { perf, .. } => match perf {
-            Perf::Disposition(disposition) => Some((
-                disposition.first,
-                disposition.last.unwrap_or(disposition.first),
-            )),
-            _ => None,
-        },
-        _ => None,
-    }
-}
-
 /// The router's channel of the session on which it detaches a link.
 fn detached_in(item: &Item) -> Option<u16>
     ensures { result ≡ detached_in item.now }
@@ -331,14 +279,4 @@ fn kept_name(number: Option<u64>, store: &Store) -> Option<u64>
     } else {
         None
     }
-}
-
-/// Appends a number, if there is one.
-fn add(numbers: &mut Vec<u64>, number: Option<u64>) -> Result<(), AllocError>
-    ensures { OnOk result ((n : ℕ) → has n numbers.new.items ≡ (has n numbers.old.items || is_number number n)) }
-{
-    if let Some(number) = number {
-        numbers.push(number)?;
-    }
-    Ok(())
 }

@@ -94,7 +94,12 @@ impl NextIds {
     }
 
     /// The router's transfer, which may have an id.
-    fn count(&mut self, conn: u64, own: u16, transfer: &Transfer) -> Result<(), AllocError>
+    pub(crate) fn count(
+        &mut self,
+        conn: u64,
+        own: u16,
+        transfer: &Transfer,
+    ) -> Result<(), AllocError>
         ensures { OnOk result ((c o : ℕ) → next_in self.new c o
             ≡ (if conn == c then (if own == o then after_id transfer.now.delivery_id (next_in self.old c o) else next_in self.old c o) else next_in self.old c o)) }
     {

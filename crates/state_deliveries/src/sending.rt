@@ -1,5 +1,5 @@
 //! The deliveries of which more frames remain to be sent, by the router's handles.
-ghost use Rattle.std.specs.Prelude.{◌≡◌, ◌==◌, ◌∷◌, List, ℕ, Bool, None, if◌then◌else◌, OnOk, IfOk};
+ghost use Rattle.std.specs.Prelude.{◌≡◌, ◌==◌, ◌∷◌, List, ℕ, Bool, Option, None, if◌then◌else◌, OnOk, IfOk};
 ghost use Rattle.std.specs.Ordering.{nat_cmp};
 ghost use Rattle.std.specs.Map.{values_of};
 ghost use Rattle.std.specs.BTreeMap.{IsOrdered};
@@ -9,7 +9,9 @@ ghost use Rattle.router_trace.specs.Trace.{Beginning, Trace};
 ghost use Rattle.router_trace.specs.Configuration.{opened};
 ghost use Rattle.router_trace.specs.Trace.{Entry, Out, did};
 ghost use Rattle.router_trace.specs.declared.event.Event.TheVariants as event;
-ghost use Rattle.router_trace.specs.Deliveries.{carried, tag_in};
+ghost use Rattle.std.specs.Option.{option_and_then};
+ghost use Rattle.router_trace.specs.declared.binding.DeliveryName.{DeliveryName as Name};
+ghost use Rattle.router_trace.specs.Deliveries.{carried, number_tagged, tag_in};
 ghost use Rattle.state_collections.specs.Places.{at};
 ghost use Rattle.state_deliveries.specs.Calling.{at_name, NumbersFit};
 ghost use Rattle.state_deliveries.specs.Fits.{SendingFit, carried_in, carried_by};
@@ -83,7 +85,10 @@ impl Sending {
             → SendingFit self.old t → SendingFit self.new (Out conn (item.Frame sasl own perf.now payload) ∷ t)) }
     {
         match perf {
-            Perf::Transfer(transfer) => self.put_transfer(conn, own, transfer, names)?,
+            Perf::Transfer(transfer) => {
+                let number = self.carried(conn, own, transfer, names.begun(transfer));
+                self.put_transfer(conn, own, transfer, number)?
+            }
             Perf::Detach(detach) => {
                 let _ = self.numbers.remove(conn, own, detach.handle);
             }
@@ -99,24 +104,40 @@ impl Sending {
     }
 
     /// The router's transfer.
-    fn put_transfer(
+    pub(crate) fn put_transfer(
         &mut self,
         conn: u64,
         own: u16,
         transfer: &Transfer,
-        names: &ByName,
+        number: Option<u64>,
     ) -> Result<(), AllocError>
         ensures { OnOk result ((c o h : ℕ) → at self.new.numbers c o h
-            ≡ (if conn == c then (if own == o then (if transfer.now.handle == h then (if transfer.now.more then carried (at_name names.now) (tag_in transfer.now) (at self.old.numbers c o h) else None)
+            ≡ (if conn == c then (if own == o then (if transfer.now.handle == h then (if transfer.now.more then number else None)
             else at self.old.numbers c o h) else at self.old.numbers c o h) else at self.old.numbers c o h)) }
     {
-        let number = self.number_after(conn, own, transfer, names);
-        match number {
+        match unless_last(transfer, number) {
             None => {
                 let _ = self.numbers.remove(conn, own, transfer.handle);
                 Ok(())
             }
             Some(number) => self.numbers.insert(conn, own, transfer.handle, number),
+        }
+    }
+
+    /// The delivery that a transfer of the router carries, where `begun` is the one that its tag names.
+    pub(crate) fn carried(
+        &self,
+        conn: u64,
+        own: u16,
+        transfer: &Transfer,
+        begun: Option<u64>,
+    ) -> Option<u64>
+        ensures { (names : Name → Option ℕ) → begun ≡ option_and_then (number_tagged names) (tag_in transfer.now)
+            → result ≡ carried names (tag_in transfer.now) (at self.now.numbers conn own transfer.now.handle) }
+    {
+        match &transfer.delivery_tag {
+            None => self.on(conn, own, transfer.handle),
+            Some(_) => begun,
         }
     }
 
@@ -135,24 +156,17 @@ impl Sending {
         ensures { result ≡ carried_in (at_name names.now) perf.now (at self.now.numbers conn own) }
     {
         match perf {
-            Perf::Transfer(transfer) => names.carried(
-                transfer,
-                self.on(conn, own, transfer.handle),
-            ),
+            Perf::Transfer(transfer) => { self.carried(conn, own, transfer, names.begun(transfer)) }
             _ => None,
         }
     }
+}
 
-    /// The delivery of which more frames remain to be sent on a transfer's handle, after that transfer.
-    fn number_after(&self, conn: u64, own: u16, transfer: &Transfer, names: &ByName) -> Option<u64>
-        ensures { result ≡ (if transfer.now.more then carried (at_name names.now) (tag_in transfer.now) (at self.now.numbers conn own transfer.now.handle) else None) }
-    {
-        if transfer.more {
-            names.carried(transfer, self.on(conn, own, transfer.handle))
-        } else {
-            None
-        }
-    }
+/// The number, unless a transfer is the last one of its delivery.
+fn unless_last(transfer: &Transfer, number: Option<u64>) -> Option<u64>
+    ensures { result ≡ (if transfer.now.more then number else None) }
+{
+    if transfer.more { number } else { None }
 }
 
 /// The numbers of a session, in order of their handles.

@@ -42,6 +42,13 @@ impl Spots {
         }
     }
 
+    /// Whether no number is at any place.
+    pub(crate) fn is_empty(&self) -> bool
+        ensures { result ≡ true → (known : ℕ → Option TheSpot) → SpotsFit self.now known → (n : ℕ) → known n ≡ None }
+    {
+        self.keys.is_empty()
+    }
+
     /// Moves a number from one place to another.
     pub(crate) fn shift(
         &mut self,

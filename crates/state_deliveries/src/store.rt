@@ -426,9 +426,25 @@ impl Store {
         ensures indexed { OnOk result (Indexed self.old → Indexed self.new) }
         ensures touches { OnOk result (StoreTouches self.old self.new) }
     {
+        self.change_concerned(change)?;
+        self.leave(change)?;
+        Ok(())
+    }
+
+    /// Changes the deliveries that the indexes give for a change. No list is made for one that is found by its id
+    /// alone.
+    fn change_concerned(&mut self, change: &Change) -> Result<(), AllocError>
+        ensures deliveries { OnOk result (is_by_place change.now ≡ true → ((n : ℕ) → IsKept (at_number self.old.deliveries n)) → Indexed self.old
+            → (n : ℕ) → at_number self.new.deliveries n ≡ after_change change.now (at_number self.old.deliveries n)) }
+        ensures indexed { OnOk result (Indexed self.old → Indexed self.new) }
+        ensures touches { OnOk result (StoreTouches self.old self.new) }
+    {
+        if let Some(number) = self.index.sole(change) {
+            self.change(number, change)?;
+            return Ok(());
+        }
         let numbers = self.index.concerned(self.alloc, change)?;
         self.change_all(numbers.as_slice(), change)?;
-        self.leave(change)?;
         Ok(())
     }
 

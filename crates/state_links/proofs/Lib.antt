@@ -10,3 +10,4 @@ pub mod Owing
 pub mod Putting
 pub mod Standing
 pub mod Touches
+pub mod Beside

@@ -1,6 +1,6 @@
 -- A link that wasn't touched hasn't changed.
 use Rattle.std.proofs.Common.{◌≡◌, ◌∙◌, ℕ, Bool, true, false, refl, sym, ap, List, [], ◌∷◌, Option, Some, None}
-use Rattle.std.specs.Prelude.{◌||◌, ◌==◌, if◌then◌else◌, Result, Ok, Err, OnOk}
+use Rattle.std.specs.Prelude.{◌||◌, ◌==◌, if◌then◌else◌, Result, Ok, Err, OnOk, option_map}
 use Rattle.std.specs.List.{list_any}
 use Rattle.std.specs.Map.{lookup}
 use Rattle.std.specs.Ordering.{nat_cmp}
@@ -69,6 +69,29 @@ left_touches conn own handle old new touched links numbers =
       links = λ k e c o h. changed_row k (conn == c) (own == o) (handle == h) None _ (at old.links c o h) (at old.links conn own handle)
           (links c o h) (place_same (at old.links) conn c o h (Some own) (Some handle)) (un k e).0 (λ e. refl);
       numbers = λ k e. numbers k (un k e).0;
+    }
+
+-- after a link, if there is one at a place, has changed and kept its number
+still_unnumbered : (k : ℕ) (f : Link → Link) → ((l : Link) → (f l).number ≡ l.number) → (v : Option Link)
+    → is_numbered k v ≡ false → is_numbered k (option_map f v) ≡ false
+still_unnumbered k f kept None e = refl
+still_unnumbered k f kept (Some l) e = ap (λ n. n == k) (kept l) ∙ e
+
+pub changed_touches : (conn own : ℕ) (handle : Option ℕ) (f : Link → Link) (old new : LinkTable)
+    → ((l : Link) → (f l).number ≡ l.number)
+    → ((k : ℕ) → has new.touched k ≡ (if is_numbered k (named_link (Some own) handle (at old.links conn)) then true else has old.touched k))
+    → ((c o h : ℕ) → at new.links c o h ≡ (if conn == c then (if own == o then (if is_handle handle h then option_map f (at old.links c o h) else at old.links c o h) else at old.links c o h) else at old.links c o h))
+    → ((k : ℕ) → at_number old.names.numbers.entries k ≡ at_number new.names.numbers.entries k)
+    → Touched old new
+changed_touches conn own handle f old new kept touched links numbers =
+    let un : (k : ℕ) → has new.touched k ≡ false → (is_numbered k (named_link (Some own) handle (at old.links conn)) ≡ false) × (has old.touched k ≡ false) =
+    λ k e. untrue _ _ (sym (touched k) ∙ e) in
+    record {
+      before = λ k e. (un k e).1;
+      links = λ k e c o h. changed_row k (conn == c) (own == o) (is_handle handle h) (option_map f (at old.links c o h)) _ (at old.links c o h)
+          (named_link (Some own) handle (at old.links conn)) (links c o h) (place_same (at old.links) conn c o h (Some own) handle) (un k e).0
+          (still_unnumbered k f kept (at old.links c o h));
+      numbers = λ k e. numbers k;
     }
 
 -- after a link is taken at a place where another may have been

@@ -1,6 +1,7 @@
 //! The table of links.
 ghost use Rattle.std.specs.Prelude.{◌≡◌, ◌==◌, ◌&&◌, ◌∷◌, List, ℕ, Bool, Some, true, false, if◌then◌else◌, IfOk, OnOk};
 ghost use Rattle.amqp_model.specs.declared.item.Item.TheVariants as item;
+ghost use Rattle.amqp_model.specs.declared.perf.Perf.TheVariants as perf;
 ghost use Rattle.router_trace.specs.Trace.{Beginning, Trace};
 ghost use Rattle.router_trace.specs.Configuration.{opened};
 ghost use Rattle.router_trace.specs.Trace.{Entry, Out, did};
@@ -12,8 +13,6 @@ ghost use Rattle.state_links.specs.Looking.{attachment_on, key_on, numbered_link
 ghost use Rattle.state_links.specs.Owed.{is_listed, is_marked, owes_on};
 ghost use Rattle.router_trace.specs.Following.{owes_one};
 ghost use Rattle.router_trace.specs.declared.handle.Attachment.{Attachment as Attached};
-ghost use Rattle.std.specs.Ordering.{nat_cmp};
-ghost use Rattle.std.specs.BTreeMap.{get};
 ghost use Rattle.state_links.specs.Touching.{Touches, is_touched, IsLowest};
 ghost use Rattle.std.specs.Option.{option_map};
 ghost use Rattle.router_trace.specs.declared.event.Event.TheVariants as event;
@@ -26,7 +25,7 @@ use crate::handles::HandleTable;
 use crate::link::Link;
 use crate::table::LinkTable;
 use amqp_link::Part;
-use amqp_model::{Item, Perf};
+use amqp_model::{Flow, Item, Perf, Transfer};
 use book_model::LinkKey;
 use bytes::Bytes;
 use router_trace::{Asked, Attachment, ConnectionId, LinkAt, PeerHandle};
@@ -240,6 +239,31 @@ impl Links {
             } => self.put_perf(conn, *channel, perf, payload, key)?,
             _ => {}
         }
+        Ok(())
+    }
+
+    /// The router's transfer is put into the outbox of a connection.
+    pub fn put_transfer(
+        &mut self,
+        conn: u64,
+        own: u16,
+        transfer: &Transfer,
+    ) -> Result<(), AllocError>
+        ensures fits { OnOk result ((t : List Entry) (sasl : Bool) (payload : List ℕ) → LinksFit self.old t
+            → LinksFit self.new (Out conn (item.Frame sasl own (perf.Transfer transfer.now) payload) ∷ t)) }
+        ensures touches { OnOk result (Touches self.old self.new) }
+    {
+        self.table.put_transfer(conn, own, transfer)?;
+        Ok(())
+    }
+
+    /// The router's flow is put into the outbox of a connection.
+    pub fn put_flow(&mut self, conn: u64, own: u16, flow: &Flow) -> Result<(), AllocError>
+        ensures fits { OnOk result ((t : List Entry) (sasl : Bool) (payload : List ℕ) → LinksFit self.old t
+            → LinksFit self.new (Out conn (item.Frame sasl own (perf.Flow flow.now) payload) ∷ t)) }
+        ensures touches { OnOk result (Touches self.old self.new) }
+    {
+        self.table.put_flow(conn, own, flow)?;
         Ok(())
     }
 

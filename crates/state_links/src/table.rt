@@ -17,11 +17,11 @@ ghost use Rattle.router_trace.specs.Trace.{Entry, Out, did};
 ghost use Rattle.router_trace.specs.Sessions.{is_channel, maps, theirs};
 ghost use Rattle.router_trace.specs.Links.{is_handle, their_handle, asked, key_at, is_attached, if_attached, holder, place_of};
 ghost use Rattle.router_trace.specs.declared.event.Event.TheVariants as event;
-ghost use Rattle.state_links.specs.declared.link.Side.TheVariants.{Peer, Router};
-ghost use Rattle.state_links.specs.Ends.{begun, noted};
+ghost use Rattle.state_links.specs.declared.link.Side.TheVariants.{Peer};
+ghost use Rattle.state_links.specs.Ends.{begun, noted, after_our_flow, after_our_transfer};
 ghost use Rattle.state_links.specs.Giving.{part_here, part_named};
 ghost use Rattle.state_links.specs.Looking.{middle_here, durable_at, attachment_of, numbered_here};
-ghost use Rattle.state_links.specs.Fits.{TableFit, with_mark, asks_drain, names_in, key_in, asked_in, found_at, attachment, IsNoted};
+ghost use Rattle.state_links.specs.Fits.{TableFit, with_mark, asks_drain, names_in, key_in, asked_in, found_at, attachment};
 ghost use Rattle.state_links.specs.Naming.{on_conn, on_session, on_handle, Thinned};
 ghost use Rattle.state_collections.specs.Places.{at};
 ghost use Rattle.state_links.specs.Owed.{owed_of, owes_on};
@@ -34,7 +34,7 @@ use crate::names::Names;
 use crate::owed::{append_all, settle};
 use crate::touched::{touch, touch_at, touch_connection, touch_session};
 use amqp_link::Part;
-use amqp_model::{Attach, Detach, Perf, Text};
+use amqp_model::{Attach, Detach, Flow, Perf, Text, Transfer};
 use book_model::LinkKey;
 use bytes::Bytes;
 use router_trace::{Asked, Attachment, ConnectionId, LinkAt};
@@ -267,14 +267,8 @@ impl LinkTable {
     {
         match perf {
             Perf::Attach(attach) => self.put_attach(conn, own, attach.as_ref(), key, last)?,
-            Perf::Flow(flow) => self.put_note(conn, own, flow.handle, perf, payload)?,
-            Perf::Transfer(transfer) => self.put_note(
-                conn,
-                own,
-                Some(transfer.handle),
-                perf,
-                payload,
-            )?,
+            Perf::Flow(flow) => self.put_flow(conn, own, flow)?,
+            Perf::Transfer(transfer) => self.put_transfer(conn, own, transfer)?,
             Perf::Detach(detach) => self.put_detach(conn, own, detach)?,
             Perf::End(_) => self.put_end(conn, own)?,
             Perf::Close(_) => self.forget(conn)?,
@@ -347,27 +341,34 @@ impl LinkTable {
         Ok(())
     }
 
-    /// The router's flow or transfer on a link.
-    fn put_note(
+    /// The router's transfer.
+    pub fn put_transfer(
         &mut self,
         conn: u64,
         own: u16,
-        handle: Option<u32>,
-        perf: &Perf,
-        payload: &Bytes,
+        transfer: &Transfer,
     ) -> Result<(), AllocError>
-        ensures fits { OnOk result ((t : List Entry) (sasl : Bool) → IsNoted perf.now handle
-            → TableFit self.old t → TableFit self.new (Out conn (item.Frame sasl own perf.now payload.now) ∷ t)) }
+        ensures fits { OnOk result ((t : List Entry) (sasl : Bool) (payload : List ℕ) → TableFit self.old t
+            → TableFit self.new (Out conn (item.Frame sasl own (perf.Transfer transfer.now) payload) ∷ t)) }
         ensures touches { OnOk result (Touched self.old self.new) }
     {
-        note_ours(
+        note_transfer(&mut self.touched, &mut self.links, conn, own, transfer)?;
+        Ok(())
+    }
+
+    /// The router's flow, which may be on a link.
+    pub fn put_flow(&mut self, conn: u64, own: u16, flow: &Flow) -> Result<(), AllocError>
+        ensures fits { OnOk result ((t : List Entry) (sasl : Bool) (payload : List ℕ) → TableFit self.old t
+            → TableFit self.new (Out conn (item.Frame sasl own (perf.Flow flow.now) payload) ∷ t)) }
+        ensures touches { OnOk result (Touched self.old self.new) }
+    {
+        note_flow(
             &mut self.touched,
             &mut self.links,
             conn,
             own,
-            handle,
-            perf,
-            payload,
+            flow.handle,
+            flow,
         )?;
         Ok(())
     }
@@ -503,32 +504,52 @@ fn note_at(
     }
 }
 
-/// Applies a performative of the router to a link, if there is one, and touches it.
-fn note_ours(
+/// Applies a transfer of the router to the link on its handle, if there is one, and touches it.
+fn note_transfer(
+    touched: &mut NumberSet,
+    links: &mut ByHandle<Link>,
+    conn: u64,
+    own: u16,
+    transfer: &Transfer,
+) -> Result<(), AllocError>
+    ensures links { OnOk result ((c o h : ℕ) → at links.new c o h
+        ≡ (if conn == c then (if own == o then (if transfer.now.handle == h then option_map (after_our_transfer transfer.now) (at links.old c o h) else at links.old c o h) else at links.old c o h) else at links.old c o h)) }
+    ensures touched { OnOk result ((k : ℕ) → has touched.new k
+        ≡ (if is_numbered k (at links.old conn own transfer.now.handle) then true else has touched.old k)) }
+{
+    match links.get_mut(conn, own, transfer.handle) {
+        None => Ok(()),
+        Some(link) => {
+            link.on_our_transfer(transfer);
+            touch(touched, link.number)
+        }
+    }
+}
+
+/// Applies a flow of the router to the link on a handle, if it is on one, and touches that.
+fn note_flow(
     touched: &mut NumberSet,
     links: &mut ByHandle<Link>,
     conn: u64,
     own: u16,
     handle: Option<u32>,
-    perf: &Perf,
-    payload: &Bytes,
+    flow: &Flow,
 ) -> Result<(), AllocError>
     ensures links { OnOk result ((c o h : ℕ) → at links.new c o h
-        ≡ (if conn == c then (if own == o then (if is_handle handle h then option_map (noted Router perf.now payload.now) (at links.old c o h) else at links.old c o h) else at links.old c o h) else at links.old c o h)) }
+        ≡ (if conn == c then (if own == o then (if is_handle handle h then option_map (after_our_flow flow.now) (at links.old c o h) else at links.old c o h) else at links.old c o h) else at links.old c o h)) }
     ensures touched { OnOk result ((k : ℕ) → has touched.new k
         ≡ (if is_numbered k (named_link (Some own) handle (at links.old conn)) then true else has touched.old k)) }
 {
-    let _ = note(
-        touched,
-        links,
-        conn,
-        Some(own),
-        handle,
-        Side::Router,
-        perf,
-        payload,
-    )?;
-    Ok(())
+    let Some(handle) = handle else {
+        return Ok(());
+    };
+    match links.get_mut(conn, own, handle) {
+        None => Ok(()),
+        Some(link) => {
+            link.on_our_flow(flow);
+            touch(touched, link.number)
+        }
+    }
 }
 
 /// Whether a performative asks for a drain.

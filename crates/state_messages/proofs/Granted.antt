@@ -156,6 +156,6 @@ pub at_none : {A : Type 0} {P : Type 0} (r : Option A) → r ≡ None → IfNone
 at_none None e p = p
 at_none (Some x) e p = absurd cc
 
-pub at_some : {A : Type 0} (P : A → Type 0) (r : Option A) (a : A) → r ≡ Some a → IfSome r P → P a
-at_some P None a e p = absurd cc
-at_some {A = A} P (Some x) a e p = subst P (ap (λ (v : Option A). unwrap_or v x) e) p
+pub at_some : {A : Type 0} (r : Option A) (a : A) → r ≡ Some a → (P : A → Type 0) → IfSome r P → P a
+at_some None a e P p = absurd cc
+at_some {A = A} (Some x) a e P p = subst P (ap (λ (v : Option A). unwrap_or v x) e) p

@@ -56,6 +56,7 @@ exchanged s share shares known other actual really last now alike same come chos
   producers = λ n a is. fits.producers n a is ∙ ap (demand_at a) (sym (same n));
   no_consumer = fits.no_consumer;
   no_producer = fits.no_producer;
+  seated = fits.seated;
   same = λ a. fits.same a ∙ sym (alike a);
   distribution = λ a. fits.distribution a ∙ sym (alike a);
   chosen = λ a. subst (λ k. HasNoted (pool_at s a) k) (sym (chosen a)) (fits.chosen a);

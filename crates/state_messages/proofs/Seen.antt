@@ -1,7 +1,7 @@
 -- What a link has, read from the tables.
 use Rattle.std.proofs.Common.{◌≡◌, ◌∙◌, ◌+◌, ℕ, Bool, true, false, refl, sym, ap, Option, Some, None, List, [], ◌∷◌}
 use Rattle.std.specs.Prelude.{◌==◌, ◌||◌, if◌then◌else◌, length, option_map, unwrap_or}
-use Rattle.std.proofs.lemmas.Bool.{eqb-true}
+use Rattle.std.proofs.lemmas.Bool.{eqb-true, eq-eqb}
 use Rattle.amqp_link.specs.Deliveries.{Frame}
 use Rattle.amqp_link.specs.Gathering.{gathered}
 use Rattle.amqp_link.specs.Figures.{left_at, unused_at}
@@ -24,7 +24,8 @@ use Rattle.state_links.specs.Looking.{link_on, numbered_link}
 use Rattle.state_links.specs.Naming.{Remembers}
 use Rattle.state_collections.specs.Places.{at}
 use Rattle.state_links.specs.Touching.{if_number}
-use Rattle.state_pools.specs.Sharing.{AreNumbered, Figure, consumer, producer}
+use Rattle.state_links.proofs.Standing.{stands_where}
+use Rattle.state_pools.specs.Sharing.{address_in, AreNumbered, Figure, consumer, producer}
 use Rattle.state_messages.specs.Figures.{begun_credit, figure, figure_at, figure_by, figure_on, free_of, held, undecided, unused_credit, waiting}
 use Rattle.state_messages.proofs.Numbered.{none_beyond, none_first, number_is}
 use Rattle.state_collections.specs.NumberMap.{at_number}
@@ -178,3 +179,26 @@ figure_here t n k is = by_place (place_of t n) refl is
     by_place (Some a) place e =
         let there : (numbered t n ≡ Some a) × (has_number n (view_of t a) ≡ true) = figure_there t n a place in
         by_view (view_of t a) e there.1 (ap (figure_at t n) there.0)
+
+-- a link of the table that is on a handle
+pub record IsOn (v : Option view.Link) (k : Link) : Type 0 where
+  pub link : view.Link
+  pub is : v ≡ Some link
+  pub number : link.number ≡ k.number
+
+pub found_on : (v : Option view.Link) (k : Link) → Some k ≡ option_map link_of v → IsOn v k
+found_on None k e = absurd cc
+found_on (Some l) k e = record { link = l; is = refl; number = ap (λ (x : Link). x.number) (sym (same_option k (link_of l) e)) }
+
+-- the address of a link is that of what its number has
+pub address_on : (t : Trace) (c o h : ℕ) (k : Link) (there : IsOn (view.link t c o h) k) → address_in (figure t k.number) ≡ Some there.link.address
+address_on t c o h k there =
+    ap (λ n. address_in (figure t n)) (sym there.number)
+    ∙ ap (λ v. address_in (figure_at t there.link.number v)) (stands_where t c o h there.link.number (ap (has_number there.link.number) there.is ∙ eq-eqb there.link.number there.link.number refl))
+    ∙ ap (λ v. address_in (figure_on t there.link.number v)) there.is
+    ∙ ap (λ b. address_in (if b then Some (figure_by t there.link there.link.happened) else None)) (eq-eqb there.link.number there.link.number refl)
+    ∙ by_happened there.link.happened
+  where
+    by_happened : (h : Happened) → address_in (Some (figure_by t there.link h)) ≡ Some there.link.address
+    by_happened (sends list) = refl
+    by_happened (receives list) = refl

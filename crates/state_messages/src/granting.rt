@@ -9,7 +9,7 @@ ghost use Rattle.router_trace.specs.Links.{Link as View, link, numbered};
 ghost use Rattle.state_links.specs.Ends.{link_of as link_of_view};
 ghost use Rattle.state_links.specs.Fits.{LinksFit};
 ghost use Rattle.state_pools.specs.Fits.{NoneTouched, PoolsFit};
-ghost use Rattle.state_pools.specs.Sharing.{Figure};
+ghost use Rattle.state_pools.specs.Sharing.{address_in, Figure};
 ghost use Rattle.route_credit.specs.Pool.{by_id};
 ghost use Rattle.state_messages.specs.Figures.{figure};
 ghost use Rattle.state_messages.specs.Fits.{NotedFit, MessagesFit, Untouched};
@@ -180,7 +180,7 @@ impl Messages {
         };
         match self.links.link(place) {
             None => None,
-            Some(link) => peek_of(&self.pools, &self.links, link.address.as_str()),
+            Some(link) => peek_of(&self.pools, &self.links, link.number),
         }
     }
 
@@ -191,7 +191,7 @@ impl Messages {
     {
         match self.links.link(from) {
             None => None,
-            Some(link) => choose_of(&mut self.pools, &self.links, link.address.as_str()),
+            Some(link) => choose_of(&mut self.pools, &self.links, link.number),
         }
     }
 
@@ -252,25 +252,25 @@ fn payload_as(how: &Resumed, payload: Bytes) -> Bytes
     }
 }
 
-/// The consumer chosen for an address, after the pools were told of all links; it is noted as the last one.
-fn choose_of(pools: &mut Pools, links: &Links, address: &str) -> Option<Attachment>
-    ensures chosen { (t : List Entry) → LinksFit links.now t → NoneTouched pools.old → PoolsFit pools.old (distribution t) (figure t) (figure t) (last_chosen t)
-        → result ≡ option_and_then (numbered t) (choice_of t address.now) }
-    ensures fits { (t : List Entry) → LinksFit links.now t → NoneTouched pools.old → PoolsFit pools.old (distribution t) (figure t) (figure t) (last_chosen t)
+/// The consumer chosen for the address of a link, after the pools were told of all links; it is noted as the last one.
+fn choose_of(pools: &mut Pools, links: &Links, number: u64) -> Option<Attachment>
+    ensures chosen { (t : List Entry) (address : List ℕ) → LinksFit links.now t → address_in (figure t number) ≡ Some address → NoneTouched pools.old → PoolsFit pools.old (distribution t) (figure t) (figure t) (last_chosen t)
+        → result ≡ option_and_then (numbered t) (choice_of t address) }
+    ensures fits { (t : List Entry) (address : List ℕ) → LinksFit links.now t → address_in (figure t number) ≡ Some address → NoneTouched pools.old → PoolsFit pools.old (distribution t) (figure t) (figure t) (last_chosen t)
         → PoolsFit pools.new (distribution t) (figure t) (figure t) (last_after t result) }
 {
-    match pools.choose(address) {
+    match pools.choose(number) {
         None => None,
         Some(chosen) => links.place_of(chosen.0),
     }
 }
 
-/// The consumer that would be chosen for an address, after the pools were told of all links.
-fn peek_of(pools: &Pools, links: &Links, address: &str) -> Option<Attachment>
-    ensures { (t : List Entry) → LinksFit links.now t → NoneTouched pools.now → PoolsFit pools.now (distribution t) (figure t) (figure t) (last_chosen t)
-        → result ≡ option_and_then (numbered t) (choice_of t address.now) }
+/// The consumer that would be chosen for the address of a link, after the pools were told of all links.
+fn peek_of(pools: &Pools, links: &Links, number: u64) -> Option<Attachment>
+    ensures { (t : List Entry) (address : List ℕ) → LinksFit links.now t → address_in (figure t number) ≡ Some address → NoneTouched pools.now → PoolsFit pools.now (distribution t) (figure t) (figure t) (last_chosen t)
+        → result ≡ option_and_then (numbered t) (choice_of t address) }
 {
-    match pools.peek(address) {
+    match pools.peek(number) {
         None => None,
         Some(number) => links.place_of(number),
     }
@@ -283,8 +283,8 @@ fn grants_due(alloc: Global, pools: &mut Pools, links: &Links) -> Result<Vec<Lin
 {
     match pools.grants()? {
         None => Ok(Vec::new(alloc)),
-        Some(grants) => {
-            let told = told(alloc, links, grants.sums.as_slice())?;
+        Some(sums) => {
+            let told = told(alloc, links, sums.as_slice())?;
             Ok(told)
         }
     }

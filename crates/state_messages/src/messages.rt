@@ -1,5 +1,7 @@
 //! Links, the deliveries on them and the pools of their addresses.
-ghost use Rattle.std.specs.Prelude.{◌≡◌, ◌-◌, ℕ, List, ◌∷◌, OnOk, IfOk};
+ghost use Rattle.std.specs.Prelude.{◌≡◌, ◌-◌, ℕ, Bool, List, ◌∷◌, OnOk, IfOk};
+ghost use Rattle.amqp_model.specs.declared.item.Item.TheVariants as item;
+ghost use Rattle.amqp_model.specs.declared.perf.Perf.TheVariants as perf;
 ghost use Rattle.route_table.specs.Places.{FindsAs};
 ghost use Rattle.router_trace.specs.Trace.{Beginning, Trace};
 ghost use Rattle.router_trace.specs.Configuration.{opened};
@@ -16,8 +18,9 @@ ghost use Rattle.state_messages.specs.Fits.{MessagesFit};
 
 use crate::hearing::receiving;
 use amqp_link::Part;
-use amqp_model::Item;
+use amqp_model::{Disposition, Flow, Item, Transfer};
 use book_model::{Act, LinkKey};
+use bytes::Bytes;
 use route_table::Table;
 use router_trace::ConnectionId;
 use state_deliveries::{Change, Deliveries};
@@ -116,6 +119,46 @@ impl Messages {
         self.incoming.put(conn, item)?;
         self.deliveries.put(conn, item)?;
         self.links.put(conn, item, key)?;
+        Ok(())
+    }
+
+    /// The router's transfer with this payload is put into the outbox of a connection.
+    pub fn put_transfer(
+        &mut self,
+        conn: u64,
+        own: u16,
+        transfer: &Transfer,
+        payload: &Bytes,
+    ) -> Result<(), AllocError>
+        ensures { OnOk result ((t : List Entry) (sasl : Bool) → MessagesFit self.old t
+            → MessagesFit self.new (Out conn (item.Frame sasl own (perf.Transfer transfer.now) payload.now) ∷ t)) }
+    {
+        self.deliveries.put_transfer(conn, own, transfer, payload)?;
+        self.links.put_transfer(conn, own, transfer)?;
+        Ok(())
+    }
+
+    /// The router's disposition is put into the outbox of a connection.
+    pub fn put_disposition(
+        &mut self,
+        conn: u64,
+        own: u16,
+        disposition: &Disposition,
+    ) -> Result<(), AllocError>
+        ensures { OnOk result ((t : List Entry) (sasl : Bool) (payload : List ℕ) → MessagesFit self.old t
+            → MessagesFit self.new (Out conn (item.Frame sasl own (perf.Disposition disposition.now) payload) ∷ t)) }
+    {
+        self.incoming.put_disposition(conn, own, disposition)?;
+        self.deliveries.put_disposition(conn, own, disposition)?;
+        Ok(())
+    }
+
+    /// The router's flow is put into the outbox of a connection.
+    pub fn put_flow(&mut self, conn: u64, own: u16, flow: &Flow) -> Result<(), AllocError>
+        ensures { OnOk result ((t : List Entry) (sasl : Bool) (payload : List ℕ) → MessagesFit self.old t
+            → MessagesFit self.new (Out conn (item.Frame sasl own (perf.Flow flow.now) payload) ∷ t)) }
+    {
+        self.links.put_flow(conn, own, flow)?;
         Ok(())
     }
 

@@ -1,10 +1,10 @@
 -- Addresses in a set.
-use Rattle.std.proofs.Common.{◌≡◌, ◌∙◌, sym, ap, refl, ℕ, Bool, true, false, true≢false, ◌||◌, ◌<◌, arith, length, Option, Some, None, IfSome, All, List, [], ◌∷◌}
+use Rattle.std.proofs.Common.{◌≡◌, ◌∙◌, sym, ap, refl, ℕ, Bool, true, false, ◌||◌, length, Option, Some, None, IfSome, All, List, [], ◌∷◌}
 use Rattle.std.specs.BTreeMap.Range.{IsLtBy}
 use Rattle.std.specs.BTreeSet.{insert_key}
 use Rattle.std.specs.Cmp.Lexicographic.{slice_cmp}
 use Rattle.std.specs.List.{AllByRecursion, list_any}
-use Rattle.std.specs.Ordering.{nat_cmp, is_eq, match_ordering, ordering_reverse}
+use Rattle.std.specs.Ordering.{nat_cmp, is_eq, match_ordering}
 use Rattle.std.specs.Str.{bytes_eq}
 use Rattle.std.specs.declared.cmp.Ordering.{Ordering}
 use Rattle.std.specs.declared.cmp.Ordering.TheVariants.{Less, Equal, Greater}
@@ -12,8 +12,9 @@ use Rattle.std.proofs.lemmas.Cmp.{nat_list_cmp_total}
 use Rattle.std.proofs.lemmas.List.Elements.{recursion_from_All}
 use Rattle.std.proofs.lemmas.Map.Text.{is_eq-slice_cmp}
 use Rattle.state_pools.specs.Addresses.{among}
-use Rattle.state_pools.specs.Sets.{is_it}
 use Rattle.state_pools.proofs.AtAddress.{equal_bytes, same_bytes, turned}
+use Rattle.state_pools.proofs.Written.{none}
+use Rattle.std.specs.Prelude.{◌==◌}
 
 module _ {K : Type 0} (read : K → List ℕ) where
   -- as sets look it up
@@ -54,21 +55,6 @@ module _ {K : Type 0} (read : K → List ℕ) where
       right true c h = absurd cc
       right false c h = h
 
-  -- the same, beside the one in place
-  pub come_beyond : (first : Option K) (ks new : List K) (k : K) (a : List ℕ) → read k ≡ a → new ≡ insert_key (λ x y. slice_cmp nat_cmp (read x) (read y)) ks k → (is_it first read a || among new read a) ≡ true
-  come_beyond first ks new k a is set = ap (λ b. is_it first read a || b) (come ks new k a is set) ∙ either (is_it first read a)
-    where
-      either : (b : Bool) → (b || true) ≡ true
-      either true = refl
-      either false = refl
-
-  pub not_before_beyond : (first : Option K) (ks new : List K) (k : K) (a : List ℕ) → new ≡ insert_key (λ x y. slice_cmp nat_cmp (read x) (read y)) ks k → (is_it first read a || among new read a) ≡ false → (is_it first read a || among ks read a) ≡ false
-  not_before_beyond first ks new k a set = neither (is_it first read a) (among new read a) (among ks read a) (not_before ks new k a set)
-    where
-      neither : (b c d : Bool) → (c ≡ false → d ≡ false) → (b || c) ≡ false → (b || d) ≡ false
-      neither true c d f h = h
-      neither false c d f h = f h
-
   below_all : (k : K) (ks : List K) (a : List ℕ) → slice_cmp nat_cmp a (read k) ≡ Less → AllByRecursion (λ q. slice_cmp nat_cmp (read k) (read q) ≡ Less) ks → among ks read a ≡ false
   below_all k [] a less all = refl
   below_all k (x ∷ xs) a less all =
@@ -83,32 +69,26 @@ module _ {K : Type 0} (read : K → List ℕ) where
       ap (λ l. among l read a) removal ∙ ap (λ b. b || among new read a) (sym (is_eq-slice_cmp a (read k)) ∙ ap is_eq less)
       ∙ below_all k new a less (recursion_from_All (λ q. slice_cmp nat_cmp (read k) (read q) ≡ Less) new above)
 
-  none_among : (ks : List K) (a : List ℕ) → (0 < length ks → false ≡ true) → among ks read a ≡ false
-  none_among [] a empty = refl
-  none_among (k ∷ ks) a empty = absurd (true≢false (sym (empty (omega arith))))
+  -- where there is none, there is none at any address
+  pub none_among : (ks : List K) (a : List ℕ) → (length ks == 0) ≡ true → among ks read a ≡ false
+  none_among ks a empty = ap (λ l. among l read a) (none ks empty)
 
-  not_it : (k : K) (a : List ℕ) → slice_cmp nat_cmp a (read k) ≡ Less → bytes_eq (read k) a ≡ false
-  not_it k a less = turned (read k) a ∙ sym (is_eq-slice_cmp a (read k)) ∙ ap is_eq less
+-- tests of which neither, or one, is met
+pub left_false : (b c : Bool) → (b || c) ≡ false → b ≡ false
+left_false true c h = h
+left_false false c h = refl
 
-  -- where none is in place
-  pub popped_beyond : (first : Option K) → first ≡ None → (r : Option K) (old new : List K) → IfSome r (λ k. old ≡ k ∷ new) → IfSome r (λ k. All (IsLtBy (λ x y. slice_cmp nat_cmp (read x) (read y)) k) new)
-      → IfSome r (λ k. (a : List ℕ) → slice_cmp nat_cmp a (read k) ≡ Less → (is_it first read a || among old read a) ≡ false)
-  popped_beyond first e None old new removal above = tt
-  popped_beyond first e (Some k) old new removal above = λ a less. ap (λ f. is_it f read a || among old read a) e ∙ popped (Some k) old new removal above a less
+pub right_false : (b c : Bool) → (b || c) ≡ false → c ≡ false
+right_false true c h = absurd cc
+right_false false c h = h
 
-  -- where one stands in place, and each below it is below all others
-  pub popped_first : (first : Option K) (f : K) → first ≡ Some f → (old : List K) (a : List ℕ) → slice_cmp nat_cmp a (read f) ≡ Less → among old read a ≡ false → (is_it first read a || among old read a) ≡ false
-  popped_first first f e old a less none = ap (λ f. is_it f read a || among old read a) e ∙ ap (λ b. b || among old read a) (not_it f a less) ∙ none
+pub neither : (b c : Bool) → b ≡ false → c ≡ false → (b || c) ≡ false
+neither b c e f = ap (λ x. x || c) e ∙ f
 
-  -- which there aren't
-  pub popped_alone : (first : Option K) (f : K) → first ≡ Some f → (old : List K) → (0 < length old → false ≡ true) → (a : List ℕ) → slice_cmp nat_cmp a (read f) ≡ Less → (is_it first read a || among old read a) ≡ false
-  popped_alone first f e old empty a less = popped_first first f e old a less (none_among old a empty)
+pub either_right : (b c : Bool) → c ≡ true → (b || c) ≡ true
+either_right true c h = refl
+either_right false c h = h
 
--- what is below one of two addresses, where that isn't after the other
-pub below_both : (one other a : List ℕ) → (slice_cmp nat_cmp other one ≡ Less → ⊥) → slice_cmp nat_cmp a one ≡ Less → slice_cmp nat_cmp a other ≡ Less
-below_both one other a not_after less = by_order (slice_cmp nat_cmp other one) refl
-  where
-    by_order : (o : Ordering) → slice_cmp nat_cmp other one ≡ o → slice_cmp nat_cmp a other ≡ Less
-    by_order Less is = absurd (not_after is)
-    by_order Equal is = ap (slice_cmp nat_cmp a) (same_bytes other one (sym (is_eq-slice_cmp other one) ∙ ap is_eq is)) ∙ less
-    by_order Greater is = nat_list_cmp_total.trans a one other less (nat_list_cmp_total.antisymm one other ∙ ap ordering_reverse is)
+-- one address isn't another one before it
+pub not_it : (q a : List ℕ) → slice_cmp nat_cmp a q ≡ Less → bytes_eq q a ≡ false
+not_it q a less = turned q a ∙ sym (is_eq-slice_cmp a q) ∙ ap is_eq less

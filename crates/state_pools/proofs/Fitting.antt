@@ -1,9 +1,13 @@
 -- How the pools follow what each link has.
 use Rattle.std.proofs.Common.{◌≡◌, ◌∙◌, sym, ap, refl, subst, ℕ, Bool, true, false, true≢false, not, ◌&&◌, ◌||◌, ◌<◌, ◌⊎◌, inl, inr, ⊎_elim, cond, if◌then◌else◌, Option, Some, None, option_map, is_some, List, []}
-use Rattle.std.specs.Prelude.{◌==◌}
+use Rattle.std.specs.Prelude.{◌==◌, unwrap_or}
 use Rattle.std.specs.Str.{bytes_eq}
 use Rattle.std.specs.List.Sorted.{IsStrictlySortedBy}
+use Rattle.std.specs.BTreeMap.{is_at}
+use Rattle.std.specs.List.{list_any}
+use Rattle.std.specs.Ordering.{nat_cmp}
 use Rattle.std.proofs.lemmas.Bool.{eqb-true, eq-eqb}
+use Rattle.std.proofs.lemmas.Map.Made.{is_some-lookup}
 use Rattle.route_credit.specs.Granting.{all_granted, grants_of}
 use Rattle.route_credit.specs.Links.{link_at}
 use Rattle.route_credit.specs.Pool.{chose, demand_of, has_no_links, no_links, offered, Sharing, wanted, without_consumer, without_producer}
@@ -11,12 +15,13 @@ use Rattle.route_credit.specs.declared.demand.Demand.{Demand}
 use Rattle.route_credit.specs.declared.offer.Offer.{Offer}
 use Rattle.route_credit.proofs.Entries.{InOrder, with_ordered, without_ordered}
 use Rattle.route_credit.proofs.Gains.{grants_but_last, kept_producer, no_more_grants}
-use Rattle.route_credit.proofs.Grants.{all_consumers, all_distribution, all_last, all_ordered, none_by_all}
+use Rattle.route_credit.proofs.Grants.{all_consumers, all_distribution, all_keys, all_last, all_ordered, none_by_all}
 use Rattle.route_credit.proofs.Lookups.{link_with, link_without}
 use Rattle.state_pools.specs.Addresses.{rested, with_pool, without}
-use Rattle.state_pools.specs.Fits.{chosen_at, Fits, HasNoted, is_place, offers, or_last}
+use Rattle.state_pools.specs.Due.{is_place}
+use Rattle.state_pools.specs.Fits.{chosen_at, Fits, has_link, HasNoted, offers, or_last}
 use Rattle.route_table.specs.declared.sections.Distribution.{Distribution}
-use Rattle.state_pools.specs.Sharing.{demand_at, Figure, offer_at}
+use Rattle.state_pools.specs.Sharing.{address_in, demand_at, Figure, offer_at}
 use Rattle.state_pools.specs.Sharing.Figure.{consumer, producer}
 use Rattle.state_pools.proofs.AtAddress.{by_test, equal_bytes, same_bytes}
 use Rattle.state_pools.proofs.Written.{no_consumers}
@@ -46,6 +51,19 @@ some_or_none : {X : Type 0} (x : Option X) → (is_some x ≡ true) ⊎ (x ≡ N
 some_or_none None = inr refl
 some_or_none (Some x) = inl refl
 
+-- a pool has a link if another one has the same of it
+both : (x y : Option Offer) (v w : Option Demand) → x ≡ y → v ≡ w → (is_some x || is_some v) ≡ (is_some y || is_some w)
+both x y v w e f = ap (λ o. is_some o || is_some v) e ∙ ap (λ d. is_some y || is_some d) f
+
+-- after all grants it has the same links
+all_have : (pool : Sharing) (n : ℕ) → InOrder pool.producers → has_link (all_granted pool) n ≡ has_link pool n
+all_have pool n rise =
+    ap (λ es. is_some (link_at es n) || is_some (link_at (all_granted pool).producers n)) (all_consumers pool rise)
+    ∙ ap (λ b. is_some (link_at pool.consumers n) || b) (
+    is_some-lookup (is_at (nat_cmp n)) (all_granted pool).producers
+    ∙ ap (λ ids. list_any (is_at (nat_cmp n)) ids) (all_keys pool rise)
+    ∙ sym (is_some-lookup (is_at (nat_cmp n)) pool.producers))
+
 module _ (apart : ℕ → Bool) (table share : List ℕ → Distribution) (pools : List ℕ → Sharing) (place : ℕ → Option (List ℕ)) (due : List ℕ → Bool) (known actual : ℕ → Option Figure) (last : List ℕ → ℕ) (fits : Fits apart table share pools place due known actual last) where
   -- more links may be apart, with other figures known of them, and more addresses may be due
   pub widened : (apart' : ℕ → Bool) (due' : List ℕ → Bool) (known' : ℕ → Option Figure)
@@ -56,6 +74,7 @@ module _ (apart : ℕ → Bool) (table share : List ℕ → Distribution) (pools
     producers = λ n a is. fits.producers n a (more n is).0 ∙ ap (demand_at a) (sym (more n is).1);
     no_consumer = fits.no_consumer;
     no_producer = fits.no_producer;
+    seated = fits.seated;
     same = fits.same;
     distribution = fits.distribution;
     chosen = fits.chosen;
@@ -64,6 +83,28 @@ module _ (apart : ℕ → Bool) (table share : List ℕ → Distribution) (pools
     producers_rise = fits.producers_rise;
     quiet = λ a is. fits.quiet a (later a is);
   }
+
+  -- places may be given by another function that is the same
+  pub placed_as : (place' : ℕ → Option (List ℕ)) → ((n : ℕ) → place n ≡ place' n) → Fits apart table share pools place' due known actual last
+  placed_as place' same = subst (λ p. Fits apart table share pools p due known actual last) (λ i n. same n i) fits
+
+  -- a link is at the address that is known of it
+  pub at_place : (n : ℕ) (a : List ℕ) → apart n ≡ false → address_in (known n) ≡ Some a → is_place (place n) a ≡ true
+  at_place n a is_known e = by_figure (known n) refl e
+    where
+      there : (at : List ℕ) → Some at ≡ Some a → bytes_eq at a ≡ true
+      there at e = equal_bytes at a (ap (λ (v : Option (List ℕ)). unwrap_or v a) e)
+
+      by_figure : (v : Option Figure) → known n ≡ v → address_in v ≡ Some a → is_place (place n) a ≡ true
+      by_figure None is e = absurd cc
+      by_figure (Some (consumer at free undecided)) is e = by_test (is_place (place n) a) (λ t. t)
+          (λ none.
+          let offer : Offer = record { free = free; undecided = undecided } in
+          absurd (true≢false (ap (λ b. is_some (cond b (Some offer) None)) (sym (there at e)) ∙ ap (λ v. is_some (offer_at a v)) (sym is) ∙ ap is_some (sym (fits.consumers n a is_known) ∙ fits.no_consumer n a none))))
+      by_figure (Some (producer at unused owed held)) is e = by_test (is_place (place n) a) (λ t. t)
+          (λ none.
+          let demand : Demand = demand_of unused owed held in
+          absurd (true≢false (ap (λ b. is_some (cond b (Some demand) None)) (sym (there at e)) ∙ ap (λ v. is_some (demand_at a v)) (sym is) ∙ ap is_some (sym (fits.producers n a is_known) ∙ fits.no_producer n a none))))
 
   -- One pool changes, and with it one link. The pool's address is due.
   module _ (pools' : List ℕ → Sharing) (q : List ℕ) (change : Sharing → Sharing) (changes : (a : List ℕ) → pools' a ≡ with_pool pools q change a) where
@@ -101,6 +142,12 @@ module _ (apart : ℕ → Bool) (table share : List ℕ → Distribution) (pools
       place_here : (m : ℕ) (a : List ℕ) → bytes_eq q a ≡ false → (n == m) ≡ true → is_place (place m) a ≡ false
       place_here m a other e = ap (λ k. is_place (place k) a) (sym (eqb-true n m e)) ∙ ap (λ p. is_place p a) at ∙ other
 
+      stood : (m : ℕ) (a : List ℕ) → is_place (place' m) a ≡ true → (n == m) ≡ false → is_place (place m) a ≡ true
+      stood m a there e = sym (ap (λ p. is_place p a) (moves m ∙ ap (λ b. if b then None else place m) e)) ∙ there
+
+      left : (m : ℕ) (a : List ℕ) → is_place (place' m) a ≡ true → (n == m) ≡ false
+      left m a there = by_test (n == m) (λ e. absurd (true≢false (sym there ∙ ap (λ p. is_place p a) (moves m ∙ ap (λ b. if b then None else place m) e)))) (λ e. e)
+
       pub taken : Fits apart table share pools' place' due' known actual last
       taken = record {
         consumers = λ m a is. keeps (λ a p. link_at p.consumers m ≡ offer_at a (known m))
@@ -117,6 +164,12 @@ module _ (apart : ℕ → Bool) (table share : List ℕ → Distribution) (pools
             (λ e. by_test (bytes_eq q a)
             (λ f. ap (λ p. link_at p.producers m) (changes a ∙ ap (λ b. if b then change (pools a) else pools a) f) ∙ producer_out m a ∙ ap (λ b. cond b None (link_at (pools a).producers m)) e ∙ fits.no_producer m a (place_before m a none e))
             (λ f. ap (λ p. link_at p.producers m) (elsewhere a f) ∙ fits.no_producer m a (place_before m a none e)));
+        seated = λ m. keeps (λ a p. is_place (place' m) a ≡ true → has_link p m ≡ true)
+            (λ a f there. both (link_at (change (pools a)).consumers m) (link_at (pools a).consumers m) (link_at (change (pools a)).producers m) (link_at (pools a).producers m)
+            (consumer_out m a ∙ ap (λ b. cond b None (link_at (pools a).consumers m)) (left m a there))
+            (producer_out m a ∙ ap (λ b. cond b None (link_at (pools a).producers m)) (left m a there))
+            ∙ fits.seated m a (stood m a there (left m a there)))
+            (λ a f there. fits.seated m a (stood m a there (left m a there)));
         same = fits.same;
         distribution = keeps (λ a p. p.distribution ≡ share a) (λ a e. ap (λ p. p.distribution) (change_is (pools a)) ∙ fits.distribution a) (λ a e. fits.distribution a);
         chosen = keeps (λ a p. HasNoted p (last a))
@@ -132,24 +185,33 @@ module _ (apart : ℕ → Bool) (table share : List ℕ → Distribution) (pools
         quiet = quiet_still due' is_due later;
       }
 
-    -- A link gets other figures at its place, which is due then or has no grants.
-    module _ (n : ℕ) (at : place n ≡ Some q)
+    -- A link gets other figures at its place, where it may have come just now. The place is due then, or has no grants.
+    module _ (n : ℕ) (place' : ℕ → Option (List ℕ)) (moves : (m : ℕ) → place' m ≡ (if n == m then Some q else place m))
+        (not_there : (a : List ℕ) → bytes_eq q a ≡ false → is_place (place n) a ≡ false)
         (due' : List ℕ → Bool) (still_due : (a : List ℕ) → due' a ≡ false → due a ≡ false) (quiet_here : due' q ≡ false → grants_of (pools' q) ≡ [])
         (apart' : ℕ → Bool) (less : (m : ℕ) → apart' m ≡ false → (n == m) ≡ false → apart m ≡ false)
         (known' : ℕ → Option Figure) (others : (m : ℕ) → (n == m) ≡ false → known' m ≡ known m) (is_actual : actual n ≡ known' n)
+        (is_there : (is_some (offer_at q (known' n)) || is_some (demand_at q (known' n))) ≡ true)
         (consumer_there : (m : ℕ) (a : List ℕ) → link_at (change (pools a)).consumers m ≡ cond (n == m) (offer_at q (known' n)) (link_at (pools a).consumers m))
         (producer_there : (m : ℕ) (a : List ℕ) → link_at (change (pools a)).producers m ≡ cond (n == m) (demand_at q (known' n)) (link_at (pools a).producers m))
         (offer_elsewhere : (a : List ℕ) → bytes_eq q a ≡ false → offer_at a (known' n) ≡ None) (demand_elsewhere : (a : List ℕ) → bytes_eq q a ≡ false → demand_at a (known' n) ≡ None)
         (same_distribution : (a : List ℕ) → (change (pools a)).distribution ≡ (pools a).distribution) (same_last : (a : List ℕ) → (change (pools a)).last ≡ (pools a).last)
         (consumers_ordered : (a : List ℕ) → InOrder (pools a).consumers → InOrder (change (pools a)).consumers)
         (producers_ordered : (a : List ℕ) → InOrder (pools a).producers → InOrder (change (pools a)).producers) where
-      not_there : (a : List ℕ) → bytes_eq q a ≡ false → is_place (place n) a ≡ false
-      not_there a other = ap (λ p. is_place p a) at ∙ other
+      here : (m : ℕ) (a : List ℕ) → (n == m) ≡ true → is_place (place' m) a ≡ bytes_eq q a
+      here m a e = ap (λ p. is_place p a) (moves m ∙ ap (λ b. if b then Some q else place m) e)
 
-      not_place : (m : ℕ) (a : List ℕ) → is_place (place m) a ≡ false → bytes_eq q a ≡ true → (n == m) ≡ false
-      not_place m a none here = by_test (n == m)
-          (λ e. absurd (true≢false (sym here ∙ sym (ap (λ p. is_place p a) at) ∙ ap (λ k. is_place (place k) a) (eqb-true n m e) ∙ none)))
-          (λ e. e)
+      same_place : (m : ℕ) (a : List ℕ) → (n == m) ≡ false → is_place (place' m) a ≡ is_place (place m) a
+      same_place m a e = ap (λ p. is_place p a) (moves m ∙ ap (λ b. if b then Some q else place m) e)
+
+      not_place : (m : ℕ) (a : List ℕ) → is_place (place' m) a ≡ false → bytes_eq q a ≡ true → (n == m) ≡ false
+      not_place m a none at = by_test (n == m) (λ e. absurd (true≢false (sym at ∙ sym (here m a e) ∙ none))) (λ e. e)
+
+      -- where it isn't, it wasn't before
+      was_not : (m : ℕ) (a : List ℕ) → is_place (place' m) a ≡ false → bytes_eq q a ≡ false → is_place (place m) a ≡ false
+      was_not m a none other = by_test (n == m)
+          (λ e. ap (λ k. is_place (place k) a) (sym (eqb-true n m e)) ∙ not_there a other)
+          (λ e. sym (same_place m a e) ∙ none)
 
       -- what it offers now is in the pool
       offer_is : (m : ℕ) (a : List ℕ) → bytes_eq q a ≡ true → (n == m) ≡ true → link_at (change (pools a)).consumers m ≡ offer_at a (actual m)
@@ -160,7 +222,7 @@ module _ (apart : ℕ → Bool) (table share : List ℕ → Distribution) (pools
       other_is : (m : ℕ) (a : List ℕ) → (n == m) ≡ false → link_at (change (pools a)).consumers m ≡ link_at (pools a).consumers m
       other_is m a e = consumer_there m a ∙ ap (λ b. cond b (offer_at q (known' n)) (link_at (pools a).consumers m)) e
 
-      pub changed : Fits apart' table share pools' place due' known' actual last
+      pub changed : Fits apart' table share pools' place' due' known' actual last
       changed = record {
         consumers = λ m a is. by_test (n == m)
             (λ e. let same : n ≡ m = eqb-true n m e in keeps (λ a p. link_at p.consumers m ≡ offer_at a (known' m))
@@ -178,12 +240,25 @@ module _ (apart : ℕ → Bool) (table share : List ℕ → Distribution) (pools
             (λ a f. fits.producers m a (less m is e) ∙ ap (demand_at a) (sym (others m e))) a);
         no_consumer = λ m a none. by_test (bytes_eq q a)
             (λ f. ap (λ p. link_at p.consumers m) (changes a ∙ ap (λ b. if b then change (pools a) else pools a) f) ∙ consumer_there m a
-            ∙ ap (λ b. cond b (offer_at q (known' n)) (link_at (pools a).consumers m)) (not_place m a none f) ∙ fits.no_consumer m a none)
-            (λ f. ap (λ p. link_at p.consumers m) (elsewhere a f) ∙ fits.no_consumer m a none);
+            ∙ ap (λ b. cond b (offer_at q (known' n)) (link_at (pools a).consumers m)) (not_place m a none f) ∙ fits.no_consumer m a (sym (same_place m a (not_place m a none f)) ∙ none))
+            (λ f. ap (λ p. link_at p.consumers m) (elsewhere a f) ∙ fits.no_consumer m a (was_not m a none f));
         no_producer = λ m a none. by_test (bytes_eq q a)
             (λ f. ap (λ p. link_at p.producers m) (changes a ∙ ap (λ b. if b then change (pools a) else pools a) f) ∙ producer_there m a
-            ∙ ap (λ b. cond b (demand_at q (known' n)) (link_at (pools a).producers m)) (not_place m a none f) ∙ fits.no_producer m a none)
-            (λ f. ap (λ p. link_at p.producers m) (elsewhere a f) ∙ fits.no_producer m a none);
+            ∙ ap (λ b. cond b (demand_at q (known' n)) (link_at (pools a).producers m)) (not_place m a none f) ∙ fits.no_producer m a (sym (same_place m a (not_place m a none f)) ∙ none))
+            (λ f. ap (λ p. link_at p.producers m) (elsewhere a f) ∙ fits.no_producer m a (was_not m a none f));
+        seated = λ m. keeps (λ a p. is_place (place' m) a ≡ true → has_link p m ≡ true)
+            (λ a f there. by_test (n == m)
+            (λ e. both (link_at (change (pools a)).consumers m) (offer_at q (known' n)) (link_at (change (pools a)).producers m) (demand_at q (known' n))
+            (consumer_there m a ∙ ap (λ b. cond b (offer_at q (known' n)) (link_at (pools a).consumers m)) e)
+            (producer_there m a ∙ ap (λ b. cond b (demand_at q (known' n)) (link_at (pools a).producers m)) e)
+            ∙ is_there)
+            (λ e. both (link_at (change (pools a)).consumers m) (link_at (pools a).consumers m) (link_at (change (pools a)).producers m) (link_at (pools a).producers m)
+            (consumer_there m a ∙ ap (λ b. cond b (offer_at q (known' n)) (link_at (pools a).consumers m)) e)
+            (producer_there m a ∙ ap (λ b. cond b (demand_at q (known' n)) (link_at (pools a).producers m)) e)
+            ∙ fits.seated m a (sym (same_place m a e) ∙ there)))
+            (λ a f there. by_test (n == m)
+            (λ e. absurd (true≢false (sym there ∙ here m a e ∙ f)))
+            (λ e. fits.seated m a (sym (same_place m a e) ∙ there)));
         same = fits.same;
         distribution = keeps (λ a p. p.distribution ≡ share a) (λ a e. same_distribution a ∙ fits.distribution a) (λ a e. fits.distribution a);
         chosen = keeps (λ a p. HasNoted p (last a))
@@ -212,6 +287,7 @@ module _ (apart : ℕ → Bool) (table share : List ℕ → Distribution) (pools
     producers = λ n a is. keep (λ a p. link_at p.producers n ≡ demand_at a (known n)) (λ a e. fits.producers n a is) (λ a e. fits.producers n a is) a;
     no_consumer = λ n. keep (λ a p. is_place (place n) a ≡ false → link_at p.consumers n ≡ None) (λ a e. fits.no_consumer n a) (λ a e. fits.no_consumer n a);
     no_producer = λ n. keep (λ a p. is_place (place n) a ≡ false → link_at p.producers n ≡ None) (λ a e. fits.no_producer n a) (λ a e. fits.no_producer n a);
+    seated = λ n. keep (λ a p. is_place (place n) a ≡ true → has_link p n ≡ true) (λ a e. fits.seated n a) (λ a e. fits.seated n a);
     same = fits.same;
     distribution = keep (λ a p. p.distribution ≡ share a) (λ a e. fits.distribution a) (λ a e. fits.distribution a);
     chosen = keep (λ a p. HasNoted p (last a)) (λ a e. rest_noted (pools a) (last a) (fits.chosen a)) (λ a e. fits.chosen a);
@@ -223,27 +299,6 @@ module _ (apart : ℕ → Bool) (table share : List ℕ → Distribution) (pools
     where
       keep : (P : List ℕ → Sharing → Type 0) → ((a : List ℕ) → bytes_eq q a ≡ true → P a (rested (pools a))) → ((a : List ℕ) → bytes_eq q a ≡ false → P a (pools a)) → (a : List ℕ) → P a (pools' a)
       keep = keeps pools' q rested changes
-
-  -- a link without a place gets one
-  pub placed : (n : ℕ) (q : List ℕ) → place n ≡ None → (place' : ℕ → Option (List ℕ)) → ((m : ℕ) → place' m ≡ (if n == m then Some q else place m)) → Fits apart table share pools place' due known actual last
-  placed n q none place' moves = record {
-    consumers = fits.consumers;
-    producers = fits.producers;
-    no_consumer = λ m a is. fits.no_consumer m a (before m a is);
-    no_producer = λ m a is. fits.no_producer m a (before m a is);
-    same = fits.same;
-    distribution = fits.distribution;
-    chosen = fits.chosen;
-    later = fits.later;
-    consumers_rise = fits.consumers_rise;
-    producers_rise = fits.producers_rise;
-    quiet = fits.quiet;
-  }
-    where
-      before : (m : ℕ) (a : List ℕ) → is_place (place' m) a ≡ false → is_place (place m) a ≡ false
-      before m a is = by_test (n == m)
-          (λ e. ap (λ k. is_place (place k) a) (sym (eqb-true n m e)) ∙ ap (λ p. is_place p a) none)
-          (λ e. sym (ap (λ p. is_place p a) (moves m ∙ ap (λ b. if b then Some q else place m) e)) ∙ is)
 
   -- a link without a place has nothing
   pub gone : (n : ℕ) → place n ≡ None → (apart' : ℕ → Bool) → ((m : ℕ) → apart' m ≡ false → (n == m) ≡ false → apart m ≡ false)
@@ -257,6 +312,7 @@ module _ (apart : ℕ → Bool) (table share : List ℕ → Distribution) (pools
         (λ e. fits.producers m a (less m is e) ∙ ap (demand_at a) (sym (others m e)));
     no_consumer = fits.no_consumer;
     no_producer = fits.no_producer;
+    seated = fits.seated;
     same = fits.same;
     distribution = fits.distribution;
     chosen = fits.chosen;
@@ -274,6 +330,7 @@ module _ (apart : ℕ → Bool) (table share : List ℕ → Distribution) (pools
     producers = λ n a is. ap (link_at_of n) (same_producers a) ∙ fits.producers n a is;
     no_consumer = λ n a is. ap (link_at_of n) (same_consumers a) ∙ fits.no_consumer n a is;
     no_producer = λ n a is. ap (link_at_of n) (same_producers a) ∙ fits.no_producer n a is;
+    seated = λ n a there. both (link_at (pools' a).consumers n) (link_at (pools a).consumers n) (link_at (pools' a).producers n) (link_at (pools a).producers n) (ap (link_at_of n) (same_consumers a)) (ap (link_at_of n) (same_producers a)) ∙ fits.seated n a there;
     same = fits.same;
     distribution = λ a. ap (λ p. p.distribution) (changes a) ∙ distribution_kept (bytes_eq q a) (pools a) r ∙ fits.distribution a;
     chosen = λ a. subst (λ p. HasNoted p (chosen_at q r last a)) (sym (changes a)) (chosen_noted (bytes_eq q a) r (pools a) (last a) (fits.chosen a));
@@ -327,6 +384,7 @@ module _ (apart : ℕ → Bool) (table share : List ℕ → Distribution) (pools
     no_producer = λ n a is. by_test (bytes_eq q a)
         (λ e. ap (λ p. link_at p.producers n) (here a e) ∙ none_by_all (pools a) n (rise a) (fits.no_producer n a is))
         (λ e. ap (λ p. link_at p.producers n) (elsewhere pools' q all_granted changes a e) ∙ fits.no_producer n a is);
+    seated = λ n. keep (λ a p. is_place (place n) a ≡ true → has_link p n ≡ true) (λ a e there. all_have (pools a) n (rise a) ∙ fits.seated n a there) (λ a e. fits.seated n a);
     same = fits.same;
     distribution = keep (λ a p. p.distribution ≡ share a) (λ a e. all_distribution (pools a) (rise a) ∙ fits.distribution a) (λ a e. fits.distribution a);
     chosen = keep (λ a p. HasNoted p (last a))
@@ -352,15 +410,17 @@ module _ (apart : ℕ → Bool) (table share : List ℕ → Distribution) (pools
 
 -- a consumer's figures
 module _ (apart : ℕ → Bool) (table share : List ℕ → Distribution) (pools : List ℕ → Sharing) (place : ℕ → Option (List ℕ)) (due : List ℕ → Bool) (known actual : ℕ → Option Figure) (last : List ℕ → ℕ) (fits : Fits apart table share pools place due known actual last)
-    (pools' : List ℕ → Sharing) (q : List ℕ) (n : ℕ) (at : place n ≡ Some q)
+    (pools' : List ℕ → Sharing) (q : List ℕ) (n : ℕ) (place' : ℕ → Option (List ℕ)) (moves : (m : ℕ) → place' m ≡ (if n == m then Some q else place m))
+    (not_there : (a : List ℕ) → bytes_eq q a ≡ false → is_place (place n) a ≡ false)
     (due' : List ℕ → Bool) (still_due : (a : List ℕ) → due' a ≡ false → due a ≡ false) (quiet_here : due' q ≡ false → grants_of (pools' q) ≡ [])
     (apart' : ℕ → Bool) (less : (m : ℕ) → apart' m ≡ false → (n == m) ≡ false → apart m ≡ false)
     (known' : ℕ → Option Figure) (others : (m : ℕ) → (n == m) ≡ false → known' m ≡ known m) (is_actual : actual n ≡ known' n) where
   pub offered_fits : (free undecided : ℕ) → ((a : List ℕ) → pools' a ≡ with_pool pools q (λ pool. offered (without_producer pool n) n free undecided) a) → known' n ≡ Some (consumer q free undecided)
-      → Fits apart' table share pools' place due' known' actual last
+      → Fits apart' table share pools' place' due' known' actual last
   offered_fits free undecided changes is =
       let offer : Offer = record { free = free; undecided = undecided } in
-      changed apart table share pools place due known actual last fits pools' q (λ pool. offered (without_producer pool n) n free undecided) changes n at due' still_due quiet_here apart' less known' others is_actual
+      changed apart table share pools place due known actual last fits pools' q (λ pool. offered (without_producer pool n) n free undecided) changes n place' moves not_there due' still_due quiet_here apart' less known' others is_actual
+      (ap (λ v. is_some (offer_at q v) || is_some (demand_at q v)) is ∙ ap (λ b. is_some (cond b (Some offer) None) || false) (equal_bytes q q refl))
       (λ m a. link_with (pools a).consumers n offer m ∙ ap (λ x. cond (n == m) x (link_at (pools a).consumers m)) (sym (ap (offer_at q) is ∙ ap (λ b. if b then Some offer else None) (equal_bytes q q refl))))
       (λ m a. link_without (pools a).producers n m ∙ ap (λ x. cond (n == m) x (link_at (pools a).producers m)) (sym (ap (demand_at q) is)))
       (λ a e. ap (offer_at a) is ∙ ap (λ b. if b then Some offer else None) e)
@@ -371,10 +431,11 @@ module _ (apart : ℕ → Bool) (table share : List ℕ → Distribution) (pools
 
   -- a producer's figures
   pub wanted_fits : (unused owed held : ℕ) → ((a : List ℕ) → pools' a ≡ with_pool pools q (λ pool. wanted (without_consumer pool n) n unused owed held) a) → known' n ≡ Some (producer q unused owed held)
-      → Fits apart' table share pools' place due' known' actual last
+      → Fits apart' table share pools' place' due' known' actual last
   wanted_fits unused owed held changes is =
       let demand : Demand = demand_of unused owed held in
-      changed apart table share pools place due known actual last fits pools' q (λ pool. wanted (without_consumer pool n) n unused owed held) changes n at due' still_due quiet_here apart' less known' others is_actual
+      changed apart table share pools place due known actual last fits pools' q (λ pool. wanted (without_consumer pool n) n unused owed held) changes n place' moves not_there due' still_due quiet_here apart' less known' others is_actual
+      (ap (λ v. is_some (offer_at q v) || is_some (demand_at q v)) is ∙ ap (λ b. is_some (cond b (Some demand) None)) (equal_bytes q q refl))
       (λ m a. link_without (pools a).consumers n m ∙ ap (λ x. cond (n == m) x (link_at (pools a).consumers m)) (sym (ap (offer_at q) is)))
       (λ m a. link_with (pools a).producers n demand m ∙ ap (λ x. cond (n == m) x (link_at (pools a).producers m)) (sym (ap (demand_at q) is ∙ ap (λ b. if b then Some demand else None) (equal_bytes q q refl))))
       (λ a e. ap (offer_at a) is)
@@ -385,13 +446,14 @@ module _ (apart : ℕ → Bool) (table share : List ℕ → Distribution) (pools
 
 -- no links at all
 pub none_fits : (apart : ℕ → Bool) (table share : List ℕ → Distribution) (pools : List ℕ → Sharing) (place : ℕ → Option (List ℕ)) (due : List ℕ → Bool) (known : ℕ → Option Figure)
-    → ((a : List ℕ) → table a ≡ share a) → ((a : List ℕ) → pools a ≡ no_links (table a)) → ((n : ℕ) → known n ≡ None) → Fits apart table share pools place due known known (λ a. 0)
+    → ((a : List ℕ) → table a ≡ share a) → ((a : List ℕ) → pools a ≡ no_links (table a)) → ((n : ℕ) → place n ≡ None) → ((n : ℕ) → known n ≡ None) → Fits apart table share pools place due known known (λ a. 0)
 unfolding IsStrictlySortedBy
-none_fits apart table share pools place due known same new none = record {
+none_fits apart table share pools place due known same new nowhere none = record {
   consumers = λ n a is. ap (λ p. link_at p.consumers n) (new a) ∙ sym (ap (offer_at a) (none n));
   producers = λ n a is. ap (λ p. link_at p.producers n) (new a) ∙ sym (ap (demand_at a) (none n));
   no_consumer = λ n a is. ap (λ p. link_at p.consumers n) (new a);
   no_producer = λ n a is. ap (λ p. link_at p.producers n) (new a);
+  seated = λ n a there. absurd (true≢false (sym there ∙ ap (λ p. is_place p a) (nowhere n)));
   same = same;
   distribution = λ a. ap (λ p. p.distribution) (new a) ∙ same a;
   chosen = λ a. inl (ap (λ p. p.last) (new a));
@@ -405,6 +467,20 @@ none_fits apart table share pools place due known same new none = record {
 pub elsewhere_is : (v : Option (List ℕ)) (q : List ℕ) → is_place v q ≡ false → (a : List ℕ) → is_place v a ≡ true → bytes_eq q a ≡ false
 elsewhere_is None q e a at = absurd cc
 elsewhere_is (Some p) q e a at = by_test (bytes_eq q a) (λ f. absurd (true≢false (sym (equal_bytes p q (same_bytes p a at ∙ sym (same_bytes q a f))) ∙ e))) (λ f. f)
+
+-- where a link is, and where it comes to
+pub stays_at : (place : ℕ → Option (List ℕ)) (n : ℕ) (q : List ℕ) → place n ≡ Some q → (m : ℕ) → place m ≡ (if n == m then Some q else place m)
+stays_at place n q at m = by_test (n == m)
+    (λ e. sym (ap place (eqb-true n m e)) ∙ at ∙ ap (λ b. if b then Some q else place m) (sym e))
+    (λ e. ap (λ b. if b then Some q else place m) (sym e))
+
+pub comes_to : (place : ℕ → Option (List ℕ)) (n : ℕ) (q : List ℕ) → place n ≡ Some q → (m : ℕ) → place m ≡ (if n == m then Some q else (if n == m then None else place m))
+comes_to place n q at m = by_test (n == m)
+    (λ e. sym (ap place (eqb-true n m e)) ∙ at ∙ ap (λ b. if b then Some q else (if b then None else place m)) (sym e))
+    (λ e. ap (λ b. if b then Some q else (if b then None else place m)) (sym e))
+
+pub without_it : (place : ℕ → Option (List ℕ)) (n : ℕ) (a : List ℕ) → is_place (if n == n then None else place n) a ≡ false
+without_it place n a = ap (λ b. is_place (if b then None else place n) a) (eq-eqb n n refl)
 
 -- a consumer offers nothing elsewhere, and a producer nothing anywhere
 pub offers_elsewhere : (v : Option Figure) (q a : List ℕ) (free undecided : ℕ) → v ≡ Some (consumer q free undecided) → bytes_eq q a ≡ false → offers v a ≡ false

@@ -1,9 +1,12 @@
 pub mod Among
 pub mod AtAddress
 pub mod Fitting
+pub mod Granting
 pub mod Listed
 pub mod Noted
 pub mod Places
 pub mod Rows
+pub mod Seats
+pub mod Told
 pub mod Touches
 pub mod Written

@@ -1,12 +1,12 @@
 -- What is at an address, where one value stands in place.
-use Rattle.std.proofs.Common.{◌≡◌, ◌∙◌, sym, ap, refl, ℕ, true, false, cond, ◌&&◌, not, if◌then◌else◌, option_map, Option, Some, None, is_some, List, length}
+use Rattle.std.proofs.Common.{◌≡◌, ◌∙◌, sym, ap, refl, ℕ, true, false, true≢false, cond, ◌&&◌, not, if◌then◌else◌, option_map, Option, Some, None, is_some, List, length}
 use Rattle.std.specs.Prelude.{◌==◌}
 use Rattle.std.specs.Str.{bytes_eq}
 use Rattle.state_pools.specs.Addresses.{at_address}
 use Rattle.state_pools.specs.ByBytes.{at, first_at, has_none, or_else}
 use Rattle.state_pools.specs.declared.by_bytes.ByBytes.{ByBytes}
 use Rattle.state_pools.specs.declared.by_bytes.Place.{Place}
-use Rattle.state_pools.proofs.AtAddress.{by_test, same_bytes}
+use Rattle.state_pools.proofs.AtAddress.{by_test, same_bytes, turned}
 use Rattle.state_pools.proofs.Written.{none}
 
 module _ {V : Type 0} where
@@ -53,3 +53,20 @@ module _ {V : Type 0} where
   more_put first was old new q w removed set a = ap (or_else (first_at first a)) (set a) ∙ by_test (bytes_eq q a)
       (λ e. let nowhere : first_at first a ≡ None = nowhere_first (first_at first a) (old a) (removed a ∙ ap (λ b. if b then None else was a) e) in rw (e, nowhere) refl)
       (λ e. rw e (removed a ∙ ap (λ b. if b then None else was a) e))
+
+  -- where one stands in place alone, it is at each address that has a value
+  pub sole : (values : ByBytes V) → (length values.more.entries == 0) ≡ true → (q : List ℕ) → is_some (at values q) ≡ true → option_map (λ p. p.value) values.first ≡ at values q
+  sole values empty q there = by_first values.first (ap (λ es. is_some (or_else (first_at values.first q) (at_address es (λ k. k.items) q))) (sym (none values.more.entries empty)) ∙ there)
+      ∙ ap (λ es. or_else (first_at values.first q) (at_address es (λ k. k.items) q)) (sym (none values.more.entries empty))
+    where
+      by_first : (first : Option (Place V)) → is_some (or_else (first_at first q) None) ≡ true → option_map (λ p. p.value) first ≡ or_else (first_at first q) None
+      by_first None h = absurd cc
+      by_first (Some place) h = by_test (bytes_eq q place.address.items) (λ e. rw e refl) (λ e. absurd (true≢false (sym h ∙ ap (λ b. is_some (or_else (if b then Some place.value else None) None)) e)))
+
+  -- and if it is written, what was written is there
+  pub sole_written : (x q : List ℕ) (v w : V) (more : List ℕ → Option V) → ((a : List ℕ) → more a ≡ None) → is_some (or_else (cond (bytes_eq q x) (Some v) None) (more q)) ≡ true → (a : List ℕ)
+      → or_else (cond (bytes_eq a x) (Some w) None) (more a) ≡ (if bytes_eq q a then option_map (λ _. w) (or_else (cond (bytes_eq a x) (Some v) None) (more a)) else or_else (cond (bytes_eq a x) (Some v) None) (more a))
+  sole_written x q v w more none there a = by_test (bytes_eq q x)
+      (λ e. let test : bytes_eq a x ≡ bytes_eq q a = turned a x ∙ ap (λ k. bytes_eq k a) (sym (same_bytes q x e)) in
+      by_test (bytes_eq q a) (λ f. rw (test, f) refl) (λ f. rw (test, f) refl))
+      (λ e. absurd (true≢false (sym there ∙ ap (λ b. is_some (or_else (cond b (Some v) None) (more q))) e ∙ ap is_some (none q))))

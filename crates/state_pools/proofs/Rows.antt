@@ -1,5 +1,5 @@
 -- The pools of all addresses after a change in one row.
-use Rattle.std.proofs.Common.{◌≡◌, ◌∙◌, sym, ap, refl, subst, ℕ, Bool, true, false, true≢false, cond, if◌then◌else◌, option_map, Option, Some, None, List}
+use Rattle.std.proofs.Common.{◌≡◌, ◌∙◌, sym, ap, refl, subst, ℕ, Bool, true, false, true≢false, cond, if◌then◌else◌, option_map, Option, Some, None, is_some, List}
 use Rattle.std.specs.Prelude.{◌==◌}
 use Rattle.std.specs.Str.{bytes_eq}
 use Rattle.std.proofs.lemmas.Bool.{eqb-true, eq-eqb}
@@ -7,7 +7,7 @@ use Rattle.route_credit.specs.Pool.{no_links, Sharing}
 use Rattle.route_table.specs.declared.sections.Distribution.{Distribution}
 use Rattle.state_pools.specs.Addresses.{pool_or, with_pool}
 use Rattle.state_pools.specs.Digest.{digest_of}
-use Rattle.state_pools.specs.Fits.{has_no_pools, in_row, pool_in_row}
+use Rattle.state_pools.specs.Fits.{has_link, has_no_pools, in_row, pool_in_row}
 use Rattle.state_pools.specs.declared.row.Row.{Row}
 use Rattle.state_pools.proofs.AtAddress.{by_test, same_bytes}
 use Rattle.state_pools.proofs.Places.{nothing}
@@ -31,6 +31,15 @@ swept rows lent_rows rows' key old new found through gone d =
 -- the row of a key, once it is another one
 pub there : (rows : ℕ → Option Row) (rows' : ℕ → Option Row) (key : ℕ) (row : Option Row) (q : List ℕ) → key ≡ digest_of q → ((d : ℕ) → rows' d ≡ (if key == d then row else rows d)) → rows' (digest_of q) ≡ row
 there rows rows' key row q is set = set (digest_of q) ∙ ap (λ b. cond b row (rows (digest_of q))) (eq-eqb key (digest_of q) is)
+
+-- what has a pool has it in the row of its digest
+pub stands : (rows : ℕ → Option Row) (q : List ℕ) (key : ℕ) (row : Option Row) → key ≡ digest_of q → row ≡ rows key → is_some (in_row (rows (digest_of q)) q) ≡ true → is_some (in_row row q) ≡ true
+stands rows q key row is found there = ap (λ r. is_some (in_row r q)) (found ∙ ap rows is) ∙ there
+
+-- an address has a pool if that has a link
+pub has_pool : (d : Distribution) (found : Option Sharing) (n : ℕ) → has_link (pool_or d found) n ≡ true → is_some found ≡ true
+has_pool d None n there = absurd cc
+has_pool d (Some pool) n there = refl
 
 -- nothing is in an empty row
 pub none_in : (row : Row) → has_no_pools row ≡ true → (a : List ℕ) → None ≡ in_row (Some row) a

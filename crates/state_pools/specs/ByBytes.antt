@@ -1,5 +1,5 @@
 -- The value at an address, where one stands in place.
-use Rattle.std.specs.Prelude.{◌≡◌, ◌==◌, ◌&&◌, not, ℕ, Bool, List, length, Option, Some, None, is_some, if◌then◌else◌}
+use Rattle.std.specs.Prelude.{◌≡◌, ◌==◌, ◌&&◌, not, ℕ, Bool, true, List, length, Option, Some, None, is_some, if◌then◌else◌}
 use Rattle.std.specs.Option.{option_map}
 use Rattle.std.specs.Borrow.{LendsSo, MutBor, Fml, RattleType}
 use Rattle.std.specs.Str.{bytes_eq}
@@ -27,4 +27,10 @@ has_none values = not (is_some values.first) && (length values.more.entries == 0
 abbrev pub LendsAt : (V : RattleType) → MutBor (ByBytes V.Denot) → List ℕ → Option (MutBor V.Denot) → Fml
 LendsAt V values address lent = LendsSo (the_row V) V values lent
     (λ now w. (a : List ℕ) → at now a ≡ (if bytes_eq address a then option_map (λ _. w) (at values.now a) else at values.now a))
+    (λ now. (a : List ℕ) → at now a ≡ at values.now a)
+
+-- the same, if a value was there
+abbrev pub LendsThere : (V : RattleType) → MutBor (ByBytes V.Denot) → List ℕ → Option (MutBor V.Denot) → Fml
+LendsThere V values address lent = LendsSo (the_row V) V values lent
+    (λ now w. is_some (at values.now address) ≡ true → (a : List ℕ) → at now a ≡ (if bytes_eq address a then option_map (λ _. w) (at values.now a) else at values.now a))
     (λ now. (a : List ℕ) → at now a ≡ at values.now a)

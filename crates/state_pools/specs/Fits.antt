@@ -2,23 +2,27 @@
 use Rattle.std.specs.Prelude.{◌≡◌, ◌==◌, ◌||◌, ◌<◌, ◌⊎◌, ℕ, Bool, true, false, List, [], Option, None, Some, option_map, is_some, if◌then◌else◌}
 use Rattle.std.specs.List.Sorted.{IsStrictlySortedBy}
 use Rattle.std.specs.Map.{keys_of}
+use Rattle.std.specs.Cmp.Lexicographic.{slice_cmp}
 use Rattle.std.specs.Ordering.{nat_cmp}
+use Rattle.std.specs.declared.cmp.Ordering.TheVariants.{Less}
 use Rattle.std.specs.Str.{bytes_eq}
 use Rattle.route_credit.specs.Granting.{grants_of}
 use Rattle.route_credit.specs.Links.{link_at}
 use Rattle.route_credit.specs.Pool.{Sharing}
 use Rattle.route_credit.specs.declared.offer.Offer.{Offer}
 use Rattle.state_collections.specs.NumberMap.{at_number}
+use Rattle.state_collections.specs.declared.number_map.NumberMap.{NumberMap}
 use Rattle.state_collections.specs.NumberSet.{has as has_mark, size}
 use Rattle.state_pools.specs.Addresses.{pool_or}
 use Rattle.state_pools.specs.ByBytes.{at, has_none}
 use Rattle.route_table.specs.declared.sections.Distribution.{Distribution}
 use Rattle.route_table.specs.Places.{distribution_of}
-use Rattle.state_pools.specs.Sets.{is_in}
-use Rattle.state_pools.specs.Sharing.{demand_at, Figure, offer_at}
+use Rattle.state_pools.specs.Due.{is_in, is_place}
+use Rattle.state_pools.specs.Sharing.{AreNumbered, demand_at, Figure, offer_at, sharing}
 use Rattle.state_pools.specs.Digest.{digest_of}
 use Rattle.state_pools.specs.declared.by_address.ByAddress.{ByAddress}
 use Rattle.state_pools.specs.declared.row.Row.{Row}
+use Rattle.state_pools.specs.declared.seat.Seat.{Seat}
 use Rattle.state_pools.specs.declared.pools.Pools.{Pools}
 
 -- the pool of an address in a row, with this distribution of addresses
@@ -56,17 +60,16 @@ is_touched pools number = has_mark pools.touched number
 abbrev pub touched_count : Pools → ℕ
 touched_count pools = size pools.touched
 
+-- the address that a link is at
+abbrev pub places_of : NumberMap Seat → ℕ → Option (List ℕ)
+places_of seats number = option_map (λ seat. seat.address.items) (at_number seats number)
+
+abbrev pub place_of : Pools → ℕ → Option (List ℕ)
+place_of pools = places_of pools.seats
+
 -- whether an address may have grants
 abbrev pub is_due : Pools → List ℕ → Bool
-is_due pools address = is_in pools.due address
-
--- the address that a link is at
-abbrev pub place_of : Pools → ℕ → Option (List ℕ)
-place_of pools number = option_map (λ seat. seat.address.items) (at_number pools.seats number)
-
-abbrev pub is_place : Option (List ℕ) → List ℕ → Bool
-is_place None address = false
-is_place (Some place) address = bytes_eq place address
+is_due pools address = is_in pools.due (place_of pools) address
 
 -- each of these consumers has a number above this one
 abbrev pub AllAbove : ℕ → List (ℕ × Offer) → Type 0
@@ -81,14 +84,20 @@ HasNoted pool last = (pool.last ≡ last) ⊎ ((pool.last ≡ 0) × AllAbove las
 abbrev pub offers : Option Figure → List ℕ → Bool
 offers figure address = is_some (offer_at address figure)
 
--- The pools agree with what is known of each link that isn't apart, and with each address's distribution and the consumer chosen last. A
--- consumer that isn't in its address's pool yet has a number above the one chosen last there: what each link has now says whether it is a
--- consumer there. A link is only at its place, and an address that isn't due has no grants. The table gives the distributions.
+-- whether a link is in a pool
+abbrev pub has_link : Sharing → ℕ → Bool
+has_link pool n = is_some (link_at pool.consumers n) || is_some (link_at pool.producers n)
+
+-- The pools agree with what is known of each link that isn't apart, and with each address's distribution and the
+-- consumer chosen last. A consumer that isn't in its address's pool yet has a number above the one chosen last there:
+-- what each link has now says whether it is a consumer there. A link is at its place and nowhere else, and an address
+-- that isn't due has no grants. The table gives the distributions.
 pub record Fits (apart : ℕ → Bool) (table share : List ℕ → Distribution) (pools : List ℕ → Sharing) (place : ℕ → Option (List ℕ)) (due : List ℕ → Bool) (known actual : ℕ → Option Figure) (last : List ℕ → ℕ) : Type 0 where
   pub consumers : (n : ℕ) (address : List ℕ) → apart n ≡ false → link_at (pools address).consumers n ≡ offer_at address (known n)
   pub producers : (n : ℕ) (address : List ℕ) → apart n ≡ false → link_at (pools address).producers n ≡ demand_at address (known n)
   pub no_consumer : (n : ℕ) (address : List ℕ) → is_place (place n) address ≡ false → link_at (pools address).consumers n ≡ None
   pub no_producer : (n : ℕ) (address : List ℕ) → is_place (place n) address ≡ false → link_at (pools address).producers n ≡ None
+  pub seated : (n : ℕ) (address : List ℕ) → is_place (place n) address ≡ true → has_link (pools address) n ≡ true
   pub same : (address : List ℕ) → table address ≡ share address
   pub distribution : (address : List ℕ) → (pools address).distribution ≡ share address
   pub chosen : (address : List ℕ) → HasNoted (pools address) (last address)
@@ -104,6 +113,11 @@ PoolsFit pools share known actual last = Fits (is_touched pools) (table_of pools
 -- the same, except one more link
 abbrev pub PoolsFitBut : ℕ → Pools → (List ℕ → Distribution) → (ℕ → Option Figure) → (ℕ → Option Figure) → (List ℕ → ℕ) → Type 0
 PoolsFitBut number pools share known actual last = Fits (λ n. number == n || is_touched pools n) (table_of pools) share (pool_at pools) (place_of pools) (is_due pools) known actual last
+
+-- the same, if that link has no place
+abbrev pub PoolsFitWithout : ℕ → Pools → (List ℕ → Distribution) → (ℕ → Option Figure) → (ℕ → Option Figure) → (List ℕ → ℕ) → Type 0
+PoolsFitWithout number pools share known actual last =
+    Fits (λ n. number == n || is_touched pools n) (table_of pools) share (pool_at pools) (λ n. if number == n then None else place_of pools n) (is_due pools) known actual last
 
 -- both agree on each link but one
 abbrev pub AgreeBut : ℕ → (ℕ → Option Figure) → (ℕ → Option Figure) → Type 0
@@ -125,3 +139,11 @@ chosen_at address chosen last other = if bytes_eq address other then or_last cho
 abbrev pub is_granted : Option (List (ℕ × ℕ)) → ℕ → Bool
 is_granted None number = false
 is_granted (Some sums) number = is_some (link_at sums number)
+
+-- these sums are the grants of an address, and no address before it, in the order of bytes, has any
+pub record AreFirst (pools : Pools) (sums : List (ℕ × ℕ)) : Type 0 where
+  pub address : List ℕ
+  pub granted : (share : List ℕ → Distribution) (known actual : ℕ → Option Figure) (last : List ℕ → ℕ) (count : ℕ) → PoolsFit pools share known actual last → NoneTouched pools → AreNumbered known count
+      → sums ≡ grants_of (sharing (share address) known count (last address) address)
+  pub below : (share : List ℕ → Distribution) (known actual : ℕ → Option Figure) (last : List ℕ → ℕ) (count : ℕ) → PoolsFit pools share known actual last → NoneTouched pools → AreNumbered known count
+      → (a : List ℕ) → slice_cmp nat_cmp a address ≡ Less → grants_of (sharing (share a) known count (last a) a) ≡ []

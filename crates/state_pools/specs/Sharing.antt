@@ -12,6 +12,12 @@ pub data Figure : Type 0 where
   consumer : (address : List ℕ) (free undecided : ℕ) → Figure
   producer : (address : List ℕ) (unused due held : ℕ) → Figure
 
+-- the address that a link is at
+abbrev pub address_in : Option Figure → Option (List ℕ)
+address_in None = None
+address_in (Some (consumer at free undecided)) = Some at
+address_in (Some (producer at unused due held)) = Some at
+
 -- what a link offers to an address
 abbrev pub offer_at : List ℕ → Option Figure → Option Offer
 offer_at address None = None

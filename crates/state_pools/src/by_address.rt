@@ -71,6 +71,27 @@ impl ByAddress {
         Ok(true)
     }
 
+    /// Sets what a consumer offers to an address that has a pool. It is no producer there. Returns whether the address
+    /// may have grants then.
+    #[inline]
+    pub(crate) fn offer_there(
+        &mut self,
+        digest: u64,
+        address: &[u8],
+        number: u64,
+        free: u64,
+        undecided: u64,
+    ) -> Result<bool, AllocError>
+        requires { digest ≡ digest_of address.now }
+        ensures quiet { IfOk result (λ may. may ≡ false → is_some (in_row (row_of self.old address.now) address.now) ≡ true → (share : List ℕ → Distribution) → grants_of (pool_in share self.new address.now) ≡ []) }
+        ensures changed { OnOk result (is_some (in_row (row_of self.old address.now) address.now) ≡ true → (share : List ℕ → Distribution) (a : List ℕ) → pool_in share self.new a ≡ with_pool (pool_in share self.old) address.now (λ pool. offered (without_producer pool number) number free undecided) a) }
+    {
+        match self.rows.get_mut(digest) {
+            None => Ok(true),
+            Some(row) => row.offer_there(address, number, free, undecided),
+        }
+    }
+
     /// Sets what a producer wants of an address, whose pool is shared as this table says. It is no consumer there.
     /// Returns whether the address may have grants then.
     #[inline]
@@ -95,6 +116,28 @@ impl ByAddress {
         row.want(table, address, number, unused, due, held)?;
         self.put(digest, row)?;
         Ok(true)
+    }
+
+    /// Sets what a producer wants of an address that has a pool. It is no consumer there. Returns whether the address
+    /// may have grants then.
+    #[inline]
+    pub(crate) fn want_there(
+        &mut self,
+        digest: u64,
+        address: &[u8],
+        number: u64,
+        unused: u32,
+        due: u32,
+        held: u32,
+    ) -> Result<bool, AllocError>
+        requires { digest ≡ digest_of address.now }
+        ensures quiet { IfOk result (λ may. may ≡ false → is_some (in_row (row_of self.old address.now) address.now) ≡ true → (share : List ℕ → Distribution) → grants_of (pool_in share self.new address.now) ≡ []) }
+        ensures changed { OnOk result (is_some (in_row (row_of self.old address.now) address.now) ≡ true → (share : List ℕ → Distribution) (a : List ℕ) → pool_in share self.new a ≡ with_pool (pool_in share self.old) address.now (λ pool. wanted (without_consumer pool number) number unused due held) a) }
+    {
+        match self.rows.get_mut(digest) {
+            None => Ok(true),
+            Some(row) => row.want_there(address, number, unused, due, held),
+        }
     }
 
     /// Removes a link from the pool of an address.
@@ -122,26 +165,26 @@ impl ByAddress {
         }
     }
 
-    /// The consumer that would be chosen for the next delivery of an address.
+    /// The consumer that would be chosen for the next delivery of an address that has a pool.
     #[inline]
-    pub(crate) fn peek(&self, address: &[u8]) -> Option<ConsumerId>
-        ensures { (share : List ℕ → Distribution) → option_map (λ c. c.0) result ≡ choice (pool_in share self.now address.now) }
+    pub(crate) fn peek(&self, digest: u64, address: &[u8]) -> Option<ConsumerId>
+        requires { digest ≡ digest_of address.now }
+        ensures { is_some (in_row (row_of self.now address.now) address.now) ≡ true → (share : List ℕ → Distribution) → option_map (λ c. c.0) result ≡ choice (pool_in share self.now address.now) }
     {
-        let place = digest(address);
-        match self.rows.get(place) {
+        match self.rows.get(digest) {
             None => None,
             Some(row) => row.peek(address),
         }
     }
 
-    /// Chooses the consumer of the next delivery of an address.
+    /// Chooses the consumer of the next delivery of an address that has a pool.
     #[inline]
-    pub(crate) fn choose(&mut self, address: &[u8]) -> Option<ConsumerId>
-        ensures chosen { (share : List ℕ → Distribution) → option_map (λ c. c.0) result ≡ choice (pool_in share self.old address.now) }
-        ensures noted { (share : List ℕ → Distribution) (a : List ℕ) → pool_in share self.new a ≡ with_pool (pool_in share self.old) address.now (λ pool. chose pool (option_map (λ c. c.0) result)) a }
+    pub(crate) fn choose(&mut self, digest: u64, address: &[u8]) -> Option<ConsumerId>
+        requires { digest ≡ digest_of address.now }
+        ensures chosen { is_some (in_row (row_of self.old address.now) address.now) ≡ true → (share : List ℕ → Distribution) → option_map (λ c. c.0) result ≡ choice (pool_in share self.old address.now) }
+        ensures noted { is_some (in_row (row_of self.old address.now) address.now) ≡ true → (share : List ℕ → Distribution) (a : List ℕ) → pool_in share self.new a ≡ with_pool (pool_in share self.old) address.now (λ pool. chose pool (option_map (λ c. c.0) result)) a }
     {
-        let place = digest(address);
-        match self.rows.get_mut(place) {
+        match self.rows.get_mut(digest) {
             None => None,
             Some(row) => row.choose(address),
         }
@@ -157,6 +200,23 @@ impl ByAddress {
         match self.rows.get_mut(place) {
             None => Ok(Vec::new(self.alloc)),
             Some(row) => row.grants(address),
+        }
+    }
+
+    /// The grants of an address that has a pool.
+    #[inline]
+    pub(crate) fn grants_there(
+        &mut self,
+        digest: u64,
+        address: &[u8],
+    ) -> Result<Vec<(ProducerId, u32)>, AllocError>
+        requires { digest ≡ digest_of address.now }
+        ensures sums { IfOk result (λ sums. is_some (in_row (row_of self.old address.now) address.now) ≡ true → (share : List ℕ → Distribution) → by_id sums.items ≡ grants_of (pool_in share self.old address.now)) }
+        ensures filled { OnOk result (is_some (in_row (row_of self.old address.now) address.now) ≡ true → (share : List ℕ → Distribution) (a : List ℕ) → pool_in share self.new a ≡ with_pool (pool_in share self.old) address.now all_granted a) }
+    {
+        match self.rows.get_mut(digest) {
+            None => Ok(Vec::new(self.alloc)),
+            Some(row) => row.grants_there(address),
         }
     }
 }

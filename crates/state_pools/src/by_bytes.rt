@@ -3,7 +3,7 @@ ghost use Rattle.std.specs.Prelude.{◌≡◌, ◌==◌, ℕ, List, Bool, true, 
 ghost use Rattle.std.specs.Borrow.{sem};
 ghost use Rattle.std.specs.Option.{option_copied_mut};
 ghost use Rattle.std.specs.Str.{bytes_eq};
-ghost use Rattle.state_pools.specs.ByBytes.{at, first_at, has_none, LendsAt};
+ghost use Rattle.state_pools.specs.ByBytes.{at, first_at, has_none, LendsAt, LendsThere};
 
 use crate::same::same;
 use state_collections::Boxed;
@@ -64,6 +64,34 @@ impl<V: Drop> ByBytes<V> {
             return Some(&mut first.as_mut().value);
         }
         self.more.get_mut(address)
+    }
+
+    /// The value at an address that has one. If one stands alone in place, it is that one, and no bytes are compared.
+    #[inline]
+    pub(crate) fn get_there(&self, address: &[u8]) -> Option<&V>
+        ensures { is_some (at self.now address.now) ≡ true → option_map (λ v. v.now) result ≡ at self.now address.now }
+    {
+        if !self.more.is_empty() {
+            return self.get(address);
+        }
+        let first = self.first.as_ref()?;
+        Some(&first.as_ref().value)
+    }
+
+    /// The value at an address that has one, to change it. If one stands alone in place, it is that one, and no bytes
+    /// are compared.
+    #[inline]
+    pub(crate) fn get_there_mut(&mut self, address: &[u8]) -> Option<&mut V>
+        ensures* lends { sem 𝓛 (LendsThere V.row self.entry address.now result) }
+        ensures value { is_some (at self.old address.now) ≡ true → option_copied_mut result ≡ at self.old address.now }
+    {
+        if !self.more.is_empty() {
+            return self.get_mut(address);
+        }
+        let Some(first) = &mut self.first else {
+            return None;
+        };
+        Some(&mut first.as_mut().value)
     }
 
     /// Puts a value at an address, in place of the one that is there, if there is one.

@@ -5,14 +5,14 @@
 //! a function of what each link has.
 #![tactic(auto)]
 
-mod addresses;
 mod by_address;
 mod by_bytes;
 mod digest;
+mod due;
 pub mod laws;
 mod pools;
 mod row;
 mod same;
 mod seat;
 
-pub use pools::{Grants, Pools};
+pub use pools::Pools;

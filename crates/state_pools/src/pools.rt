@@ -1,9 +1,6 @@
 //! The pools of all addresses.
-ghost use Rattle.std.specs.Prelude.{◌≡◌, ◌==◌, ◌||◌, ◌&&◌, ◌<◌, not, ℕ, List, [], Bool, true, false, Option, None, Some, OnOk, IfOk, IfNone, IfSome, option_map, is_some, length};
-ghost use Rattle.std.specs.Cmp.Lexicographic.{slice_cmp};
+ghost use Rattle.std.specs.Prelude.{◌≡◌, ◌==◌, ◌||◌, ◌&&◌, ◌<◌, ◌≤◌, not, ℕ, List, [], Bool, true, false, Option, None, Some, OnOk, IfOk, IfNone, IfSome, option_map, is_some, length};
 ghost use Rattle.std.specs.Str.{bytes_eq};
-ghost use Rattle.std.specs.Ordering.{nat_cmp};
-ghost use Rattle.std.specs.declared.cmp.Ordering.TheVariants.{Less};
 ghost use Rattle.route_table.specs.declared.sections.Distribution.{Distribution};
 ghost use Rattle.route_table.specs.Places.{FindsAs, Routing, distribution_of};
 ghost use Rattle.route_credit.specs.Granting.{choice, grants_of};
@@ -11,13 +8,14 @@ ghost use Rattle.route_credit.specs.Links.{link_at};
 ghost use Rattle.route_credit.specs.Pool.{by_id};
 ghost use Rattle.state_collections.specs.NumberSet.{has};
 ghost use Rattle.state_pools.specs.Digest.{digest_of};
-ghost use Rattle.state_pools.specs.Sets.{count};
-ghost use Rattle.state_pools.specs.Fits.{AgreeBut, chosen_at, is_due, is_place, is_touched, is_granted, NoneTouched, offers, place_of, pool_at, PoolsFit, PoolsFitBut, touched_count};
-ghost use Rattle.state_pools.specs.Sharing.{AreNumbered, Figure, sharing};
+ghost use Rattle.state_pools.specs.Due.{count, is_in, is_place};
+ghost use Rattle.state_pools.specs.Fits.{AgreeBut, AreFirst, chosen_at, is_due, is_touched, is_granted, NoneTouched, offers, place_of, places_of, pool_at, PoolsFit, PoolsFitBut, PoolsFitWithout, touched_count};
+ghost use Rattle.state_pools.specs.Sharing.{address_in, AreNumbered, Figure, sharing};
 ghost use Rattle.state_pools.specs.Sharing.Figure.{consumer, producer};
 
-use crate::addresses::Addresses;
 use crate::by_address::ByAddress;
+use crate::due::Due;
+use crate::same::same;
 use crate::seat::Seat;
 use route_credit::{ConsumerId, ProducerId};
 use route_table::{Distribution, Table};
@@ -39,15 +37,8 @@ pub struct Pools {
     table: Table,
     pools: ByAddress,
     seats: NumberMap<Seat>,
-    due: Addresses,
+    due: Due,
     touched: NumberSet,
-}
-
-/// The credit granted to the producers of an address, in order of attach.
-#[derive(Debug, Drop)]
-pub struct Grants {
-    pub address: Vec<u8>,
-    pub sums: Vec<(ProducerId, u32)>,
 }
 
 impl Pools {
@@ -60,7 +51,7 @@ impl Pools {
             table,
             pools: ByAddress::new(alloc),
             seats: NumberMap::new(alloc, SEATS),
-            due: Addresses::new(alloc),
+            due: Due::new(alloc),
             touched: NumberSet::new(alloc),
         }
     }
@@ -106,11 +97,17 @@ impl Pools {
         ensures fewer { OnOk result (is_touched self.old number ≡ true → touched_count self.new < touched_count self.old) }
     {
         let place = address.as_bytes();
-        let digest = self.place(number, place)?;
-        let may = self
-            .pools
-            .offer(&self.table, digest, address, number, free, undecided)?;
-        self.due.add_if(place, may)?;
+        let may = match self.digest_at(number, place) {
+            Some(digest) => self
+                .pools
+                .offer_there(digest, place, number, free, undecided)?,
+            None => {
+                let digest = self.move_to(number, place)?;
+                self.pools
+                    .offer(&self.table, digest, address, number, free, undecided)?
+            }
+        };
+        note(&mut self.due, &self.seats, number, place, may)?;
         self.touched.remove(number);
         Ok(())
     }
@@ -130,11 +127,17 @@ impl Pools {
         ensures fewer { OnOk result (is_touched self.old number ≡ true → touched_count self.new < touched_count self.old) }
     {
         let place = address.as_bytes();
-        let digest = self.place(number, place)?;
-        let may = self
-            .pools
-            .want(&self.table, digest, address, number, unused, due, held)?;
-        self.due.add_if(place, may)?;
+        let may = match self.digest_at(number, place) {
+            Some(digest) => self
+                .pools
+                .want_there(digest, place, number, unused, due, held)?,
+            None => {
+                let digest = self.move_to(number, place)?;
+                self.pools
+                    .want(&self.table, digest, address, number, unused, due, held)?
+            }
+        };
+        note(&mut self.due, &self.seats, number, place, may)?;
         self.touched.remove(number);
         Ok(())
     }
@@ -153,48 +156,54 @@ impl Pools {
 
     /// The consumer that [`Pools::choose`] would choose now, by number. Nothing is noted, so asked again it answers the same.
     #[inline]
-    pub fn peek(&self, address: &str) -> Option<u64>
-        ensures { (share : List ℕ → Distribution) (known actual : ℕ → Option Figure) (last : List ℕ → ℕ) (count : ℕ) → PoolsFit self.now share known actual last → NoneTouched self.now → AreNumbered known count
-            → result ≡ choice (sharing (share address.now) known count (last address.now) address.now) }
+    pub fn peek(&self, number: u64) -> Option<u64>
+        ensures { (share : List ℕ → Distribution) (known actual : ℕ → Option Figure) (last : List ℕ → ℕ) (count : ℕ) (address : List ℕ) → PoolsFit self.now share known actual last → NoneTouched self.now → AreNumbered known count
+            → address_in (known number) ≡ Some address → result ≡ choice (sharing (share address) known count (last address) address) }
     {
-        match self.pools.peek(address.as_bytes()) {
+        let Some(seat) = self.seats.get(number) else {
+            return None;
+        };
+        let place = seat.address.as_slice();
+        match self.pools.peek(seat.digest, place) {
             None => None,
             Some(consumer) => Some(consumer.0),
         }
     }
 
-    /// Chooses the consumer of the next delivery of an address; none if no consumer has free credit. It allocates no memory.
+    /// Chooses the consumer of the next delivery of the address that a link is at; none if no consumer there has free
+    /// credit. It allocates no memory.
     #[inline]
-    pub fn choose(&mut self, address: &str) -> Option<ConsumerId>
-        ensures chosen { (share : List ℕ → Distribution) (known actual : ℕ → Option Figure) (last : List ℕ → ℕ) (count : ℕ) → PoolsFit self.old share known actual last → NoneTouched self.old → AreNumbered known count
-            → option_map (λ c. c.0) result ≡ choice (sharing (share address.now) known count (last address.now) address.now) }
-        ensures fits { (share : List ℕ → Distribution) (known : ℕ → Option Figure) (last : List ℕ → ℕ) → PoolsFit self.old share known known last → NoneTouched self.old
-            → PoolsFit self.new share known known (chosen_at address.now (option_map (λ c. c.0) result) last) }
+    pub fn choose(&mut self, number: u64) -> Option<ConsumerId>
+        ensures chosen { (share : List ℕ → Distribution) (known actual : ℕ → Option Figure) (last : List ℕ → ℕ) (count : ℕ) (address : List ℕ) → PoolsFit self.old share known actual last → NoneTouched self.old → AreNumbered known count
+            → address_in (known number) ≡ Some address → option_map (λ c. c.0) result ≡ choice (sharing (share address) known count (last address) address) }
+        ensures fits { (share : List ℕ → Distribution) (known : ℕ → Option Figure) (last : List ℕ → ℕ) (address : List ℕ) → PoolsFit self.old share known known last → NoneTouched self.old
+            → address_in (known number) ≡ Some address → PoolsFit self.new share known known (chosen_at address (option_map (λ c. c.0) result) last) }
         ensures touched { (n : ℕ) → is_touched self.new n ≡ is_touched self.old n }
     {
-        self.pools.choose(address.as_bytes())
+        let Some(seat) = self.seats.get(number) else {
+            return None;
+        };
+        let place = seat.address.as_slice();
+        self.pools.choose(seat.digest, place)
     }
 
-    /// The grants for the producers of the first address, in the order of bytes, that has any; none if no address has any. The producers
-    /// that are granted credit count as touched. If memory is refused, credit may be lent without any producer
-    /// being told.
-    pub fn grants(&mut self) -> Result<Option<Grants>, AllocError>
+    /// The credit granted to the producers of the first address, in the order of bytes, that has grants, in order of
+    /// attach; none if no address has any. The producers count as touched. If memory is refused, credit may be lent
+    /// without any producer being told.
+    pub fn grants(&mut self) -> Result<Option<Vec<(ProducerId, u32)>>, AllocError>
         ensures none { IfOk result (λ r. IfNone r ((share : List ℕ → Distribution) (known actual : ℕ → Option Figure) (last : List ℕ → ℕ) (count : ℕ) → PoolsFit self.old share known actual last → NoneTouched self.old → AreNumbered known count
             → (a : List ℕ) → grants_of (sharing (share a) known count (last a) a) ≡ [])) }
-        ensures sums { IfOk result (λ r. IfSome r (λ grants. (share : List ℕ → Distribution) (known actual : ℕ → Option Figure) (last : List ℕ → ℕ) (count : ℕ) → PoolsFit self.old share known actual last → NoneTouched self.old → AreNumbered known count
-            → by_id grants.sums.items ≡ grants_of (sharing (share grants.address.items) known count (last grants.address.items) grants.address.items))) }
-        ensures some { IfOk result (λ r. IfSome r (λ grants. 0 < length grants.sums.items)) }
-        ensures below { IfOk result (λ r. IfSome r (λ grants. (share : List ℕ → Distribution) (known actual : ℕ → Option Figure) (last : List ℕ → ℕ) (count : ℕ) → PoolsFit self.old share known actual last → NoneTouched self.old → AreNumbered known count
-            → (a : List ℕ) → slice_cmp nat_cmp a grants.address.items ≡ Less → grants_of (sharing (share a) known count (last a) a) ≡ [])) }
+        ensures first { IfOk result (λ r. IfSome r (λ sums. AreFirst self.old (by_id sums.items))) }
+        ensures some { IfOk result (λ r. IfSome r (λ sums. 0 < length sums.items)) }
         ensures fits { OnOk result ((share : List ℕ → Distribution) (known actual : ℕ → Option Figure) (last : List ℕ → ℕ) → PoolsFit self.old share known actual last → PoolsFit self.new share known actual last) }
-        ensures touched { IfOk result (λ r. (n : ℕ) → is_touched self.new n ≡ (is_touched self.old n || is_granted (option_map (λ grants. by_id grants.sums.items) r) n)) }
+        ensures touched { IfOk result (λ r. (n : ℕ) → is_touched self.new n ≡ (is_touched self.old n || is_granted (option_map (λ sums. by_id sums.items) r) n)) }
     {
         loop {
             match self.next_grants()? {
                 None => return Ok(None),
-                Some(grants) => {
-                    if !grants.sums.is_empty() {
-                        return Ok(Some(grants));
+                Some(sums) => {
+                    if !sums.is_empty() {
+                        return Ok(Some(sums));
                     }
                 }
             }
@@ -202,26 +211,46 @@ impl Pools {
     }
 
     /// The grants of the first address that may have any; they may be empty.
-    fn next_grants(&mut self) -> Result<Option<Grants>, AllocError>
+    fn next_grants(&mut self) -> Result<Option<Vec<(ProducerId, u32)>>, AllocError>
         ensures none { IfOk result (λ r. IfNone r ((share : List ℕ → Distribution) (known actual : ℕ → Option Figure) (last : List ℕ → ℕ) (count : ℕ) → PoolsFit self.old share known actual last → NoneTouched self.old → AreNumbered known count
             → (a : List ℕ) → grants_of (sharing (share a) known count (last a) a) ≡ [])) }
-        ensures sums { IfOk result (λ r. IfSome r (λ grants. (share : List ℕ → Distribution) (known actual : ℕ → Option Figure) (last : List ℕ → ℕ) (count : ℕ) → PoolsFit self.old share known actual last → NoneTouched self.old → AreNumbered known count
-            → by_id grants.sums.items ≡ grants_of (sharing (share grants.address.items) known count (last grants.address.items) grants.address.items))) }
-        ensures below { IfOk result (λ r. IfSome r (λ grants. (share : List ℕ → Distribution) (known actual : ℕ → Option Figure) (last : List ℕ → ℕ) (count : ℕ) → PoolsFit self.old share known actual last → NoneTouched self.old → AreNumbered known count
-            → (a : List ℕ) → slice_cmp nat_cmp a grants.address.items ≡ Less → grants_of (sharing (share a) known count (last a) a) ≡ [])) }
+        ensures first { IfOk result (λ r. IfSome r (λ sums. AreFirst self.old (by_id sums.items))) }
         ensures fits { OnOk result ((share : List ℕ → Distribution) (known actual : ℕ → Option Figure) (last : List ℕ → ℕ) → PoolsFit self.old share known actual last → PoolsFit self.new share known actual last) }
-        ensures touched { IfOk result (λ r. (n : ℕ) → is_touched self.new n ≡ (is_touched self.old n || is_granted (option_map (λ grants. by_id grants.sums.items) r) n)) }
-        ensures fewer { IfOk result (λ r. IfSome r (λ grants. count self.new.due < count self.old.due)) }
+        ensures touched { IfOk result (λ r. (n : ℕ) → is_touched self.new n ≡ (is_touched self.old n || is_granted (option_map (λ sums. by_id sums.items) r) n)) }
+        ensures fewer { IfOk result (λ r. IfSome r (λ sums. count self.new.due < count self.old.due)) }
     {
-        let address = match self.due.pop() {
-            None => return Ok(None),
-            Some(address) => address,
+        let Some(number) = self.due.single() else {
+            return self.copied_grants();
+        };
+        let Some(seat) = self.seats.get(number) else {
+            return Ok(None);
+        };
+        let place = seat.address.as_slice();
+        let sums = self.pools.grants_there(seat.digest, place)?;
+        self.due.forget();
+        let granted = sums.as_slice();
+        touch_all(&mut self.touched, granted)?;
+        Ok(Some(sums))
+    }
+
+    /// The grants of the first address that may have any, after each that may have some was copied.
+    fn copied_grants(&mut self) -> Result<Option<Vec<(ProducerId, u32)>>, AllocError>
+        ensures none { IfOk result (λ r. IfNone r ((share : List ℕ → Distribution) (known actual : ℕ → Option Figure) (last : List ℕ → ℕ) (count : ℕ) → PoolsFit self.old share known actual last → NoneTouched self.old → AreNumbered known count
+            → (a : List ℕ) → grants_of (sharing (share a) known count (last a) a) ≡ [])) }
+        ensures first { IfOk result (λ r. IfSome r (λ sums. AreFirst self.old (by_id sums.items))) }
+        ensures fits { OnOk result ((share : List ℕ → Distribution) (known actual : ℕ → Option Figure) (last : List ℕ → ℕ) → PoolsFit self.old share known actual last → PoolsFit self.new share known actual last) }
+        ensures touched { IfOk result (λ r. (n : ℕ) → is_touched self.new n ≡ (is_touched self.old n || is_granted (option_map (λ sums. by_id sums.items) r) n)) }
+        ensures fewer { IfOk result (λ r. IfSome r (λ sums. count self.new.due < count self.old.due)) }
+    {
+        copy_place(&mut self.due, &self.seats)?;
+        let Some(address) = self.due.pop() else {
+            return Ok(None);
         };
         let place = address.as_slice();
         let sums = self.pools.grants(place)?;
         let granted = sums.as_slice();
         touch_all(&mut self.touched, granted)?;
-        Ok(Some(Grants { address, sums }))
+        Ok(Some(sums))
     }
 
     /// Removes a link from its pool, which may then have grants, or be removed.
@@ -236,27 +265,11 @@ impl Pools {
             None => Ok(()),
             Some(seat) => {
                 let address = seat.address.as_slice();
-                self.due.add(address)?;
+                self.due.add_left(number, address)?;
                 self.pools.leave(seat.digest, address, number);
                 self.pools.forget(seat.digest, address);
                 Ok(())
             }
-        }
-    }
-
-    /// Places a link at an address, and removes it from where it was before, which may then have grants. Returns the address's digest.
-    #[inline]
-    fn place(&mut self, number: u64, address: &[u8]) -> Result<u64, AllocError>
-        ensures digest { IfOk result (λ digest. digest ≡ digest_of address.now) }
-        ensures fits { OnOk result ((share : List ℕ → Distribution) (known actual : ℕ → Option Figure) (last : List ℕ → ℕ) → PoolsFitBut number self.old share known actual last
-            → ((a : List ℕ) → bytes_eq address.now a ≡ false → offers (actual number) a ≡ false) → PoolsFitBut number self.new share known actual last) }
-        ensures there { OnOk result (place_of self.new number ≡ Some address.now) }
-        ensures due { OnOk result ((a : List ℕ) → is_due self.new a ≡ false → is_due self.old a ≡ false) }
-        ensures touched { OnOk result (self.new.touched ≡ self.old.touched) }
-    {
-        match self.digest_at(number, address) {
-            Some(digest) => Ok(digest),
-            None => self.move_to(number, address),
         }
     }
 
@@ -265,7 +278,7 @@ impl Pools {
         ensures digest { IfOk result (λ digest. digest ≡ digest_of address.now) }
         ensures fits { OnOk result ((share : List ℕ → Distribution) (known actual : ℕ → Option Figure) (last : List ℕ → ℕ) → PoolsFitBut number self.old share known actual last
             → is_place (place_of self.old number) address.now ≡ false → ((a : List ℕ) → bytes_eq address.now a ≡ false → offers (actual number) a ≡ false)
-            → PoolsFitBut number self.new share known actual last) }
+            → PoolsFitWithout number self.new share known actual last) }
         ensures there { OnOk result (place_of self.new number ≡ Some address.now) }
         ensures due { OnOk result ((a : List ℕ) → is_due self.new a ≡ false → is_due self.old a ≡ false) }
         ensures touched { OnOk result (self.new.touched ≡ self.old.touched) }
@@ -289,6 +302,58 @@ impl Pools {
             Some(seat) => seat.digest_at(address),
         }
     }
+}
+
+/// Notes that the address that a link is at may have grants, if this is so.
+#[inline]
+fn note(
+    due: &mut Due,
+    seats: &NumberMap<Seat>,
+    number: u64,
+    address: &[u8],
+    may: bool,
+) -> Result<(), AllocError>
+    ensures without { OnOk result (places_of seats.now number ≡ Some address.now → is_in due.new (places_of seats.now) address.now ≡ false → may ≡ false) }
+    ensures others { OnOk result ((a : List ℕ) → is_in due.new (places_of seats.now) a ≡ false → is_in due.old (places_of seats.now) a ≡ false) }
+{
+    if !may {
+        return Ok(());
+    }
+    let Some(link) = due.link() else {
+        due.set(number);
+        return Ok(());
+    };
+    if link == number || is_at(seats, link, address) {
+        return Ok(());
+    }
+    due.add(address)
+}
+
+/// Whether a link is at an address.
+#[inline]
+fn is_at(seats: &NumberMap<Seat>, number: u64, address: &[u8]) -> bool
+    ensures { result ≡ is_place (places_of seats.now number) address.now }
+{
+    match seats.get(number) {
+        None => false,
+        Some(seat) => same(seat.address.as_slice(), address),
+    }
+}
+
+/// Copies the address that a link is at, if the link stands for it.
+fn copy_place(due: &mut Due, seats: &NumberMap<Seat>) -> Result<(), AllocError>
+    ensures kept { OnOk result ((a : List ℕ) → is_in due.new (places_of seats.now) a ≡ false → is_in due.old (places_of seats.now) a ≡ false) }
+    ensures copied { OnOk result (due.new.link ≡ None) }
+    ensures fewer { OnOk result (count due.new ≤ count due.old) }
+{
+    let Some(number) = due.link() else {
+        return Ok(());
+    };
+    if let Some(seat) = seats.get(number) {
+        due.add(seat.address.as_slice())?;
+    }
+    due.forget();
+    Ok(())
 }
 
 /// Touches each link that was granted credit.

@@ -63,6 +63,26 @@ impl Row {
         Ok(true)
     }
 
+    /// Sets what a consumer offers to an address that has a pool. It is no producer there. Returns whether the address
+    /// may have grants then.
+    pub(crate) fn offer_there(
+        &mut self,
+        address: &[u8],
+        number: u64,
+        free: u64,
+        undecided: u64,
+    ) -> Result<bool, AllocError>
+        ensures quiet { IfOk result (λ may. may ≡ false → is_some (at self.old.pools address.now) ≡ true → (share : List ℕ → Distribution) → grants_of (pool_in_row share self.new address.now) ≡ []) }
+        ensures changed { OnOk result (is_some (at self.old.pools address.now) ≡ true → (share : List ℕ → Distribution) (a : List ℕ) → pool_in_row share self.new a ≡ with_pool (pool_in_row share self.old) address.now (λ pool. offered (without_producer pool number) number free undecided) a) }
+    {
+        let Some(found) = self.pools.get_there_mut(address) else {
+            return Ok(true);
+        };
+        found.drop_producer(ProducerId(number));
+        found.offer(ConsumerId(number), free, undecided)?;
+        Ok(found.is_short())
+    }
+
     /// Sets what a producer wants of an address, whose pool is shared as this table says. It is no consumer there.
     /// Returns whether the address may have grants then.
     pub(crate) fn want(
@@ -87,6 +107,27 @@ impl Row {
         pool.want(ProducerId(number), unused, due, held)?;
         self.put(place, pool)?;
         Ok(true)
+    }
+
+    /// Sets what a producer wants of an address that has a pool. It is no consumer there. Returns whether the address
+    /// may have grants then.
+    pub(crate) fn want_there(
+        &mut self,
+        address: &[u8],
+        number: u64,
+        unused: u32,
+        due: u32,
+        held: u32,
+    ) -> Result<bool, AllocError>
+        ensures quiet { IfOk result (λ may. may ≡ false → is_some (at self.old.pools address.now) ≡ true → (share : List ℕ → Distribution) → grants_of (pool_in_row share self.new address.now) ≡ []) }
+        ensures changed { OnOk result (is_some (at self.old.pools address.now) ≡ true → (share : List ℕ → Distribution) (a : List ℕ) → pool_in_row share self.new a ≡ with_pool (pool_in_row share self.old) address.now (λ pool. wanted (without_consumer pool number) number unused due held) a) }
+    {
+        let Some(found) = self.pools.get_there_mut(address) else {
+            return Ok(true);
+        };
+        found.drop_consumer(ConsumerId(number));
+        found.want(ProducerId(number), unused, due, held)?;
+        Ok(found.is_short())
     }
 
     /// Removes a link from the pool of an address.
@@ -119,24 +160,24 @@ impl Row {
         self.pools.is_empty()
     }
 
-    /// The consumer that would be chosen for the next delivery of an address.
+    /// The consumer that would be chosen for the next delivery of an address that has a pool.
     #[inline]
     pub(crate) fn peek(&self, address: &[u8]) -> Option<ConsumerId>
-        ensures { (share : List ℕ → Distribution) → option_map (λ c. c.0) result ≡ choice (pool_in_row share self.now address.now) }
+        ensures { is_some (at self.now.pools address.now) ≡ true → (share : List ℕ → Distribution) → option_map (λ c. c.0) result ≡ choice (pool_in_row share self.now address.now) }
     {
-        match self.pools.get(address) {
+        match self.pools.get_there(address) {
             None => None,
             Some(pool) => pool.peek(),
         }
     }
 
-    /// Chooses the consumer of the next delivery of an address.
+    /// Chooses the consumer of the next delivery of an address that has a pool.
     #[inline]
     pub(crate) fn choose(&mut self, address: &[u8]) -> Option<ConsumerId>
-        ensures chosen { (share : List ℕ → Distribution) → option_map (λ c. c.0) result ≡ choice (pool_in_row share self.old address.now) }
-        ensures noted { (share : List ℕ → Distribution) (a : List ℕ) → pool_in_row share self.new a ≡ with_pool (pool_in_row share self.old) address.now (λ pool. chose pool (option_map (λ c. c.0) result)) a }
+        ensures chosen { is_some (at self.old.pools address.now) ≡ true → (share : List ℕ → Distribution) → option_map (λ c. c.0) result ≡ choice (pool_in_row share self.old address.now) }
+        ensures noted { is_some (at self.old.pools address.now) ≡ true → (share : List ℕ → Distribution) (a : List ℕ) → pool_in_row share self.new a ≡ with_pool (pool_in_row share self.old) address.now (λ pool. chose pool (option_map (λ c. c.0) result)) a }
     {
-        match self.pools.get_mut(address) {
+        match self.pools.get_there_mut(address) {
             None => None,
             Some(pool) => pool.choose(),
         }
@@ -149,6 +190,21 @@ impl Row {
         ensures filled { OnOk result ((share : List ℕ → Distribution) (a : List ℕ) → pool_in_row share self.new a ≡ with_pool (pool_in_row share self.old) address.now all_granted a) }
     {
         match self.pools.get_mut(address) {
+            None => Ok(Vec::new(self.alloc)),
+            Some(pool) => pool.grants(),
+        }
+    }
+
+    /// The grants of an address that has a pool.
+    #[inline]
+    pub(crate) fn grants_there(
+        &mut self,
+        address: &[u8],
+    ) -> Result<Vec<(ProducerId, u32)>, AllocError>
+        ensures sums { IfOk result (λ sums. is_some (at self.old.pools address.now) ≡ true → (share : List ℕ → Distribution) → by_id sums.items ≡ grants_of (pool_in_row share self.old address.now)) }
+        ensures filled { OnOk result (is_some (at self.old.pools address.now) ≡ true → (share : List ℕ → Distribution) (a : List ℕ) → pool_in_row share self.new a ≡ with_pool (pool_in_row share self.old) address.now all_granted a) }
+    {
+        match self.pools.get_there_mut(address) {
             None => Ok(Vec::new(self.alloc)),
             Some(pool) => pool.grants(),
         }

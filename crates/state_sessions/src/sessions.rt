@@ -1,5 +1,5 @@
 //! The table of sessions of all connections.
-ghost use Rattle.std.specs.Prelude.{◌≡◌, ◌<◌, ◌∷◌, ◌++◌, List, ℕ, Bool, true, false, is_some, OnOk};
+ghost use Rattle.std.specs.Prelude.{◌≡◌, ◌<◌, ◌∷◌, ◌++◌, List, ℕ, Bool, true, false, OnOk};
 ghost use Rattle.std.specs.Ordering.{nat_cmp};
 ghost use Rattle.std.specs.BTreeSet.{contains};
 ghost use Rattle.state_collections.specs.NumberMap.{at_number};
@@ -224,7 +224,7 @@ impl Sessions {
         match perf {
             Perf::Begin(begin) => self.put_begin(conn, own, begin.as_ref())?,
             Perf::Flow(flow) => self.put_flow(conn, own, flow)?,
-            Perf::Transfer(_) => rows::send(&mut self.rows, conn, own),
+            Perf::Transfer(_) => self.put_transfer(conn, own),
             Perf::End(_) => rows::end(&mut self.rows, conn, own),
             Perf::Close(_) => rows::forget(&mut self.rows, conn),
             _ => {}
@@ -243,8 +243,16 @@ impl Sessions {
         Ok(())
     }
 
+    /// The router sends a transfer.
+    pub fn put_transfer(&mut self, conn: u64, own: u16)
+        ensures { (t : List Entry) (sasl : Bool) (payload : List ℕ) (x : Transfer) → SessionsFit self.old t
+            → SessionsFit self.new (Out conn (item.Frame sasl own (perf.Transfer x) payload) ∷ t) }
+    {
+        rows::send(&mut self.rows, conn, own);
+    }
+
     /// The router sends a flow with its window.
-    fn put_flow(&mut self, conn: u64, own: u16, flow: &Flow) -> Result<(), AllocError>
+    pub fn put_flow(&mut self, conn: u64, own: u16, flow: &Flow) -> Result<(), AllocError>
         ensures { OnOk result ((t : List Entry) (sasl : Bool) (payload : List ℕ) → SessionsFit self.old t
             → SessionsFit self.new (Out conn (item.Frame sasl own (perf.Flow flow.now) payload) ∷ t)) }
     {

@@ -3,3 +3,4 @@ mod Claimed
 mod Marked
 mod Tagged
 mod Ranged
+pub mod Beside

@@ -1,5 +1,5 @@
 //! The deliveries that peers have not settled, by delivery-id.
-ghost use Rattle.std.specs.Prelude.{◌≡◌, ◌==◌, ◌∷◌, List, ℕ, Some, None, true, if◌then◌else◌, OnOk, IfOk};
+ghost use Rattle.std.specs.Prelude.{◌≡◌, ◌==◌, ◌∷◌, List, ℕ, Bool, Some, None, true, if◌then◌else◌, OnOk, IfOk};
 ghost use Rattle.std.specs.Option.{option_map};
 ghost use Rattle.router_trace.specs.Trace.{Beginning, Trace};
 ghost use Rattle.router_trace.specs.Configuration.{opened};
@@ -12,6 +12,8 @@ ghost use Rattle.router_trace.specs.Sessions.{theirs, maps, is_channel};
 ghost use Rattle.router_trace.specs.Links.{their_handle, link};
 ghost use Rattle.router_trace.specs.Channels.{channel_of};
 ghost use Rattle.router_trace.specs.declared.event.Event.TheVariants as event;
+ghost use Rattle.amqp_model.specs.declared.item.Item.TheVariants as item;
+ghost use Rattle.amqp_model.specs.declared.perf.Perf.TheVariants as perf;
 ghost use Rattle.amqp_session.specs.Ranges.{in_range};
 ghost use Rattle.state_unsettled.specs.Incoming.{IncomingFit, AreSmall, AreMarked, TellsAny, tagged_at, unbound_handle, stand_of, claimed_at, heard_claim, settled_at, found_by, let_go_at, is_on};
 ghost use Rattle.state_collections.specs.Ids.{at_id};
@@ -254,6 +256,20 @@ impl IncomingDeliveries {
             Perf::Close(_) => self.forget(conn),
             _ => {}
         }
+        Ok(())
+    }
+
+    /// The router's disposition.
+    pub fn put_disposition(
+        &mut self,
+        conn: u64,
+        own: u16,
+        disposition: &Disposition,
+    ) -> Result<(), AllocError>
+        ensures { OnOk result ((t : List Entry) (sasl : Bool) (payload : List ℕ) → IncomingFit self.old t
+            → IncomingFit self.new (Out conn (item.Frame sasl own (perf.Disposition disposition.now) payload) ∷ t)) }
+    {
+        self.settle(Role::Receiver, conn, own, disposition)?;
         Ok(())
     }
 

@@ -1,4 +1,4 @@
-use Rattle.std.proofs.Common.{◌∙◌, refl, ap, sym, subst, [], ◌∷◌}
+use Rattle.std.proofs.Common.{◌∙◌, refl, sym, subst, [], ◌∷◌}
 use Rattle.state_collections.specs.NumberMap.{at_number}
 use Rattle.state_deliveries.specs.Stepping.{IsKept}
 use Rattle.state_deliveries.proofs.Given.{act_done, kept_acts}

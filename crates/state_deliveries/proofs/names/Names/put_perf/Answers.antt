@@ -10,7 +10,7 @@ use Rattle.router_trace.specs.Deliveries.{is_id, delivery, number_named, number_
 use Rattle.state_collections.specs.Ids.{at_id}
 use Rattle.state_deliveries.specs.Fits.{StoreFit}
 use Rattle.state_deliveries.specs.Naming.{NamesFit, kept_name}
-use Rattle.state_deliveries.specs.Calling.{at_name}
+use Rattle.state_deliveries.specs.Calling.{at_name, Knows}
 use Rattle.state_deliveries.proofs.Low.{low_named}
 use Rattle.state_deliveries.proofs.Known.{known_tagged}
 use Rattle.state_deliveries.proofs.Asked.{numbers_of}
@@ -26,11 +26,12 @@ returns-in_ok-begin-in-Transfer c = λ t sasl payload at fit.
     let begins = entry (perf.Transfer x) in
     subst (λ (p : Perf). StoreFit c.args.store.now (entry p ∷ t) → NamesFit c.begin.new.self (entry p ∷ t)) (sym c.in-Transfer.is)
     (λ there. record {
-      names = λ d o id. set_row (begins ∷ t) (conn == d) (own == o) (is_id x.delivery_id id) _ (kept_name (option_and_then (number_tagged (at_name c.args.store.now.by_name)) (tag_in x)) (at_number c.args.store.now.deliveries))
+      names = λ d o id. set_row (begins ∷ t) (conn == d) (own == o) (is_id x.delivery_id id) _ (kept_name c.begun-number.result (at_number c.args.store.now.deliveries))
           (at_id c.args.self.now.ids d o id) (option_and_then (number_tagged (number_named t)) (tag_in x)) (named t d o id)
           (c.in_ok-begin-in-Transfer.ensures.named d o id)
-          (remembers_kept (begins ∷ t) (option_and_then (number_tagged (at_name c.args.store.now.by_name)) (tag_in x)) (option_and_then (number_tagged (number_named t)) (tag_in x)) (at_number c.args.store.now.deliveries) there.deliveries
-          (known_tagged (delivery (begins ∷ t)) (at_name c.args.store.now.by_name) (number_named t) (numbers_of c.args.store.now (begins ∷ t) there) (tag_in x)))
+          (remembers_kept (begins ∷ t) c.begun-number.result (option_and_then (number_tagged (number_named t)) (tag_in x)) (at_number c.args.store.now.deliveries) there.deliveries
+          (subst (λ v. Knows (delivery (begins ∷ t)) v (option_and_then (number_tagged (number_named t)) (tag_in x))) (sym c.begun-number.ensures)
+          (known_tagged (delivery (begins ∷ t)) (at_name c.args.store.now.by_name) (number_named t) (numbers_of c.args.store.now (begins ∷ t) there) (tag_in x))))
           (still begins t (at_id c.args.self.now.ids d o id) (named t d o id) (low_named t d o id) (fit.names d o id));
       small = c.in_ok-begin-in-Transfer.ensures.small fit.small;
     }) at

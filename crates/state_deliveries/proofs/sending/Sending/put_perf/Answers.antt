@@ -1,14 +1,15 @@
-use Rattle.std.proofs.Common.{◌∷◌, sym, subst, true}
+use Rattle.std.proofs.Common.{◌∷◌, ℕ, sym, subst, true, Option}
 use Rattle.std.specs.Prelude.{◌==◌}
 use Rattle.amqp_model.specs.declared.perf.Perf.{Perf}
 use Rattle.amqp_model.specs.declared.perf.Perf.TheVariants as perf
 use Rattle.amqp_model.specs.declared.item.Item.TheVariants as item
 use Rattle.router_trace.specs.Trace.{Entry, Out}
-use Rattle.router_trace.specs.Deliveries.{delivery, number_named, sending, sending_in, tag_in}
-use Rattle.state_deliveries.specs.Calling.{at_name, NumbersFit}
+use Rattle.router_trace.specs.Deliveries.{carried, delivery, number_named, sending, sending_in, tag_in}
+use Rattle.state_deliveries.specs.Calling.{at_name, Knows, NumbersFit}
 use Rattle.state_deliveries.specs.Fits.{SendingFit}
 use Rattle.state_collections.specs.Places.{at}
-use Rattle.state_deliveries.proofs.Known.{known_transfer, known_ended, known_session, known_quiet, still_known, unsent_in}
+use Rattle.state_deliveries.proofs.Beside.{known_number, same_handle}
+use Rattle.state_deliveries.proofs.Known.{known_carried, known_ended, known_session, known_quiet, still_known, unsent_in}
 use Rattle.state_deliveries.proofs.Low.{low_sending}
 use Rattle.state_deliveries.proofs.sending.Sending.put_perf.Goals as goal
 
@@ -20,11 +21,16 @@ returns-in_ok-put_transfer-in-Transfer c = λ t sasl payload names fit.
     let old = at c.args.self.now.numbers in
     let entry : Perf → Entry = λ p. Out conn (item.Frame sasl own p payload) in
     let puts = entry (perf.Transfer x) in
+    let known : (d o h : ℕ) → Knows (delivery (puts ∷ t)) (old d o h) (sending t d o h) = λ d o h. still_known puts t (old d o h) (sending t d o h) (low_sending t d o h) (fit.numbers d o h) in
     subst (λ (p : Perf). NumbersFit c.args.names.now (entry p ∷ t) → SendingFit c.put_transfer.new.self (entry p ∷ t)) (sym c.in-Transfer.is)
-    (λ there. record {
-      numbers = λ d o h. known_transfer (delivery (puts ∷ t)) (at_name c.args.names.now) (number_named t) there (tag_in x) (conn == d) (own == o) (x.handle == h) x.more _ (old d o h) (sending t d o h)
+    (λ there.
+    let goes = subst (λ v. Knows (delivery (puts ∷ t)) v (carried (number_named t) (tag_in x) (sending t conn own x.handle))) (sym (c.carried-number.ensures (at_name c.args.names.now) c.begun.ensures))
+    (known_carried (delivery (puts ∷ t)) (at_name c.args.names.now) (number_named t) there (tag_in x) (old conn own x.handle) (sending t conn own x.handle) (known conn own x.handle)) in
+    record {
+      numbers = λ d o h. known_number (delivery (puts ∷ t)) c.carried-number.result (carried (number_named t) (tag_in x) (sending t d o h)) (conn == d) (own == o) (x.handle == h) x.more _ (old d o h) (sending t d o h)
           (c.in_ok-put_transfer-in-Transfer.ensures d o h)
-          (still_known puts t (old d o h) (sending t d o h) (low_sending t d o h) (fit.numbers d o h));
+          (λ a b e. subst (λ (v : Option ℕ). Knows (delivery (puts ∷ t)) c.carried-number.result (carried (number_named t) (tag_in x) v)) (same_handle (sending t) conn own x.handle d o h a b e) goes)
+          (known d o h);
     }) names
 
 pub returns-in-Detach : goal.returns-in-Detach

@@ -1,16 +1,14 @@
-use Rattle.std.proofs.Common.{◌∙◌, sym, subst, ap, length}
-use Rattle.std.specs.Prelude.{if◌then◌else◌, Option}
-use Rattle.std.specs.Option.{option_and_then}
+use Rattle.std.proofs.Common.{◌∙◌, ◌∷◌, sym, subst, ap}
 use Rattle.amqp_model.specs.declared.perf.Perf.{Perf}
-use Rattle.amqp_model.specs.declared.perf.Perf.TheVariants as perf
 use Rattle.amqp_model.specs.declared.item.Item.TheVariants as item
-use Rattle.router_trace.specs.Deliveries.{Delivery, delivery, number_named, sending, unless_over, after_frame, is_number}
+use Rattle.router_trace.specs.Trace.{Out}
+use Rattle.router_trace.specs.Deliveries.{delivery, number_named, sending}
 use Rattle.state_deliveries.specs.Calling.{Knows}
-use Rattle.state_deliveries.proofs.Known.{same_number}
-use Rattle.state_deliveries.specs.Fits.{carried_in}
+use Rattle.state_deliveries.proofs.Beside.{store_transferred}
+use Rattle.state_deliveries.specs.Fits.{StoreFit, carried_in}
 use Rattle.state_deliveries.specs.Indexing.{are_by_place}
 use Rattle.state_deliveries.specs.Stepping.{after_any, IsKept}
-use Rattle.state_deliveries.proofs.Puts.{on_ok_both, one_frame, other_frame, put_after, put_by_place, kept}
+use Rattle.state_deliveries.proofs.Puts.{on_ok_both, other_frame, put_by_place, kept}
 use Rattle.state_deliveries.proofs.store.Store.put_perf.Goals as goal
 
 pub returns-in-Transfer-clause-fits : goal.returns-in-Transfer-clause-fits
@@ -19,16 +17,9 @@ returns-in-Transfer-clause-fits c = on_ok_both c.note_carried.result
     let conn = c.args.conn in
     let own = c.args.own in
     let bytes = c.args.payload.now in
-    let x = c.in-Transfer.transfer in
-    record {
-      deliveries = λ n.
-          noted n
-          ∙ ap (λ (v : Option Delivery). if is_number c.args.number n then option_and_then (λ d. unless_over (after_frame x (length bytes) d)) v else v) (fit.deliveries n)
-          ∙ one_frame (number_named t) conn own n sasl x bytes (sending t conn) c.args.number (delivery t n)
-          (λ d there. same_number (delivery t) c.args.number (carried_in (number_named t) (perf.Transfer x) (sending t conn own)) n d (subst (λ (p : Perf). Knows (delivery t) c.args.number (carried_in (number_named t) p (sending t conn own))) c.in-Transfer.is number) there) (kept t n)
-          ∙ ap (λ (p : Perf). put_after (number_named t) conn (item.Frame sasl own p bytes) n (sending t conn) (delivery t n)) (sym c.in-Transfer.is);
-      indexed = indexed fit.indexed;
-    })
+    subst (λ (p : Perf). StoreFit c.note_carried.new.self (Out conn (item.Frame sasl own p bytes) ∷ t)) (sym c.in-Transfer.is)
+    (store_transferred c.args.self.now c.note_carried.new.self conn own sasl c.in-Transfer.transfer bytes t c.args.number noted indexed
+    (subst (λ (p : Perf). Knows (delivery t) c.args.number (carried_in (number_named t) p (sending t conn own))) c.in-Transfer.is number) fit))
     c.note_carried.ensures.deliveries c.note_carried.ensures.indexed
 
 pub returns-in_default-clause-fits : goal.returns-in_default-clause-fits

@@ -1,19 +1,34 @@
-use Rattle.std.proofs.Common.{◌≡◌, ◌∙◌, ap, subst, ℕ, List, option_map}
+use Rattle.std.proofs.Common.{◌≡◌, ◌∙◌, sym, ap, subst, ℕ, List, option_map, Some}
+use Rattle.route_credit.specs.Granting.{choice}
 use Rattle.route_credit.specs.Pool.{chose}
 use Rattle.state_pools.specs.Addresses.{with_pool}
-use Rattle.route_credit.specs.Granting.{choice}
 use Rattle.state_pools.specs.Fits.{is_due, is_touched, place_of, pool_at, pool_in, table_of}
 use Rattle.state_pools.proofs.Fitting.{chosen_fits}
 use Rattle.state_pools.proofs.Listed.{choice_is}
+use Rattle.state_pools.proofs.Seats.{has_seat, seat_has, seat_is}
 use Rattle.state_pools.proofs.pools.Pools.choose.Goals as goal
 
+pub returns-in_default-clause-chosen : goal.returns-in_default-clause-chosen
+returns-in_default-clause-chosen c share known actual last count address fits none numbered is = absurd (has_seat c.args.self.now share known actual last fits none c.args.number address is c.in_default.ensures)
+
+pub returns-in_default-clause-fits : goal.returns-in_default-clause-fits
+returns-in_default-clause-fits c share known last address fits none is = absurd (has_seat c.args.self.now share known known last fits none c.args.number address is c.in_default.ensures)
+
 pub returns-clause-chosen : goal.returns-clause-chosen
-returns-clause-chosen c share known actual last count fits none numbered =
-    c.choose.ensures.chosen (table_of c.args.self.now) ∙ ap (λ a. choice (pool_at c.args.self.now a)) c.as_bytes.ensures.value ∙ choice_is (is_touched c.args.self.now) (table_of c.args.self.now) share (pool_at c.args.self.now) (place_of c.args.self.now) (is_due c.args.self.now) known actual last count c.args.address.now fits none numbered
+returns-clause-chosen c share known actual last count address fits none numbered is =
+    let old = c.args.self.now in
+    let at = sym (ap (option_map (λ p. p.address.items)) c.in-Some.ensures) ∙ ap Some (sym c.as_slice-place.ensures.value) in
+    let same = c.as_slice-place.ensures.value ∙ seat_is old share known actual last fits none c.args.number address is c.in-Some.seat.now c.in-Some.ensures in
+    c.choose.ensures.chosen (seat_has old (is_touched old) share (is_due old) known actual last fits c.args.number c.as_slice-place.result.now at) (table_of old)
+    ∙ ap (λ a. choice (pool_at old a)) same
+    ∙ choice_is (is_touched old) (table_of old) share (pool_at old) (place_of old) (is_due old) known actual last count address fits none numbered
 
 pub returns-clause-fits : goal.returns-clause-fits
-returns-clause-fits c share known last fits none =
-    chosen_fits (is_touched c.args.self.now) (table_of c.args.self.now) share (pool_at c.args.self.now) (place_of c.args.self.now) (is_due c.args.self.now) known known last fits _ c.args.address.now (option_map (λ c. c.0) c.choose.result)
-    (subst (λ (b : List ℕ). (a : List ℕ) → pool_in (table_of c.args.self.now) c.choose.new.self a ≡ with_pool (pool_at c.args.self.now) b (λ pool. chose pool (option_map (λ c. c.0) c.choose.result)) a) c.as_bytes.ensures.value
-    (c.choose.ensures.noted (table_of c.args.self.now)))
+returns-clause-fits c share known last address fits none is =
+    let old = c.args.self.now in
+    let at = sym (ap (option_map (λ p. p.address.items)) c.in-Some.ensures) ∙ ap Some (sym c.as_slice-place.ensures.value) in
+    let same = c.as_slice-place.ensures.value ∙ seat_is old share known known last fits none c.args.number address is c.in-Some.seat.now c.in-Some.ensures in
+    chosen_fits (is_touched old) (table_of old) share (pool_at old) (place_of old) (is_due old) known known last fits _ address (option_map (λ c. c.0) c.choose.result)
+    (subst (λ (b : List ℕ). (a : List ℕ) → pool_in (table_of old) c.choose.new.self a ≡ with_pool (pool_at old) b (λ pool. chose pool (option_map (λ c. c.0) c.choose.result)) a) same
+    (c.choose.ensures.noted (seat_has old (is_touched old) share (is_due old) known known last fits c.args.number c.as_slice-place.result.now at) (table_of old)))
     (λ n a. fits.consumers n a (none n))

@@ -15,3 +15,8 @@ pub returns-in_ok-put_flow-in-Flow : goal.returns-in_ok-put_flow-in-Flow
 returns-in_ok-put_flow-in-Flow c = λ t sasl payload fit.
     subst (λ (p : Perf). SessionsFit c.put_flow.new.self (Out c.args.conn (item.Frame sasl c.args.own p payload) ∷ t)) (sym c.in-Flow.is)
     (c.in_ok-put_flow-in-Flow.ensures t sasl payload fit)
+
+pub returns-in-Transfer : goal.returns-in-Transfer
+returns-in-Transfer c = λ t sasl payload fit.
+    subst (λ (p : Perf). SessionsFit c.put_transfer.new.self (Out c.args.conn (item.Frame sasl c.args.own p payload) ∷ t)) (sym c.in-Transfer.is)
+    (c.put_transfer.ensures t sasl payload c.in-Transfer.field-0 fit)

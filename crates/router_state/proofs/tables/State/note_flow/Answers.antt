@@ -1,0 +1,17 @@
+use Rattle.std.proofs.Common.{refl}
+use Rattle.amqp_model.specs.declared.item.Item.TheVariants as item
+use Rattle.amqp_model.specs.declared.perf.Perf.TheVariants as perf
+use Rattle.state_connections.proofs.Beside.{peers_stay}
+use Rattle.router_state.proofs.tables.State.note_flow.Goals as goal
+
+pub returns-clause-found : goal.returns-clause-found
+returns-clause-found c = λ t sasl bytes fit.
+    let conn = c.args.conn in
+    let own = c.args.own in
+    let i = item.Frame sasl own (perf.Flow c.args.flow.now) bytes in
+    record {
+      clocks = c.in_ok-write.ensures t i refl fit.clocks;
+      peers = peers_stay c.args.self.now.peers conn i t refl fit.peers;
+      sessions = c.in_ok-put_flow-2.ensures t sasl bytes fit.sessions;
+      messages = c.in_ok-put_flow.ensures t sasl bytes fit.messages;
+    }

@@ -1,0 +1,9 @@
+use Rattle.amqp_model.specs.declared.perf.Perf.TheVariants as perf
+use Rattle.state_links.proofs.Beside.{handles_stay}
+use Rattle.state_links.proofs.links.Links.put_transfer.Goals as goal
+
+pub returns-clause-fits : goal.returns-clause-fits
+returns-clause-fits c = λ t sasl payload fit. record {
+  handles = handles_stay c.args.self.now.handles c.args.conn c.args.own sasl (perf.Transfer c.args.transfer.now) payload t tt fit.handles;
+  table = c.in_ok-put_transfer.ensures.fits t sasl payload fit.table;
+}
