@@ -1,5 +1,5 @@
 //! The figures of a journal: how long it is, how much room it keeps free, and how many batches it has.
-ghost use Rattle.std.specs.Prelude.{◌≡◌, ◌+◌, ◌-◌, sum, sum_by, length, IfSome, IsTrue, ◌↔◌};
+ghost use Rattle.std.specs.Prelude.{◌≡◌, ◌≤◌, ◌+◌, ◌-◌, ◌^◌, sum, sum_by, length, IfNone, IfSome, IsTrue, ◌↔◌};
 ghost use Rattle.gate_journal.specs.Reserve.{row_reserve, reserve, growth, release};
 
 use book_core::Book;
@@ -18,7 +18,8 @@ pub(crate) struct Figures {
 
 /// A sum; none where it is too large for its type.
 pub fn total(parts: &[u64]) -> Option<u64>
-    ensures { IfSome result (λ n. n ≡ sum parts.now) }
+    ensures sum { IfSome result (λ n. n ≡ sum parts.now) }
+    ensures none { IfNone result (2 ^ 64 ≤ sum parts.now) }
 {
     let mut total = 0u64;
     for part in parts {
@@ -57,7 +58,8 @@ fn reserve_of_row(row: &Row) -> u64
 
 /// The reserve of all rows of a book.
 fn reserve_of_rows(book: &Book) -> Option<u64>
-    ensures { IfSome result (λ n. n ≡ sum_by row_reserve book.now.rows) }
+    ensures sum { IfSome result (λ n. n ≡ sum_by row_reserve book.now.rows) }
+    ensures none { IfNone result (2 ^ 64 ≤ sum_by row_reserve book.now.rows) }
 {
     let mut total = 0u64;
     for row in book.rows() {
@@ -69,7 +71,8 @@ fn reserve_of_rows(book: &Book) -> Option<u64>
 /// What a journal keeps free for a book; none where it is too much for its type.
 #[tactic(auto, unfolding(crate::specs::Reserve::reserve))]
 pub fn reserve_of(book: &Book) -> Option<u64>
-    ensures { IfSome result (λ n. n ≡ reserve book.now) }
+    ensures reserve { IfSome result (λ n. n ≡ reserve book.now) }
+    ensures none { IfNone result (2 ^ 64 ≤ reserve book.now) }
 {
     let rows = reserve_of_rows(book)?;
     let termini = 14u64.checked_mul(book.terminus_count() as u64)?;
@@ -78,7 +81,8 @@ pub fn reserve_of(book: &Book) -> Option<u64>
 
 /// By how much acts make the reserve larger; none where it is too much for its type.
 pub fn growth_by(acts: &[Act]) -> Option<u64>
-    ensures { IfSome result (λ n. n ≡ sum_by growth acts.now) }
+    ensures growth { IfSome result (λ n. n ≡ sum_by growth acts.now) }
+    ensures none { IfNone result (2 ^ 64 ≤ sum_by growth acts.now) }
 {
     let mut total = 0u64;
     for act in acts {
@@ -89,7 +93,8 @@ pub fn growth_by(acts: &[Act]) -> Option<u64>
 
 /// By how much acts make the reserve smaller; none where it is too much for its type.
 pub fn release_by(acts: &[Act]) -> Option<u64>
-    ensures { IfSome result (λ n. n ≡ sum_by release acts.now) }
+    ensures release { IfSome result (λ n. n ≡ sum_by release acts.now) }
+    ensures none { IfNone result (2 ^ 64 ≤ sum_by release acts.now) }
 {
     let mut total = 0u64;
     for act in acts {

@@ -1,5 +1,5 @@
--- What an item finds on its channel, if that is a session.
-use Rattle.std.proofs.Common.{◌≡◌, ◌∙◌, sym, ap, ℕ}
+-- What an item finds on its channel, if that is a session, and on its handle there.
+use Rattle.std.proofs.Common.{◌≡◌, ◌∙◌, sym, subst, ℕ}
 use Rattle.std.specs.Prelude.{Option, Some, None}
 use Rattle.amqp_session.specs.declared.window.Window.{Window}
 use Rattle.amqp_session.specs.Session.{Session}
@@ -8,7 +8,8 @@ use Rattle.router_trace.specs.declared.channel.PeerChannel.{PeerChannel}
 use Rattle.router_trace.specs.declared.channel.PeerChannel.TheVariants.{Mapped, Ending}
 use Rattle.router_trace.specs.Trace.{Trace}
 use Rattle.router_trace.specs.Sessions.{Place, nowhere, ending, on, on_session, own_of, place_by, place, session, theirs}
-use Rattle.router_state.specs.Finding.{IsFoundBy}
+use Rattle.router_trace.specs.Links.{link_place}
+use Rattle.router_state.specs.Finding.{IsFoundBy, IsFoundLink, place_found}
 use Rattle.router_state.specs.declared.finding.Found.{Found}
 use Rattle.state_sessions.specs.declared.place.Place.TheVariants as found
 use Rattle.state_sessions.specs.Fits.{found_of}
@@ -49,3 +50,10 @@ is_on t c channel handle own w f is here =
       window = at.window;
       found_own = here.own ∙ own_on (theirs t c channel) (session t c) own at.session at.there;
     }
+
+-- what an item finds on its handle, if there are a session and a handle
+pub linked : (t : Trace) (c channel : ℕ) (handle : Option ℕ) (f : Found) → IsFoundBy t c channel handle f
+    → (own h : ℕ) → f.own ≡ Some own → handle ≡ Some h → IsFoundLink (link_place t c own h) f.link
+linked t c channel handle f found own h stands named =
+    subst (λ (v : Option ℕ). IsFoundLink (place_found t c (Some own) v) f.link) named
+    (subst (λ (v : Option ℕ). IsFoundLink (place_found t c v handle) f.link) stands found.link)

@@ -1,5 +1,5 @@
 -- A transfer that is taken is taken on the link that its handle stands for, and the book has nothing to say to an answer that closes.
-use Rattle.std.proofs.Common.{◌≡◌, ◌∙◌, refl, sym, ap, subst, ℕ, Bool, true, false}
+use Rattle.std.proofs.Common.{◌≡◌, ◌∙◌, refl, sym, ap, subst, ℕ, Bool, false}
 use Rattle.std.specs.Prelude.{nat_eq, is_none, ◌&&◌, if◌then◌else◌, Option, Some, None, option_map}
 use Rattle.amqp_model.specs.declared.perf.Perf.{Perf}
 use Rattle.amqp_model.specs.declared.perf.Perf.TheVariants as perf

@@ -6,7 +6,7 @@ use Rattle.amqp_model.specs.declared.item.Item.{Item}
 use Rattle.amqp_model.specs.declared.item.Item.TheVariants as item
 use Rattle.router_trace.specs.Trace.{Trace}
 use Rattle.router_trace.specs.Sessions.{place, session_on}
-use Rattle.router_trace.specs.Links.{LinkPlace, link_place, found_link}
+use Rattle.router_trace.specs.Links.{LinkPlace, nowhere, link_place, found_link}
 use Rattle.router_trace.specs.Settling.{middle_on}
 use Rattle.state_links.specs.Fits.{channel_of}
 use Rattle.state_links.specs.Looking.{key_on}
@@ -32,11 +32,17 @@ pub record IsFoundLink (at : LinkPlace) (f : FoundLink) : Type 0 where
   pub middle : option_map (λ d. d.now) f.middle ≡ middle_on at
   pub key : option_map (λ k. k.now) f.key ≡ key_on at
 
+-- where a handle leads on a session: nowhere if there is no session or no handle
+abbrev pub place_found : Trace → ℕ → Option ℕ → Option ℕ → LinkPlace
+place_found t c None handle = nowhere
+place_found t c (Some own) None = nowhere
+place_found t c (Some own) (Some handle) = link_place t c own handle
+
 -- what is found by a channel and a handle of the peer
 pub record IsFoundBy (t : Trace) (c channel : ℕ) (handle : Option ℕ) (f : Found) : Type 0 where
   pub own : f.own ≡ session_on t c channel
   pub session : f.session ≡ found_of (place t c channel)
-  pub link : (o h : ℕ) → f.own ≡ Some o → handle ≡ Some h → IsFoundLink (link_place t c o h) f.link
+  pub link : IsFoundLink (place_found t c f.own handle) f.link
 
 -- what an item finds
 abbrev pub IsFound : Trace → ℕ → Item → Found → Type 0

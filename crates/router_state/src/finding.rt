@@ -1,8 +1,7 @@
 //! What an item finds.
-ghost use Rattle.std.specs.Prelude.{◌≡◌, ℕ, List, Some};
-ghost use Rattle.router_trace.specs.Links.{link_place};
+ghost use Rattle.std.specs.Prelude.{◌≡◌, List};
 ghost use Rattle.router_trace.specs.Trace.{Entry};
-ghost use Rattle.router_state.specs.Finding.{IsFound, IsFoundBy, IsFoundLink, handle_in};
+ghost use Rattle.router_state.specs.Finding.{IsFound, IsFoundBy, IsFoundLink, handle_in, place_found};
 ghost use Rattle.router_state.specs.Tables.{TablesFind};
 
 use crate::tables::State;
@@ -46,9 +45,9 @@ impl State {
         }
     }
 
-    /// What is on a handle of a session, if there are both.
+    /// What is on a handle of a session; nothing if there is no session or no handle.
     fn find_link(&self, conn: u64, own: Option<u16>, handle: Option<u32>) -> FoundLink<'_>
-        ensures { (t : List Entry) → TablesFind self.now t → (o h : ℕ) → own ≡ Some o → handle ≡ Some h → IsFoundLink (link_place t conn o h) result }
+        ensures { (t : List Entry) → TablesFind self.now t → IsFoundLink (place_found t conn own handle) result }
     {
         match (own, handle) {
             (Some(own), Some(handle)) => self.messages.links().find(conn, own, handle),

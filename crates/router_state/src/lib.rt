@@ -4,6 +4,7 @@
 mod durable;
 mod finding;
 mod place;
+mod putting;
 mod tables;
 
 pub use durable::none_if_ended;

@@ -1,8 +1,6 @@
 //! All tables, changed together.
 ghost use Rattle.std.specs.Prelude.{◌≡◌, ◌==◌, ◌-◌, ◌≤◌, ◌&&◌, nat_lt, if◌then◌else◌, ◌∷◌, ◌++◌, ℕ, List, [], true, false, length, slice_get, Option, option_copied, option_map, OnOk, OnErr, IfOk};
-ghost use Rattle.std.specs.Prelude.{is_some, Bool};
-ghost use Rattle.amqp_model.specs.declared.item.Item.TheVariants as item;
-ghost use Rattle.amqp_model.specs.declared.perf.Perf.TheVariants as perf;
+ghost use Rattle.std.specs.Prelude.{is_some};
 ghost use Rattle.route_table.specs.Places.{FindsAs};
 ghost use Rattle.router_trace.specs.Trace.{Beginning, Trace};
 ghost use Rattle.router_trace.specs.Configuration.{opened, distribution, is_multicast};
@@ -24,8 +22,7 @@ ghost use Rattle.router_trace.specs.Sessions.{free_channel};
 ghost use Rattle.router_trace.specs.Clocks.{terms, channel_max_of};
 ghost use Rattle.router_trace.specs.Peers.{user, container, largest_frame};
 ghost use Rattle.router_trace.specs.Links.{link_place, free_handle, holder, key_of};
-ghost use Rattle.state_connections.specs.Peering.{PeersFit};
-ghost use Rattle.state_links.specs.Fits.{key_in, key_by, channel_of};
+ghost use Rattle.state_links.specs.Fits.{channel_of};
 ghost use Rattle.state_connections.specs.Timing.{ClocksFit};
 ghost use Rattle.amqp_session.specs.Session.{Session};
 ghost use Rattle.state_sessions.specs.Fits.{SessionsFit, window_by};
@@ -43,7 +40,7 @@ use crate::durable::none_if_ended;
 use crate::place::LinkPlace;
 use amqp_conn::Conn;
 use amqp_link::Part;
-use amqp_model::{Attach, DeliveryState, Disposition, Flow, Item, Perf, Transfer};
+use amqp_model::{Attach, DeliveryState, Item};
 use amqp_session::{FlowState, Window};
 use book_model::{Act, LinkKey, RowNumber};
 use bytes::Bytes;
@@ -65,8 +62,8 @@ pub struct State {
     alloc: Global,
     pub(crate) connections: Connections,
     ready: Ready,
-    clocks: Clocks,
-    peers: Peers,
+    pub(crate) clocks: Clocks,
+    pub(crate) peers: Peers,
     pub(crate) sessions: Sessions,
     pub(crate) messages: Messages,
 }
@@ -294,97 +291,6 @@ impl State {
         };
         self.connections.put(conn, item)?;
         note(&mut self.ready, &self.connections, conn)?;
-        Ok(())
-    }
-
-    /// Notes an item that goes into the outbox of a connection in the tables by which items are answered. Transfers,
-    /// dispositions and flows are three items of each message: only the tables that they change are told of them.
-    fn note_put(&mut self, conn: u64, item: &Item) -> Result<(), AllocError>
-        ensures found { OnOk result ((t : List Entry) → TablesFind self.old t → TablesFind self.new (Out conn item.now ∷ t)) }
-        ensures connections { self.new.connections ≡ self.old.connections }
-        ensures ready { self.new.ready ≡ self.old.ready }
-    {
-        match item {
-            Item::Frame {
-                channel,
-                perf,
-                payload,
-                ..
-            } => match perf {
-                Perf::Transfer(transfer) => self.note_transfer(conn, *channel, transfer, payload)?,
-                Perf::Disposition(disposition) => self.note_disposition(
-                    conn,
-                    *channel,
-                    disposition,
-                )?,
-                Perf::Flow(flow) => self.note_flow(conn, *channel, flow)?,
-                _ => self.note_other(conn, item)?,
-            },
-            _ => self.note_other(conn, item)?,
-        }
-        Ok(())
-    }
-
-    /// The router's transfer with this payload, on its channel `own`.
-    fn note_transfer(
-        &mut self,
-        conn: u64,
-        own: u16,
-        transfer: &Transfer,
-        payload: &Bytes,
-    ) -> Result<(), AllocError>
-        ensures found { OnOk result ((t : List Entry) (sasl : Bool) → TablesFind self.old t
-            → TablesFind self.new (Out conn (item.Frame sasl own (perf.Transfer transfer.now) payload.now) ∷ t)) }
-        ensures connections { self.new.connections ≡ self.old.connections }
-        ensures ready { self.new.ready ≡ self.old.ready }
-    {
-        self.clocks.write(conn)?;
-        self.messages.put_transfer(conn, own, transfer, payload)?;
-        self.sessions.put_transfer(conn, own);
-        Ok(())
-    }
-
-    /// The router's disposition, on its channel `own`.
-    fn note_disposition(
-        &mut self,
-        conn: u64,
-        own: u16,
-        disposition: &Disposition,
-    ) -> Result<(), AllocError>
-        ensures found { OnOk result ((t : List Entry) (sasl : Bool) (payload : List ℕ) → TablesFind self.old t
-            → TablesFind self.new (Out conn (item.Frame sasl own (perf.Disposition disposition.now) payload) ∷ t)) }
-        ensures connections { self.new.connections ≡ self.old.connections }
-        ensures ready { self.new.ready ≡ self.old.ready }
-    {
-        self.clocks.write(conn)?;
-        self.messages.put_disposition(conn, own, disposition)?;
-        Ok(())
-    }
-
-    /// The router's flow, on its channel `own`.
-    fn note_flow(&mut self, conn: u64, own: u16, flow: &Flow) -> Result<(), AllocError>
-        ensures found { OnOk result ((t : List Entry) (sasl : Bool) (payload : List ℕ) → TablesFind self.old t
-            → TablesFind self.new (Out conn (item.Frame sasl own (perf.Flow flow.now) payload) ∷ t)) }
-        ensures connections { self.new.connections ≡ self.old.connections }
-        ensures ready { self.new.ready ≡ self.old.ready }
-    {
-        self.clocks.write(conn)?;
-        self.messages.put_flow(conn, own, flow)?;
-        self.sessions.put_flow(conn, own, flow)?;
-        Ok(())
-    }
-
-    /// Any item of the router.
-    fn note_other(&mut self, conn: u64, item: &Item) -> Result<(), AllocError>
-        ensures found { OnOk result ((t : List Entry) → TablesFind self.old t → TablesFind self.new (Out conn item.now ∷ t)) }
-        ensures connections { self.new.connections ≡ self.old.connections }
-        ensures ready { self.new.ready ≡ self.old.ready }
-    {
-        self.clocks.put(conn, item)?;
-        let key = key_by(&self.peers, conn, item)?;
-        self.peers.put(conn, item);
-        self.messages.put(conn, item, key)?;
-        self.sessions.put(conn, item)?;
         Ok(())
     }
 
@@ -753,26 +659,6 @@ fn told_by(window: Option<Window>) -> Option<FlowState>
 {
     let mut window = window?;
     Some(window.flow_state(SESSION_WINDOW))
-}
-
-/// The key that the table of links needs for an outgoing item: that of an attach.
-fn key_by(peers: &Peers, conn: u64, item: &Item) -> Result<Option<LinkKey>, AllocError>
-    ensures { IfOk result (λ key. (t : List Entry) → PeersFit peers.now t → key ≡ key_by t conn item.now) }
-{
-    match item {
-        Item::Frame { perf, .. } => key_in(peers, conn, perf),
-        _ => Ok(None),
-    }
-}
-
-/// The key that the table of links needs for a performative.
-fn key_in(peers: &Peers, conn: u64, perf: &Perf) -> Result<Option<LinkKey>, AllocError>
-    ensures { IfOk result (λ key. (t : List Entry) → PeersFit peers.now t → key ≡ key_in t conn perf.now) }
-{
-    match perf {
-        Perf::Attach(attach) => Ok(Some(peers.key_of(conn, attach.as_ref())?)),
-        _ => Ok(None),
-    }
 }
 
 /// The heartbeats that are due at a moment on these connections, by connection number.
