@@ -34,6 +34,8 @@ pub record Meaning (M : Type 0) : Type 1 where
   pub failures : M → ℕ
   -- its journal reads as this book, and whatever a crash leaves now opens to it
   pub keeps : M → BookView → Type 0
+  -- its files keep this book, and the batches that are held lead from it to the router's own
+  pub holds : M → BookView → Type 0
   -- whatever a crash leaves now opens to a book with this property
   pub leaves : M → (BookView → Type 0) → Type 0
   -- whatever a crash leaves now keeps something with this property
@@ -48,6 +50,15 @@ pub record Meaning (M : Type 0) : Type 1 where
   pub book : Trace → BookView
   -- that book after the acts of the event that comes next
   pub next_book : Trace → Event → BookView
+  -- these go together: a journal that keeps its book holds nothing that leads elsewhere; a crash leaves the book of the files; and what a crash leaves has
+  -- each property that follows
+  pub kept_is_held : (router : M) (b : BookView) → keeps router b → holds router b
+  pub held_leaves : (router : M) (b : BookView) → holds router b → leaves router (λ c. c ≡ b)
+  pub leaves_weaker : (router : M) (P Q : BookView → Type 0) → ((b : BookView) → P b → Q b) → leaves router P → leaves router Q
+
+-- one of two books
+abbrev pub EitherOf : BookView → BookView → BookView → Type 0
+EitherOf a b c = (c ≡ a) ⊎ (c ≡ b)
 
 -- the book that a trace leaves, or that book after the acts of the event that comes next
 abbrev pub BookAt : {M : Type 0} → Meaning M → Trace → Event → BookView → Type 0

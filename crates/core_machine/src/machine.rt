@@ -4,7 +4,7 @@ ghost use Rattle.book_model.specs.Book.{BookView};
 ghost use Rattle.router_trace.specs.Trace.{Trace, Took, step_of};
 ghost use Rattle.router_trace.specs.Connection.{conn as known, is_ready, is_live};
 ghost use Rattle.core_machine.specs.Counting.{with_event, with_batch};
-ghost use Rattle.core_machine.specs.Meaning.{Meaning, BookAt, KeptAt, IsBatchOf, IsTakenOf, IsLeast};
+ghost use Rattle.core_machine.specs.Meaning.{Meaning, BookAt, EitherOf, KeptAt, IsBatchOf, IsTakenOf, IsLeast};
 ghost use Rattle.core_machine.specs.Moves.{waiting_of};
 ghost use Rattle.core_machine.specs.Turns.{declines, is_started};
 ghost use Rattle.core_machine.specs.declared.fault.CoreFault.TheVariants.{Disk as DiskFailed, Memory, Failed, NoConnection};
@@ -69,6 +69,76 @@ pub trait Machine: Drop {
         // The disk failed meanwhile exactly where `Disk` is answered.
         ensures cause { IfErr result (λ f. f ≡ DiskFailed → meaning.failures self.old < meaning.failures self.new) }
         ensures no_other { (IsErrOf result DiskFailed → ⊥) → meaning.failures self.new ≡ meaning.failures self.old };
+
+    /// Handles an event as `handle` does, but holds its batch, behind those that are held already: `write_held` writes it. Where a checkpoint is due before the
+    /// batch, what is held is written first, and then the checkpoint is made; nothing else of the disk is asked for.
+    fn hold(&mut self, event: Event) -> Result<Done, CoreFault>
+        // The trace continues with the event and its replies.
+        ensures fits { OnOk result ((t : Trace) → meaning.fits self.old t → meaning.fits self.new (meaning.next (meaning.id self.old) t (step_of event))) }
+        ensures taken { OnOk result ((t : Trace) → meaning.fits self.old t → declines t event ≡ false) }
+        ensures started { OnOk result ((t : Trace) → meaning.fits self.old t → is_started (meaning.next (meaning.id self.old) t (step_of event)) ≡ true) }
+        ensures works { OnOk result (meaning.is_failed self.new ≡ false) }
+        ensures named { meaning.id self.new ≡ meaning.id self.old }
+
+        // Its journal has one batch more, or none. Its files keep the book that they kept, or, after a checkpoint, the book before the event. Whatever is
+        // answered, a crash leaves one of the two.
+        ensures batches { OnOk result ((t : Trace) → meaning.fits self.old t
+            → (meaning.batches self.new ≡ meaning.batches self.old) ⊎ (meaning.batches self.new ≡ meaning.batches self.old + 1)) }
+        ensures holds { OnOk result ((t : Trace) (b : BookView) → meaning.fits self.old t → meaning.holds self.old b
+            → meaning.holds self.new b ⊎ meaning.holds self.new (meaning.book t)) }
+        ensures leaves { (t : Trace) (b : BookView) → meaning.fits self.old t → meaning.holds self.old b
+            → meaning.leaves self.new (EitherOf b (meaning.book t)) }
+
+        // Its batch has the event's acts; where there are none, nothing is held for it.
+        ensures written { IfOk result (λ done. (t : Trace) → meaning.fits self.old t → IfSome done.journal (λ batch. batch.1.items ≡ meaning.acts t event)) }
+        ensures silent { IfOk result (λ done. (t : Trace) → meaning.fits self.old t → IfNone done.journal (meaning.acts t event ≡ [])) }
+
+        // Whether the event found the journal full.
+        ensures full { IfOk result (λ done. (t : Trace) → meaning.fits self.old t → done.full ≡ meaning.finds_full t event) }
+
+        // One more event is counted exactly if the call answers Ok.
+        ensures counted { OnOk result (meaning.counts self.new ≡ with_event event (meaning.counts self.old)) }
+        ensures uncounted { OnErr result (meaning.counts self.new ≡ meaning.counts self.old) }
+
+        // Which fault occurs, and what it leaves.
+        ensures refused { IfErr result (λ f. f ≡ NoConnection → (self.new ≡ self.old) × ((t : Trace) → meaning.fits self.old t → declines t event ≡ true)) }
+        ensures refuses { (t : Trace) → meaning.fits self.old t → meaning.is_failed self.old ≡ false → declines t event ≡ true → result ≡ Err NoConnection }
+        ensures failed { meaning.is_failed self.old ≡ true → result ≡ Err Failed }
+        ensures unchanged { IfErr result (λ f. f ≡ Failed → (self.new ≡ self.old) × (meaning.is_failed self.old ≡ true)) }
+        ensures memory { IfErr result (λ f. f ≡ Memory → meaning.is_failed self.new ≡ true) }
+        ensures disk { IfErr result (λ f. f ≡ DiskFailed → meaning.is_failed self.new ≡ true) }
+
+        // The disk failed meanwhile exactly where `Disk` is answered.
+        ensures cause { IfErr result (λ f. f ≡ DiskFailed → meaning.failures self.old < meaning.failures self.new) }
+        ensures no_other { (IsErrOf result DiskFailed → ⊥) → meaning.failures self.new ≡ meaning.failures self.old };
+
+    /// Writes the batches that are held, by the calls of one append: all of them stand then, and nothing is held. Where nothing is held, nothing is done. It answers
+    /// `Failed` exactly if it is failed, and changes nothing then.
+    fn write_held(&mut self) -> Result<(), CoreFault>
+        // It is the same router, whose journal keeps its book. Whatever is answered, a crash leaves the book that the files kept, or the router's own.
+        ensures fits { OnOk result ((t : Trace) → meaning.fits self.old t → meaning.fits self.new t) }
+        ensures works { OnOk result (meaning.is_failed self.new ≡ false) }
+        ensures named { meaning.id self.new ≡ meaning.id self.old }
+        ensures batches { OnOk result (meaning.batches self.new ≡ meaning.batches self.old) }
+        ensures keeps { OnOk result ((t : Trace) (b : BookView) → meaning.fits self.old t → meaning.holds self.old b → meaning.keeps self.new (meaning.book t)) }
+        ensures leaves { (t : Trace) (b : BookView) → meaning.fits self.old t → meaning.holds self.old b
+            → meaning.leaves self.new (EitherOf b (meaning.book t)) }
+        ensures counts { meaning.counts self.new ≡ meaning.counts self.old }
+
+        // Which fault occurs, and what it leaves.
+        ensures taken { IfErr result (λ f. f ≡ NoConnection → ⊥) }
+        ensures failed { meaning.is_failed self.old ≡ true → result ≡ Err Failed }
+        ensures unchanged { IfErr result (λ f. f ≡ Failed → (self.new ≡ self.old) × (meaning.is_failed self.old ≡ true)) }
+        ensures memory { IfErr result (λ f. f ≡ Memory → meaning.is_failed self.new ≡ true) }
+        ensures disk { IfErr result (λ f. f ≡ DiskFailed → meaning.is_failed self.new ≡ true) }
+
+        // The disk failed meanwhile exactly where `Disk` is answered.
+        ensures cause { IfErr result (λ f. f ≡ DiskFailed → meaning.failures self.old < meaning.failures self.new) }
+        ensures no_other { (IsErrOf result DiskFailed → ⊥) → meaning.failures self.new ≡ meaning.failures self.old };
+
+    /// How many bytes of batches are held.
+    fn held(&self) -> usize
+        ensures { (t : Trace) (b : BookView) → result ≡ 0 → meaning.fits self.now t → meaning.holds self.now b → meaning.keeps self.now (meaning.book t) };
 
     /// Takes up to `most` items from the outbox of a connection, in order: for [`take`], which makes a batch of them. It answers `NoConnection` exactly if the connection is unknown, and
     /// `Failed` exactly if it is failed; both change nothing. After `Memory` it is failed.

@@ -1,12 +1,15 @@
-use Rattle.std.proofs.Common.{◌∙◌, ◌++◌, ap, drop, ℕ}
+use Rattle.std.proofs.Common.{rules, ◌∙◌, ◌++◌, ap, drop, ℕ}
 use Rattle.std.specs.Prelude.{◌==◌, map, option_map, unwrap_or}
 use Rattle.std.specs.Ordering.{nat_cmp}
 use Rattle.std.specs.BTreeMap.{get}
 use Rattle.router_trace.specs.Connection.{conn as known}
 use Rattle.core_machine.specs.Moves.{waiting_of}
 use Rattle.core_player.specs.Entries.{out_entry}
-use Rattle.core_player.proofs.Walking.{unwrap_if, walk_added, walk_goes}
+use Rattle.core_player.proofs.Walking.{unwrap_if, walk_added, walk_begins, walk_goes}
 use Rattle.core_player.proofs.recorder.add_outs.Goals as goal
+
+pub loop-turn-init : goal.loop-turn-init
+loop-turn-init g c = λ t f. walk_begins _ t _ _ _ (c.ready-next.ensures t f) (λ k. search rules)
 
 pub returns-in_default-clause-added : goal.returns-in_default-clause-added
 returns-in_default-clause-added g c = λ t f. let w = c.loop-turn.invariant t f in walk_added _ t _ _ _ (rw c.in_default.is at w)
