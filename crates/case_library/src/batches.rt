@@ -41,6 +41,19 @@ impl<T: Twin> Appends for twin_journal::Journal<T> {
     }
 }
 
+/// A journal that holds the batches that are appended to it, until they are written together.
+#[derive(Drop)]
+pub struct Holding<T: Twin> {
+    /// The journal.
+    pub journal: twin_journal::Journal<T>,
+}
+
+impl<T: Twin> Appends for Holding<T> {
+    fn append(&mut self, book: &Book, acts: &[Act]) -> Result<u64, JournalFault> {
+        self.journal.hold(book, acts)
+    }
+}
+
 /// The outcome of appending a batch.
 #[derive(Clone, Copy)]
 enum Outcome {

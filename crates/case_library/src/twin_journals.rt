@@ -1,7 +1,7 @@
 //! Questions on journals on two files: what batches, checkpoints, stops and faults leave, and what is listed.
 ghost use Rattle.std.specs.Prelude.{◌≡◌, IfOk};
 
-use crate::batches::append_batches;
+use crate::batches::{Appends, Holding, append_batches};
 use crate::disks::fault_text;
 use crate::journals::why_not;
 use book_core::Book;
@@ -10,7 +10,7 @@ use case_files::{Case, CaseFault, bytes_of, digits_of, number_of};
 use disk_core::{CrashTwin, FuseTwin, MemTwin, Side, Twin};
 use std::alloc::Global;
 use std::fmt::Write;
-use twin_journal::{Journal, Listing, format, list};
+use twin_journal::{Journal, JournalFault, Listing, format, list};
 
 /// Two files in memory that can be stopped.
 pub type StopTwin = FuseTwin<MemTwin>;
@@ -26,6 +26,8 @@ enum Question {
     Open,
     /// To open the journal on them, and append batches.
     Append,
+    /// To open the journal on them, hold batches, and write them together.
+    Hold,
     /// To open the journal on them, and make a checkpoint.
     Checkpoint,
     /// A stop.
@@ -43,6 +45,7 @@ fn question_of(case: &Case<'_>) -> Result<Question, CaseFault> {
         "format" => Ok(Question::Format),
         "open" => Ok(Question::Open),
         "append" => Ok(Question::Append),
+        "hold" => Ok(Question::Hold),
         "checkpoint" => Ok(Question::Checkpoint),
         "crash" => Ok(Question::Crash),
         "list" => Ok(Question::List),
@@ -66,6 +69,7 @@ pub fn answer(
         Question::Format => formatted(alloc, scene),
         Question::Open => opened(alloc, scene),
         Question::Append => appended(alloc, scene, case),
+        Question::Hold => held(alloc, scene, case),
         Question::Checkpoint => renewed(alloc, scene, case.words),
         Question::Crash => crashed(alloc, scene, case.words),
         Question::List => listed(alloc, scene),
@@ -196,10 +200,42 @@ fn appended(
     }
 }
 
+/// Opens the journal, holds batches, and then writes them together; the words say after how many calls each call on the twin
+/// fails. Gives the number of each batch, or why it isn't held, which ends it; and after that why they aren't written, if they
+/// aren't.
+fn held(alloc: Global, scene: &mut Option<StopTwin>, case: &Case<'_>) -> Result<String, CaseFault> {
+    let text = case.lines_text(alloc)?;
+    let calls = calls_of(case.words)?;
+    match Journal::open(alloc, taken(scene)?) {
+        Ok((mut journal, mut book)) => {
+            if let Some(calls) = calls {
+                journal.fuse(calls);
+            }
+            let mut holding = Holding { journal };
+            let lines = append_text(alloc, &mut holding, &mut book, text.as_str());
+            drop(book);
+            let Holding { mut journal } = holding;
+            let written = journal.write_held();
+            set(scene, journal.into_twin());
+            with_fault(lines?, written)
+        }
+        Err(fault) => why_not(alloc, fault),
+    }
+}
+
+/// Lines, and a last one for a fault.
+fn with_fault(lines: String, written: Result<(), JournalFault>) -> Result<String, CaseFault> {
+    let mut lines = lines;
+    if let Err(fault) = written {
+        writeln!(lines, "{fault}")?;
+    }
+    Ok(lines)
+}
+
 /// Appends the batches of a text to a journal of this book.
-fn append_text(
+fn append_text<J: Appends>(
     alloc: Global,
-    journal: &mut Journal<StopTwin>,
+    journal: &mut J,
     book: &mut Book,
     text: &str,
 ) -> Result<String, CaseFault> {

@@ -1,11 +1,12 @@
 pub mod Active
-pub mod Appended
+pub mod Ahead
 pub mod Beginnings
 pub mod Checked
 pub mod Decided
 pub mod Firsts
 pub mod Found
 pub mod Fulls
+pub mod Grouped
 pub mod Idle
 pub mod Keeping
 pub mod Kept

@@ -1,5 +1,5 @@
 -- The figures of a journal, and what they say of its two files.
-use Rattle.std.specs.Prelude.{◌≡◌, ◌≢◌, ℕ, ◌+◌, Bool, true, false, if◌then◌else◌, List, [], ◌∷◌, ◌++◌, length}
+use Rattle.std.specs.Prelude.{◌≡◌, ◌≢◌, ℕ, ◌+◌, Bool, true, false, List, [], ◌∷◌, ◌++◌, length}
 use Rattle.disk_core.specs.Disk.{Only}
 use Rattle.disk_core.specs.Twin.{other, Contents}
 use Rattle.book_model.specs.declared.act.Act.{Act}
@@ -57,15 +57,3 @@ pub record IsRenewed (figures next : Figures) (stamp : List ℕ) (book : BookVie
   pub is_place : next.place ≡ 9 + length stamp
   pub last : next.last ≡ figures.last
   pub idle : next.idle_open ≡ true
-
--- With one more batch of these acts: behind the batches that were there, or, after a checkpoint of the book that they
--- leave, alone.
-abbrev pub IsAdded : Bool → Figures → Contents → (Contents → Type 0) → List ℕ → BookView → List (List Act) → BookView → List Act → Type 0
-IsAdded false figures seen may_leave stamp start bs book acts = IsAt figures seen may_leave stamp start (bs ++ acts ∷ [])
-IsAdded true figures seen may_leave stamp start bs book acts = (renewed : List ℕ) × IsAt figures seen may_leave renewed book (acts ∷ [])
-
--- with one more batch, after a checkpoint or not
-pub record IsAppended (old figures : Figures) (seen : Contents) (may_leave : Contents → Type 0) (stamp : List ℕ) (start : BookView) (bs : List (List Act)) (book : BookView) (acts : List Act) : Type 0 where
-  pub due : Bool
-  pub added : IsAdded due figures seen may_leave stamp start bs book acts
-  pub base : figures.base ≡ (if due then old.last else old.base)

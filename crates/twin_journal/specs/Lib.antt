@@ -1,9 +1,11 @@
 pub mod Checkpoints
 pub mod Figures
 pub mod Format
+pub mod Held
 pub mod Holding
 pub mod Journal
 pub mod Judging
+pub mod Keeping
 pub mod Listed
 pub mod Reading
 pub mod Room

@@ -3,19 +3,21 @@ ghost use Rattle.std.specs.Prelude.{◌≡◌, ◌≢◌, ◌⊎◌, ◌↔◌, 
 ghost use Rattle.disk_core.specs.Disk.{Elapses, LeavesOnly, NoMore};
 ghost use Rattle.book_model.specs.declared.act.Act.{Act as AnAct};
 ghost use Rattle.book_model.specs.Book.{BookView, first_fault, effects};
-ghost use Rattle.journal_codec.specs.Batches.{HaveOutcomes, book_after};
+ghost use Rattle.journal_codec.specs.Batches.{HaveOutcomes, IsBatch, book_after};
 ghost use Rattle.journal_codec.specs.Format.{acts_bytes};
+ghost use Rattle.gate_journal.specs.Ordered.{IsOrdered};
 ghost use Rattle.gate_journal.specs.Reserve.{reserve};
-ghost use Rattle.twin_journal.specs.Holding.{BeforeOrAfter, TwinHolds, OpensTo};
-ghost use Rattle.twin_journal.specs.Journal.{Keeps, KeepsBook, SuitsBook, twin_of, base_of, batch_count, has_failed, is_due_in};
+ghost use Rattle.twin_journal.specs.Held.{IsAhead};
+ghost use Rattle.twin_journal.specs.Holding.{BeforeOrAfter, HoldsAt, HoldsUpTo, TwinHolds, OpensTo, last_of};
+ghost use Rattle.twin_journal.specs.Journal.{Holds, HoldsBook, Keeps, KeepsBook, SuitsBook, twin_of, base_of, batch_count, written_count, has_failed, is_due_in};
 ghost use Rattle.twin_journal.specs.Judging.{Explains};
-ghost use Rattle.twin_journal.specs.Room.{IsFull, room};
+ghost use Rattle.twin_journal.specs.Room.{IsFull, Spells, Suits, room};
 
-use crate::added::append_batch;
 use crate::figures::{Figures, Needs};
+use crate::group::{make_room, write_group};
+use crate::held::Held;
 use crate::opened::scan;
-use crate::plan::needs_after;
-use crate::renew::renew;
+use crate::plan::{Plan, needs_after, plan_batch};
 use crate::room::{JOURNAL_LIMIT, cost_of, needs_of};
 use crate::whole::read_active;
 use book_core::Book;
@@ -24,12 +26,14 @@ use disk_core::{CrashTwin, Twin};
 use gate_journal::{JournalFault, OpenFault};
 use std::alloc::{AllocError, Global};
 
-/// A journal on two files.
+/// A journal on two files. Batches are appended one by one (`append`), or held (`hold`) and then written together (`write_held`): the files are the same
+/// then, byte by byte, and a crash meanwhile leaves all of those that were held, or none.
 #[derive(Drop)]
 pub struct Journal<T: Twin> {
     alloc: Global,
     twin: T,
     figures: Figures,
+    held: Held,
     needs: Needs,
     failed: bool,
 }
@@ -54,12 +58,14 @@ impl<T: Twin> Journal<T> {
         let active = read_active(alloc, &mut twin)?;
         let (figures, book) = scan(alloc, &active)?;
         let needs = needs_of(alloc, &book)?;
+        let held = Held::none(alloc, figures)?;
         let failed = false;
         Ok((
             Journal {
                 alloc,
                 twin,
                 figures,
+                held,
                 needs,
                 failed,
             },
@@ -110,7 +116,62 @@ impl<T: Twin> Journal<T> {
         ensures untouched { SuitsBook self.old book.now → IsFull book.now acts.now → twin_of self.new ≡ twin_of self.old }
         ensures unchanged { IsErrOf result JournalFault.Full → self.new ≡ self.old }
         ensures still_failed { IsErrOf result JournalFault.Failed → self.new ≡ self.old }
-        ensures figures { OnErr result (self.new ≡ record self.old { twin = twin_of self.new; failed = has_failed self.new }) }
+        ensures same_count { written_count self.old ≡ batch_count self.old → OnErr result (batch_count self.new ≡ batch_count self.old) }
+
+        // The device failed meanwhile exactly where `Disk` is answered.
+        ensures disk { IsErrOf result JournalFault.Disk → T.failures (twin_of self.old) < T.failures (twin_of self.new) }
+        ensures no_other { (IsErrOf result JournalFault.Disk → ⊥) → T.failures (twin_of self.new) ≡ T.failures (twin_of self.old) }
+        ensures failed { IsErrOf result JournalFault.Failed ↔ (has_failed self.old ≡ true) }
+        ensures fails_at_disk { IsErrOf result JournalFault.Disk → has_failed self.new ≡ true }
+        ensures fails_at_memory { IsErrOf result JournalFault.Memory → has_failed self.new ≡ true }
+        ensures works { OnOk result (has_failed self.new ≡ false) }
+    {
+        let number = self.hold(book, acts)?;
+        self.write_held()?;
+        Ok(number)
+    }
+
+    /// Holds a batch for the journal of this book, behind those that are held already, and gives its number. The acts are as for `append`. The files are left
+    /// alone, unless a checkpoint is due before the batch: then what is held is written first, and the checkpoint is made.
+    ///
+    /// At `Full` nothing is changed. At `Disk` and `Memory` the journal answers `Failed` from then on, and has to be opened again. At `Failed` nothing is
+    /// changed.
+    pub fn hold(&mut self, book: &Book, acts: &[Act]) -> Result<u64, JournalFault>
+        requires some { acts.now ≢ [] }
+        requires small { length (acts_bytes acts.now) ≤ 4194304 }
+        requires outcomes { HaveOutcomes acts.now }
+        requires applies { first_fault book.now acts.now ≡ None }
+
+        // The batch is held behind those that were, or alone behind a checkpoint of the book that they leave.
+        ensures done { OnOk result ((base : ℕ) (start : BookView) (bs held : List (List AnAct))
+            → Holds T.seen T.may_leave self.old base start bs held → book_after start (bs ++ held) ≡ book.now
+            → Holds T.seen T.may_leave self.new base start bs (held ++ acts.now ∷ [])
+            ⊎ Holds T.seen T.may_leave self.new (batch_count self.old) book.now [] (acts.now ∷ [])) }
+        ensures number { IfOk result (λ n. n ≡ batch_count self.old + 1) }
+        ensures count { OnOk result (batch_count self.new ≡ batch_count self.old + 1) }
+        ensures base { OnOk result (SuitsBook self.old book.now → base_of self.new
+            ≡ (if is_due_in self.old acts.now (reserve (effects book.now acts.now)) then batch_count self.old else base_of self.old)) }
+        ensures written { OnOk result (written_count self.new ≡ written_count self.old ⊎ written_count self.new ≡ batch_count self.old) }
+        ensures suits { OnOk result (SuitsBook self.old book.now → SuitsBook self.new (effects book.now acts.now)) }
+
+        // No call of the files, where no checkpoint is due.
+        ensures still { SuitsBook self.old book.now → is_due_in self.old acts.now (reserve (effects book.now acts.now)) ≡ false
+            → twin_of self.new ≡ twin_of self.old }
+
+        // A crash at any moment of the call leaves the book that the files keep, or the one before the batch, with as many batches.
+        ensures any_moment { (kept : BookView) → HoldsBook T.seen T.may_leave self.old kept book.now
+            → LeavesOnly T.moment T.left_since (twin_of self.old) (twin_of self.new)
+            (λ c. HoldsAt c kept (written_count self.old) ⊎ HoldsAt c book.now (batch_count self.old)) }
+
+        // `Full` comes exactly where the batch costs more than nothing and more than the room of the book.
+        ensures full { IsErrOf result JournalFault.Full → SuitsBook self.old book.now → IsFull book.now acts.now }
+        ensures room { OnOk result (SuitsBook self.old book.now → IsFull book.now acts.now → ⊥) }
+        ensures room_at_fault { IsErrOf result JournalFault.Disk → SuitsBook self.old book.now → IsFull book.now acts.now → ⊥ }
+        ensures untouched { SuitsBook self.old book.now → IsFull book.now acts.now → twin_of self.new ≡ twin_of self.old }
+        ensures unchanged { IsErrOf result JournalFault.Full → self.new ≡ self.old }
+        ensures still_failed { IsErrOf result JournalFault.Failed → self.new ≡ self.old }
+        ensures same_count { OnErr result (batch_count self.new ≡ batch_count self.old) }
+        ensures same_written { OnErr result (written_count self.new ≡ written_count self.old) }
 
         // The device failed meanwhile exactly where `Disk` is answered.
         ensures disk { IsErrOf result JournalFault.Disk → T.failures (twin_of self.old) < T.failures (twin_of self.new) }
@@ -123,19 +184,17 @@ impl<T: Twin> Journal<T> {
         if self.failed {
             return Err(JournalFault::Failed);
         }
-        match append_batch(
-            self.alloc,
-            &mut self.twin,
-            (self.figures, self.needs),
-            book,
-            acts,
-        ) {
-            Ok((figures, needs)) => {
-                self.figures = figures;
-                self.needs = needs;
-                Ok(figures.last)
+        let plan = match plan_batch(self.alloc, self.held.ahead, self.needs, book, acts) {
+            Ok(plan) => plan,
+            Err(JournalFault::Full) => return Err(JournalFault::Full),
+            Err(fault) => {
+                self.failed = true;
+                return Err(fault);
             }
-            Err(JournalFault::Full) => Err(JournalFault::Full),
+        };
+        book.is_sound();
+        match self.hold_planned(book, &plan) {
+            Ok(()) => Ok(self.held.ahead.last),
             Err(fault) => {
                 self.failed = true;
                 Err(fault)
@@ -143,8 +202,116 @@ impl<T: Twin> Journal<T> {
         }
     }
 
-    /// Makes a checkpoint: the idle side gets the book that the batches leave, and is the active side from then on. A
-    /// journal makes them by itself as well, as it grows.
+    /// Holds a planned batch, after the checkpoint that is due, if it is.
+    fn hold_planned(&mut self, book: &Book, plan: &Plan) -> Result<(), JournalFault>
+        ensures behind { OnOk result (plan.now.due ≡ false → (stamp : List ℕ) (start : BookView) (bs lists : List (List AnAct)) (acts : List AnAct)
+            → IsAhead self.old.figures self.old.held (T.seen (twin_of self.old)) (T.may_leave (twin_of self.old)) stamp start bs lists
+            → book_after start (bs ++ lists) ≡ book.now → Spells plan.now.batch acts → IsBatch acts → first_fault book.now acts ≡ None
+            → IsAhead self.new.figures self.new.held (T.seen (twin_of self.new)) (T.may_leave (twin_of self.new)) stamp start bs (lists ++ acts ∷ [])) }
+        ensures alone { OnOk result (plan.now.due ≡ true → (stamp : List ℕ) (start : BookView) (bs lists : List (List AnAct)) (acts : List AnAct)
+            → IsAhead self.old.figures self.old.held (T.seen (twin_of self.old)) (T.may_leave (twin_of self.old)) stamp start bs lists
+            → book_after start (bs ++ lists) ≡ book.now → Spells plan.now.batch acts → IsBatch acts → first_fault book.now acts ≡ None
+            → (renewed : List ℕ)
+            × IsAhead self.new.figures self.new.held (T.seen (twin_of self.new)) (T.may_leave (twin_of self.new)) renewed book.now [] (acts ∷ [])) }
+        ensures suits { OnOk result ((acts : List AnAct) → IsOrdered book.now → Spells plan.now.batch acts
+            → first_fault book.now acts ≡ None → Suits plan.now.after (effects book.now acts)
+            → SuitsBook self.new (effects book.now acts)) }
+        ensures base { OnOk result (base_of self.new ≡ (if plan.now.due then batch_count self.old else base_of self.old)) }
+        ensures last { OnOk result (batch_count self.new ≡ batch_count self.old + 1) }
+        ensures written { OnOk result (written_count self.new ≡ (if plan.now.due then batch_count self.old else written_count self.old)) }
+        ensures same_count { OnErr result (batch_count self.new ≡ batch_count self.old) }
+        ensures same_written { OnErr result (written_count self.new ≡ written_count self.old) }
+        ensures still { plan.now.due ≡ false → twin_of self.new ≡ twin_of self.old }
+        ensures any_moment { (stamp : List ℕ) (start : BookView) (bs lists : List (List AnAct))
+            → IsAhead self.old.figures self.old.held (T.seen (twin_of self.old)) (T.may_leave (twin_of self.old)) stamp start bs lists
+            → book_after start (bs ++ lists) ≡ book.now → LeavesOnly T.moment T.left_since (twin_of self.old) (twin_of self.new)
+            (λ c. HoldsAt c (book_after start bs) (written_count self.old) ⊎ HoldsAt c book.now (batch_count self.old)) }
+        ensures fault { IfErr result (λ f. (f ≡ JournalFault.Disk) ⊎ (f ≡ JournalFault.Memory)) }
+        ensures disk { IsErrOf result JournalFault.Disk → T.failures (twin_of self.old) < T.failures (twin_of self.new) }
+        ensures no_other { (IsErrOf result JournalFault.Disk → ⊥) → T.failures (twin_of self.new) ≡ T.failures (twin_of self.old) }
+        ensures works { has_failed self.new ≡ has_failed self.old }
+    {
+        let figures = make_room(
+            self.alloc,
+            &mut self.twin,
+            self.figures,
+            &self.held,
+            book,
+            plan.due,
+        )?;
+        let Some(needs) = plan.needs(figures.size) else {
+            return Err(JournalFault::Memory);
+        };
+        if plan.due {
+            self.held.clear(figures);
+        }
+        self.held.add(plan.batch.block.as_slice())?;
+        self.figures = figures;
+        self.needs = needs;
+        Ok(())
+    }
+
+    /// Writes the batches that are held, as one group: all of them are durable then, and nothing is held. It takes the four calls of one append; where nothing
+    /// is held, none.
+    ///
+    /// At `Disk` and `Memory` what is held is given up, and the journal answers `Failed` from then on, and has to be opened again. At `Failed` nothing is
+    /// changed.
+    pub fn write_held(&mut self) -> Result<(), JournalFault>
+        ensures done { OnOk result ((base : ℕ) (start : BookView) (bs held : List (List AnAct)) → Holds T.seen T.may_leave self.old base start bs held
+            → Keeps T.seen T.may_leave self.new base start (bs ++ held)) }
+        ensures count { OnOk result (batch_count self.new ≡ batch_count self.old) }
+        ensures base { base_of self.new ≡ base_of self.old }
+        ensures suits { (book : BookView) → SuitsBook self.old book → SuitsBook self.new book }
+
+        // A crash at any moment of the call leaves none of them, or all: the last one is the last batch then.
+        ensures any_moment { (base : ℕ) (start : BookView) (bs held : List (List AnAct)) → Holds T.seen T.may_leave self.old base start bs held
+            → LeavesOnly T.moment T.left_since (twin_of self.old) (twin_of self.new)
+            (λ c. HoldsAt c (book_after start bs) (written_count self.old)
+            ⊎ HoldsUpTo c (book_after start (bs ++ held)) (batch_count self.old) (last_of held)) }
+
+        ensures never_full { IsErrOf result JournalFault.Full → ⊥ }
+        ensures still_failed { IsErrOf result JournalFault.Failed → self.new ≡ self.old }
+        ensures given_up { OnErr result (has_failed self.old ≡ false → batch_count self.new ≡ written_count self.old) }
+
+        // The device failed meanwhile exactly where `Disk` is answered.
+        ensures disk { IsErrOf result JournalFault.Disk → T.failures (twin_of self.old) < T.failures (twin_of self.new) }
+        ensures no_other { (IsErrOf result JournalFault.Disk → ⊥) → T.failures (twin_of self.new) ≡ T.failures (twin_of self.old) }
+        ensures failed { IsErrOf result JournalFault.Failed ↔ (has_failed self.old ≡ true) }
+        ensures fails_at_disk { IsErrOf result JournalFault.Disk → has_failed self.new ≡ true }
+        ensures fails_at_memory { IsErrOf result JournalFault.Memory → has_failed self.new ≡ true }
+        ensures works { OnOk result (has_failed self.new ≡ false) }
+    {
+        if self.failed {
+            return Err(JournalFault::Failed);
+        }
+        match write_group(&mut self.twin, self.figures, &self.held) {
+            Ok(()) => {
+                self.figures = Figures {
+                    place: self.held.ahead.place,
+                    last: self.held.ahead.last,
+                    ..self.figures
+                };
+                self.held.clear(self.figures);
+                Ok(())
+            }
+            Err(fault) => {
+                self.held.clear(self.figures);
+                self.failed = true;
+                Err(JournalFault::from(fault))
+            }
+        }
+    }
+
+    /// How many bytes of batches are held.
+    pub fn held(&self) -> usize
+        ensures { result ≡ 0 → (base : ℕ) (start : BookView) (bs held : List (List AnAct)) → Holds T.seen T.may_leave self.now base start bs held
+            → Keeps T.seen T.may_leave self.now base start (bs ++ held) }
+    {
+        self.held.bytes.len() - 1
+    }
+
+    /// Makes a checkpoint: the idle side gets the book that the batches leave, and is the active side from then on. What is
+    /// held is written first. A journal makes checkpoints by itself as well, as it grows.
     ///
     /// At `Disk` and `Memory` the journal answers `Failed` from then on, and has to be opened again. At `Failed`
     /// nothing is changed.
@@ -181,9 +348,17 @@ impl<T: Twin> Journal<T> {
         if self.failed {
             return Err(JournalFault::Failed);
         }
-        match renew(self.alloc, &mut self.twin, self.figures, book) {
+        match make_room(
+            self.alloc,
+            &mut self.twin,
+            self.figures,
+            &self.held,
+            book,
+            true,
+        ) {
             Ok(figures) => {
                 self.figures = figures;
+                self.held.clear(figures);
                 self.needs.size = figures.size as u64;
                 Ok(())
             }
@@ -225,11 +400,11 @@ impl<T: Twin> Journal<T> {
         Ok(i128::from(JOURNAL_LIMIT) - (used + i128::from(needs.reserve)))
     }
 
-    /// The number of the last batch; 0 where there is none.
+    /// The number of the last batch, those that are held among them; 0 where there is none.
     pub fn batch(&self) -> u64
         ensures { result ≡ batch_count self.now }
     {
-        self.figures.last
+        self.held.ahead.last
     }
 
     /// How many of its batches are no longer in the file: they are in the book of the checkpoint.
@@ -243,7 +418,16 @@ impl<T: Twin> Journal<T> {
     pub fn into_twin(self) -> T
         ensures { result ≡ twin_of self }
     {
-        self.twin
+        let Journal {
+            alloc: _alloc,
+            twin,
+            figures: _figures,
+            held,
+            needs: _needs,
+            failed: _failed,
+        } = self;
+        drop(held);
+        twin
     }
 }
 

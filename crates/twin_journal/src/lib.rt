@@ -3,12 +3,14 @@
 //! after it, and the files stay as long as the book needs. `docs/two_files.md` describes the format.
 #![tactic(auto)]
 
-mod added;
 mod checkpoint;
 mod device;
 mod figures;
 mod fresh;
 mod gate;
+mod group;
+mod held;
+mod holding;
 mod journal;
 pub mod laws;
 mod listing;
