@@ -1,7 +1,8 @@
 -- What a journal says of the book that a call gives it, of the store's book, which is the same.
-use Rattle.std.proofs.Common.{◌≡◌, ◌≢◌, ◌⊎◌, ⊎_elim, ◌∙◌, sym, ap, refl, subst, ℕ, Bool, List, [], ◌∷◌, ◌++◌, None, Result, Ok, Err}
+use Rattle.std.proofs.Common.{◌≡◌, ◌≢◌, ◌⊎◌, inl, inr, ⊎_elim, ◌∙◌, sym, ap, refl, subst, ℕ, Bool, List, [], ◌∷◌, ◌++◌, None, Result, Ok, Err}
 use Rattle.std.specs.Prelude.{if◌then◌else◌, IfOk, IsTrue, ◌↔◌}
 use Rattle.disk_core.specs.Disk.{LeavesOnly}
+use Rattle.disk_core.specs.DiskLaws.{widened}
 use Rattle.disk_core.specs.Twin.{Contents}
 use Rattle.book_model.specs.declared.act.Act.{Act}
 use Rattle.book_model.specs.Book.{BookView, effects, first_fault}
@@ -9,10 +10,12 @@ use Rattle.journal_codec.specs.Batches.{book_after}
 use Rattle.gate_journal.proofs.Fronts.{book_more}
 use Rattle.gate_journal.specs.Reserve.{reserve}
 use Rattle.twin_journal.specs.declared.journal.Journal.{Journal}
-use Rattle.twin_journal.specs.Holding.{BeforeOrAfter}
-use Rattle.twin_journal.specs.Journal.{Keeps, KeepsBook, SuitsBook, is_due_in}
+use Rattle.twin_journal.specs.Holding.{BeforeOrAfter, HoldsAt}
+use Rattle.twin_journal.specs.Journal.{Holds, HoldsBook, Keeps, KeepsBook, SuitsBook, is_due_in}
 use Rattle.twin_journal.specs.Room.{IsFull}
+use Rattle.twin_journal.proofs.Ahead.{book_with, book_with_one}
 use Rattle.twin_journal.proofs.Fulls.{tested_by}
+use Rattle.twin_journal.proofs.Kept.{after_none, counted_opens}
 use Rattle.journal_store.specs.Store.{OpensTo, exceeds}
 use Rattle.journal_store.proofs.Writing.{some_exceed}
 
@@ -56,6 +59,42 @@ module _ (given b : BookView) (acts : List Act) (same : given ≡ b) where
         leaves = is ∙ ap (λ (x : BookView). effects x acts) (sym same) ∙ after_one given acts;
       })
       (done k.base k.start k.batches k.keeps (sym k.leaves ∙ sym same))
+
+  -- at every moment of a hold
+  pub held_moments : {T : Type 0} (moment : T → ℕ) (left_since : T → ℕ → Contents → Type 0) (seen : T → Contents) (may_leave : T → Contents → Type 0) (j : Journal T) (old new : T) (kept : BookView) (written count : ℕ)
+      → ((x : BookView) → HoldsBook seen may_leave j x given → LeavesOnly moment left_since old new (λ c. HoldsAt c x written ⊎ HoldsAt c given count))
+      → HoldsBook seen may_leave j kept b → LeavesOnly moment left_since old new (λ c. OpensTo c kept ⊎ OpensTo c b)
+  held_moments moment left_since seen may_leave j old new kept written count said h =
+      widened moment left_since old new (λ c. HoldsAt c kept written ⊎ HoldsAt c b count) (λ c. OpensTo c kept ⊎ OpensTo c b)
+      (subst (λ (x : BookView). HoldsBook seen may_leave j kept x → LeavesOnly moment left_since old new (λ c. HoldsAt c kept written ⊎ HoldsAt c x count)) same (said kept) h)
+      (λ c. ⊎_elim (λ files. inl (counted_opens c kept written files.0 files.1)) (λ all. inr (counted_opens c b count all.0 all.1)))
+
+  -- after it: the batch is held behind the others, or alone behind a checkpoint
+  pub behind_after : {T : Type 0} (seen : T → Contents) (may_leave : T → Contents → Type 0) (j new : Journal T) (last : ℕ) (after kept : BookView) → after ≡ effects b acts
+      → ((base : ℕ) (start : BookView) (bs held : List (List Act)) → Holds seen may_leave j base start bs held → book_after start (bs ++ held) ≡ given
+      → Holds seen may_leave new base start bs (held ++ acts ∷ []) ⊎ Holds seen may_leave new last given [] (acts ∷ []))
+      → HoldsBook seen may_leave j kept b → HoldsBook seen may_leave new kept after ⊎ HoldsBook seen may_leave new b after
+  behind_after seen may_leave j new last after kept is done h =
+      ⊎_elim
+      (λ more. inl (record {
+        base = h.base;
+        start = h.start;
+        batches = h.batches;
+        held = h.held ++ acts ∷ [];
+        holds = more;
+        kept_is = h.kept_is;
+        leaves = is ∙ book_with h.start b h.batches h.held acts (sym h.leaves);
+      }))
+      (λ alone. inr (record {
+        base = last;
+        start = given;
+        batches = [];
+        held = acts ∷ [];
+        holds = alone;
+        kept_is = sym same ∙ sym (after_none given);
+        leaves = is ∙ ap (λ (x : BookView). effects x acts) (sym same) ∙ book_with_one given acts;
+      }))
+      (done h.base h.start h.batches h.held h.holds (sym h.leaves ∙ sym same))
 
   pub suits_after : {T : Type 0} (j new : Journal T) (after : BookView) → after ≡ effects b acts → (SuitsBook j given → SuitsBook new (effects given acts)) → SuitsBook j b → SuitsBook new after
   suits_after j new after is said suits =

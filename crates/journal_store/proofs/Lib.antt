@@ -13,4 +13,5 @@ pub mod Settled
 pub mod Released
 pub mod Gathered
 pub mod Given
+pub mod Held
 pub mod Events

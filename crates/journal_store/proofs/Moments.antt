@@ -1,10 +1,11 @@
 -- A store whose two files are left alone.
-use Rattle.std.proofs.Common.{◌≡◌, inl, ℕ, List, sym, subst}
+use Rattle.std.proofs.Common.{◌≡◌, ◌∙◌, ap, inl, ℕ, List, sym, subst}
 use Rattle.book_model.specs.declared.act.Act.{Act}
 use Rattle.disk_core.specs.Disk.{LeavesOnly}
 use Rattle.disk_core.specs.DiskLaws.{started}
 use Rattle.disk_core.specs.Twin.{Contents}
 use Rattle.journal_store.specs.declared.store.Store.{Store}
+use Rattle.twin_journal.specs.declared.figures.Figures.{Figures}
 use Rattle.twin_journal.specs.Holding.{BeforeOrAfter, HoldsAt}
 use Rattle.twin_journal.proofs.Kept.{holds_at}
 use Rattle.journal_store.specs.Store.{OpensTo, Stands, twin_of, book_of, count_of}
@@ -29,7 +30,8 @@ left_holds seen may_leave s c stands left =
     let at = stands.keeps.at in
     subst (λ (d : Contents). HoldsAt d (book_of s) (count_of s)) (sym (at.durable c left))
     (holds_at (seen (twin_of s)) s.journal.figures.base (count_of s) stands.start (book_of s) stands.batches
-    (record { side = s.journal.figures.side; epoch = s.journal.figures.epoch; size = s.journal.figures.size; stamp = stands.keeps.stamp; on = at.fits.on }) (sym stands.leaves) at.fits.last)
+    (record { side = s.journal.figures.side; epoch = s.journal.figures.epoch; size = s.journal.figures.size; stamp = stands.keeps.stamp; on = at.fits.on }) (sym stands.leaves)
+    (ap (λ (f : Figures). f.last) stands.keeps.level ∙ at.fits.last))
 
 pub still_held : {T : Type 0} (seen : T → Contents) (may_leave : T → Contents → Type 0) (moment : T → ℕ) (left_since : T → ℕ → Contents → Type 0)
     → ((twin : T) (c : Contents) → left_since twin (moment twin) c → may_leave twin c) → (s : Store T) (acts : List Act) → Stands seen may_leave s

@@ -5,7 +5,7 @@ use Rattle.book_model.specs.declared.act.Act.{Act}
 use Rattle.book_model.specs.Book.{BookView, effects}
 use Rattle.gate_journal.specs.Reserve.{reserve}
 use Rattle.twin_journal.specs.declared.journal.Journal.{Journal}
-use Rattle.twin_journal.specs.Journal.{KeepsBook, SuitsBook, batch_count, base_of as journal_base, is_due_in}
+use Rattle.twin_journal.specs.Journal.{HoldsBook, KeepsBook, SuitsBook, batch_count, base_of as journal_base, is_due_in}
 use Rattle.journal_store.specs.declared.store.Store.{Store}
 -- when two files open to a book, what can be written, and what is too much
 pub use Rattle.twin_journal.specs.Holding.{OpensTo}
@@ -48,10 +48,10 @@ IsSuited s = SuitsBook (journal_of s) (book_of s)
 abbrev pub IsAsBefore : {T : Type 0} → Store T → Store T → Type 0
 IsAsBefore old new = (count_of new ≡ count_of old) × (base_of new ≡ base_of old) × (IsSuited old → IsSuited new)
 
--- the journal has one batch more, of these acts, and knows what the book after them needs, if it was suited
-abbrev pub IsAhead : {T : Type 0} → Store T → List Act → Store T → Type 0
-IsAhead old acts new = (count_of new ≡ count_of old + 1) × (IsSuited old → SuitsBook (journal_of new) (effects (book_of old) acts))
-
 -- The two files of a store keep its book: they hold batches that leave this book, and a crash leaves just that.
 abbrev pub Stands : {T : Type 0} → (T → Contents) → (T → Contents → Type 0) → Store T → Type 0
 Stands seen may_leave s = KeepsBook seen may_leave s.journal s.kept.book
+
+-- Its two files keep one book, a crash leaves just that, and the batches that are held lead from there to its own book.
+abbrev pub StandsBehind : {T : Type 0} → (T → Contents) → (T → Contents → Type 0) → Store T → BookView → Type 0
+StandsBehind seen may_leave s kept = HoldsBook seen may_leave s.journal kept s.kept.book

@@ -2,7 +2,7 @@
 ghost use Rattle.std.specs.Prelude.{◌≡◌, ◌≢◌, ◌⊎◌, ◌+◌, ◌<◌, ◌≤◌, [], List, ℕ, None, false, true, length, IfOk, IfErr, IfSome, IfNone, OnOk, OnErr, IsErrOf};
 ghost use Rattle.disk_core.specs.Disk.{LeavesOnly, NoMore};
 ghost use Rattle.book_model.specs.declared.act.Act.{Act as AnAct};
-ghost use Rattle.book_model.specs.Book.{first_fault, effects};
+ghost use Rattle.book_model.specs.Book.{BookView, first_fault, effects};
 ghost use Rattle.journal_codec.specs.Batches.{HaveOutcomes};
 ghost use Rattle.journal_codec.specs.Format.{acts_bytes};
 ghost use Rattle.twin_journal.specs.Holding.{BeforeOrAfter};
@@ -11,7 +11,7 @@ ghost use Rattle.twin_journal.specs.Judging.{Explains};
 ghost use Rattle.twin_journal.specs.Room.{is_full, room};
 ghost use Rattle.journal_store.specs.Acting.{admission_acts, event_acts};
 ghost use Rattle.journal_store.specs.Lost.{start_acts};
-ghost use Rattle.journal_store.specs.Store.{OpensTo, Stands, Writable, IsSuited, IsAsBefore, IsAhead, journal_of, twin_of, book_of, base_of, count_of, batches_after, base_after, exceeds};
+ghost use Rattle.journal_store.specs.Store.{OpensTo, Stands, StandsBehind, Writable, IsSuited, IsAsBefore, journal_of, twin_of, book_of, base_of, count_of, batches_after, base_after, exceeds};
 
 use crate::acting::TerminusAct;
 use crate::kept_book::KeptBook;
@@ -88,10 +88,8 @@ impl<T: Twin> Store<T> {
         ensures still_failed { IsErrOf result JournalFault.Failed → self.new ≡ self.old }
         ensures unwritten { OnErr result (book_of self.new ≡ book_of self.old) }
 
-        // No Err changes the journal's batches, or what it keeps free, but for one: where memory is refused to the
-        // book, the batch is on the files already.
-        ensures same_at_fault { IfErr result (λ fault. (fault ≡ JournalFault.Memory → ⊥) → IsAsBefore self.old self.new) }
-        ensures at_memory { IsErrOf result JournalFault.Memory → IsAsBefore self.old self.new ⊎ IsAhead self.old acts.now self.new }
+        // The number of batches is as it was after a fault, unless memory is refused: then the batch may stand on the files already.
+        ensures same_count { Stands T.seen T.may_leave self.old → IfErr result (λ f. (f ≡ JournalFault.Memory → ⊥) → count_of self.new ≡ count_of self.old) }
 
         ensures disk { IsErrOf result JournalFault.Disk → T.failures (twin_of self.old) < T.failures (twin_of self.new) }
         ensures no_other { (IsErrOf result JournalFault.Disk → ⊥) → T.failures (twin_of self.new) ≡ T.failures (twin_of self.old) }
@@ -132,9 +130,7 @@ impl<T: Twin> Store<T> {
         ensures untouched { IsSuited self.old → exceeds (book_of self.old) acts.items ≡ true → twin_of self.new ≡ twin_of self.old }
         ensures still_failed { IsErrOf result JournalFault.Failed → self.new ≡ self.old }
         ensures unwritten { OnErr result (book_of self.new ≡ book_of self.old) }
-        ensures same_at_fault { IfErr result (λ fault. (fault ≡ JournalFault.Memory → ⊥) → IsAsBefore self.old self.new) }
-        ensures at_memory { IsErrOf result JournalFault.Memory → IsAsBefore self.old self.new ⊎ IsAhead self.old acts.items self.new }
-
+        ensures same_count { Stands T.seen T.may_leave self.old → IfErr result (λ f. (f ≡ JournalFault.Memory → ⊥) → count_of self.new ≡ count_of self.old) }
         ensures disk { IsErrOf result JournalFault.Disk → T.failures (twin_of self.old) < T.failures (twin_of self.new) }
         ensures no_other { (IsErrOf result JournalFault.Disk → ⊥) → T.failures (twin_of self.new) ≡ T.failures (twin_of self.old) }
         ensures failed { IsErrOf result JournalFault.Failed → has_failed (journal_of self.old) ≡ true }
@@ -151,6 +147,113 @@ impl<T: Twin> Store<T> {
                 Err(fault)
             }
         }
+    }
+
+    /// Does acts to the store as `commit` does, but holds their batch, behind those that are held already, and gives it with its number; where there are none,
+    /// nothing is held. The book has them at once, the files once `write_held` writes them. Faults are as with `write`.
+    pub fn hold(&mut self, acts: Vec<Act>) -> Result<Option<(u64, Vec<Act>)>, JournalFault>
+        requires writable { Writable (book_of self.old) acts.items }
+
+        // The files keep the book that they kept; or, where a checkpoint was due, the book before these acts.
+        ensures behind { OnOk result ((kept : BookView) → StandsBehind T.seen T.may_leave self.old kept
+            → StandsBehind T.seen T.may_leave self.new kept ⊎ StandsBehind T.seen T.may_leave self.new (book_of self.old)) }
+        ensures book { OnOk result (book_of self.new ≡ effects (book_of self.old) acts.items) }
+        ensures written { IfOk result (λ w. IfSome w (λ batch. (batch.0 ≡ batch_count (journal_of self.old) + 1) × (batch.1.items ≡ acts.items))) }
+        ensures some_acts { IfOk result (λ w. IfSome w (λ batch. batch.1.items ≢ [])) }
+        ensures silent { IfOk result (λ w. IfNone w (acts.items ≡ [])) }
+        ensures count { OnOk result (batch_count (journal_of self.new) ≡ batches_after (batch_count (journal_of self.old)) acts.items) }
+
+        // Whatever is answered, a crash at any moment of the call leaves one of these two books.
+        ensures any_moment { (kept : BookView) → StandsBehind T.seen T.may_leave self.old kept
+            → LeavesOnly T.moment T.left_since (twin_of self.old) (twin_of self.new) (λ c. OpensTo c kept ⊎ OpensTo c (book_of self.old)) }
+
+        ensures suits { OnOk result (IsSuited self.old → IsSuited self.new) }
+        ensures base { OnOk result (IsSuited self.old → base_of self.new ≡ base_after self.old acts.items) }
+
+        ensures full { IsErrOf result JournalFault.Full → IsSuited self.old → exceeds (book_of self.old) acts.items ≡ true }
+        ensures room { OnOk result (IsSuited self.old → exceeds (book_of self.old) acts.items ≡ false) }
+        ensures unchanged { IsErrOf result JournalFault.Full → self.new ≡ self.old }
+        ensures still_failed { IsErrOf result JournalFault.Failed → self.new ≡ self.old }
+        ensures unwritten { OnErr result (book_of self.new ≡ book_of self.old) }
+
+        ensures disk { IsErrOf result JournalFault.Disk → T.failures (twin_of self.old) < T.failures (twin_of self.new) }
+        ensures no_other { (IsErrOf result JournalFault.Disk → ⊥) → T.failures (twin_of self.new) ≡ T.failures (twin_of self.old) }
+        ensures failed { IsErrOf result JournalFault.Failed → has_failed (journal_of self.old) ≡ true }
+        ensures works { has_failed (journal_of self.old) ≡ false → OnOk result (has_failed (journal_of self.new) ≡ false) }
+    {
+        if acts.is_empty() {
+            drop(acts);
+            return Ok(None);
+        }
+        match self.hold_batch(&acts) {
+            Ok(number) => Ok(Some((number, acts))),
+            Err(fault) => {
+                drop(acts);
+                Err(fault)
+            }
+        }
+    }
+
+    /// Holds acts as one batch, and does them to the book.
+    fn hold_batch(&mut self, acts: &[Act]) -> Result<u64, JournalFault>
+        requires some { acts.now ≢ [] }
+        requires small { length (acts_bytes acts.now) ≤ 4194304 }
+        requires outcomes { HaveOutcomes acts.now }
+        requires applies { first_fault (book_of self.old) acts.now ≡ None }
+        ensures behind { OnOk result ((kept : BookView) → StandsBehind T.seen T.may_leave self.old kept
+            → StandsBehind T.seen T.may_leave self.new kept ⊎ StandsBehind T.seen T.may_leave self.new (book_of self.old)) }
+        ensures book { OnOk result (book_of self.new ≡ effects (book_of self.old) acts.now) }
+        ensures number { IfOk result (λ n. n ≡ batch_count (journal_of self.old) + 1) }
+        ensures count { OnOk result (batch_count (journal_of self.new) ≡ batch_count (journal_of self.old) + 1) }
+        ensures any_moment { (kept : BookView) → StandsBehind T.seen T.may_leave self.old kept
+            → LeavesOnly T.moment T.left_since (twin_of self.old) (twin_of self.new) (λ c. OpensTo c kept ⊎ OpensTo c (book_of self.old)) }
+        ensures suits { OnOk result (IsSuited self.old → IsSuited self.new) }
+        ensures base { OnOk result (IsSuited self.old → base_of self.new ≡ base_after self.old acts.now) }
+        ensures full { IsErrOf result JournalFault.Full → IsSuited self.old → is_full (book_of self.old) acts.now ≡ true }
+        ensures room { OnOk result (IsSuited self.old → is_full (book_of self.old) acts.now ≡ false) }
+        ensures unchanged { IsErrOf result JournalFault.Full → self.new ≡ self.old }
+        ensures still_failed { IsErrOf result JournalFault.Failed → self.new ≡ self.old }
+        ensures unwritten { OnErr result (book_of self.new ≡ book_of self.old) }
+        ensures disk { IsErrOf result JournalFault.Disk → T.failures (twin_of self.old) < T.failures (twin_of self.new) }
+        ensures no_other { (IsErrOf result JournalFault.Disk → ⊥) → T.failures (twin_of self.new) ≡ T.failures (twin_of self.old) }
+        ensures failed { IsErrOf result JournalFault.Failed → has_failed (journal_of self.old) ≡ true }
+        ensures works { OnOk result (has_failed (journal_of self.new) ≡ false) }
+    {
+        let number = self.journal.hold(self.kept.book(), acts)?;
+        match self.kept.apply(acts) {
+            Ok(()) => Ok(number),
+            Err(_) => Err(JournalFault::Memory),
+        }
+    }
+
+    /// Writes the batches that are held, as one group: the files keep the book then. Where nothing is held, nothing is done. After `Disk` and `Memory` the store
+    /// is to be opened again; it answers `Failed` from then on, and changes nothing.
+    pub fn write_held(&mut self) -> Result<(), JournalFault>
+        ensures stands { OnOk result ((kept : BookView) → StandsBehind T.seen T.may_leave self.old kept → Stands T.seen T.may_leave self.new) }
+        ensures book { book_of self.new ≡ book_of self.old }
+        ensures count { OnOk result (batch_count (journal_of self.new) ≡ batch_count (journal_of self.old)) }
+        ensures suits { IsSuited self.old → IsSuited self.new }
+        ensures base { base_of self.new ≡ base_of self.old }
+
+        // Whatever is answered, a crash at any moment of the call leaves the book that the files kept, or the store's.
+        ensures any_moment { (kept : BookView) → StandsBehind T.seen T.may_leave self.old kept
+            → LeavesOnly T.moment T.left_since (twin_of self.old) (twin_of self.new) (λ c. OpensTo c kept ⊎ OpensTo c (book_of self.old)) }
+
+        ensures never_full { IsErrOf result JournalFault.Full → ⊥ }
+        ensures still_failed { IsErrOf result JournalFault.Failed → self.new ≡ self.old }
+        ensures disk { IsErrOf result JournalFault.Disk → T.failures (twin_of self.old) < T.failures (twin_of self.new) }
+        ensures no_other { (IsErrOf result JournalFault.Disk → ⊥) → T.failures (twin_of self.new) ≡ T.failures (twin_of self.old) }
+        ensures failed { IsErrOf result JournalFault.Failed → has_failed (journal_of self.old) ≡ true }
+        ensures works { OnOk result (has_failed (journal_of self.new) ≡ false) }
+    {
+        self.journal.write_held()
+    }
+
+    /// How many bytes of batches are held.
+    pub fn held(&self) -> usize
+        ensures { result ≡ 0 → (kept : BookView) → StandsBehind T.seen T.may_leave self.now kept → Stands T.seen T.may_leave self.now }
+    {
+        self.journal.held()
     }
 
     /// Writes what a router decides when it starts on this store, as one batch, and gives it with its number; where there is nothing
@@ -172,8 +275,7 @@ impl<T: Twin> Store<T> {
         ensures room { exceeds (book_of self.old) (start_acts (book_of self.old)) ≡ false }
         ensures never_full { IsErrOf result JournalFault.Full → IsSuited self.old → ⊥ }
         ensures unwritten { OnErr result (book_of self.new ≡ book_of self.old) }
-        ensures same_at_fault { IfErr result (λ fault. (fault ≡ JournalFault.Memory → ⊥) → IsAsBefore self.old self.new) }
-        ensures at_memory { IsErrOf result JournalFault.Memory → IsAsBefore self.old self.new ⊎ IsAhead self.old (start_acts (book_of self.old)) self.new }
+        ensures same_count { Stands T.seen T.may_leave self.old → IfErr result (λ f. (f ≡ JournalFault.Memory → ⊥) → count_of self.new ≡ count_of self.old) }
         ensures disk { IsErrOf result JournalFault.Disk → T.failures (twin_of self.old) < T.failures (twin_of self.new) }
         ensures no_other { (IsErrOf result JournalFault.Disk → ⊥) → T.failures (twin_of self.new) ≡ T.failures (twin_of self.old) }
         ensures failed { IsErrOf result JournalFault.Failed → has_failed (journal_of self.old) ≡ true }
