@@ -23,6 +23,7 @@ use Rattle.router_reply.specs.Admitting.{admits, event_admission}
 use Rattle.router_reply.specs.Resuming.{resumed}
 use Rattle.router_reply.specs.Replies.{closing_of, ends, heard, bound_by, own_row, replied}
 use Rattle.state_messages.specs.Messages.{with_bound}
+use Rattle.router_state.specs.declared.tables.State.{State}
 use Rattle.router_state.specs.Tables.{TablesFit}
 use Rattle.router_core.specs.Replies.{answered, handled}
 use Rattle.core_machine.specs.Turns.{is_start, is_started, is_out_of_turn, declines}
@@ -75,6 +76,15 @@ journals_stored {T} old new t same j = record {
   book = ap (λ s. book_of s) same ∙ j.book;
   batches = ap (λ s. count_of s) same ∙ j.batches;
   suits = subst (λ (s : Store T). IsSuited s) (sym same) j.suits;
+}
+
+-- so does one of which the store alone is another one, with the same book and as many batches
+pub fits_stored : {T : Type 0} (old new : Core T) (t : List Entry) → new ≡ record old { store = new.store } → kept_book new ≡ kept_book old → count_of new.store ≡ count_of old.store
+    → (IsSuited old.store → IsSuited new.store) → Fits old t → Fits new t
+fits_stored {T} old new t rest book count suits f = record {
+  tables = subst (λ (s : State). TablesFit s t) (sym (ap (λ (core : Core T). core.state) rest)) f.tables;
+  started = ap (λ (core : Core T). core.started) rest ∙ f.started;
+  journal = record { book = book ∙ f.journal.book; batches = count ∙ f.journal.batches; suits = suits f.journal.suits };
 }
 
 -- tests of two things

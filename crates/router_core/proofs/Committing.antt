@@ -1,6 +1,6 @@
 -- The acts of an event, as they are planned and written.
 use Rattle.std.proofs.Common.{◌≡◌, ◌∙◌, ap, refl, sym, subst, ℕ, List, [], ◌∷◌, Bool, true, false, ◌⊎◌, inl, inr}
-use Rattle.std.specs.Prelude.{Option, Some, None, IfSome}
+use Rattle.std.specs.Prelude.{Option, Some, None, IfSome, IfNone, Result, Ok, Err}
 use Rattle.amqp_model.specs.declared.perf.Perf.TheVariants as perf
 use Rattle.amqp_model.specs.declared.item.Item.{Item}
 use Rattle.amqp_model.specs.declared.item.Item.TheVariants as item
@@ -8,6 +8,7 @@ use Rattle.amqp_conn.specs.declared.conn.Conn.{Conn}
 use Rattle.book_model.specs.declared.act.Act.{Act}
 use Rattle.book_model.specs.Book.{BookView}
 use Rattle.journal_store.specs.Store.{exceeds}
+use Rattle.core_machine.specs.declared.fault.CoreFault.{CoreFault}
 use Rattle.router_trace.specs.declared.condition.Condition.{Condition}
 use Rattle.router_trace.specs.declared.event.Event.{Event}
 use Rattle.router_trace.specs.declared.event.Event.TheVariants as event
@@ -26,6 +27,22 @@ use Rattle.router_core.specs.Handling.{within, or_within, with_admission, or_exc
 pub some_weaker : {X : Type 0} (P Q : X → Type 0) (o : Option X) → ((x : X) → P x → Q x) → IfSome o P → IfSome o Q
 some_weaker P Q None wider is = tt
 some_weaker P Q (Some x) wider is = wider x is
+
+-- the acts of what was written, or of nothing
+pub acts_in : {V : Type 0} (o : Option (ℕ × V)) (items : V → List Act) (given acts : List Act) (n : ℕ) → IfSome o (λ batch. given ≡ items batch.1) → IfNone o (given ≡ [])
+    → IfSome o (λ batch. (batch.0 ≡ n) × (items batch.1 ≡ acts)) → IfNone o (acts ≡ []) → given ≡ acts
+acts_in None items given acts n some none written silent = none ∙ sym silent
+acts_in (Some batch) items given acts n some none written silent = some ∙ written.1
+
+-- none are none, by the other name
+pub acts_none : {X : Type 0} (o : Option X) (xs ys : List Act) → xs ≡ ys → IfNone o (xs ≡ []) → IfNone o (ys ≡ [])
+acts_none None xs ys same is = sym same ∙ is
+acts_none (Some x) xs ys same is = tt
+
+-- the fault that is answered
+abbrev pub fault_of : {W : Type 0} → CoreFault → Result W CoreFault → CoreFault
+fault_of f (Ok w) = f
+fault_of f (Err x) = x
 
 -- an answer that takes no transfer admits nothing
 abbrev NotTaken : Answer → Type 0

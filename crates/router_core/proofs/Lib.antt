@@ -24,5 +24,6 @@ pub mod Order
 pub mod Replied
 pub mod Attachless
 pub mod Lively
+pub mod Grouped
 pub mod Holding
 mod Preparing

@@ -6,17 +6,18 @@ use Rattle.book_model.specs.declared.act.Act.{Act}
 use Rattle.book_model.specs.Book.{BookView}
 use Rattle.twin_journal.specs.Holding.{BeforeOrAfter}
 use Rattle.twin_journal.specs.Journal.{batch_count}
-use Rattle.journal_store.specs.Store.{Stands, batches_after, count_of, twin_of, journal_of}
+use Rattle.journal_store.specs.Store.{Stands, StandsBehind, batches_after, count_of, twin_of, journal_of}
 use Rattle.journal_store.specs.declared.store.Store.{Store}
 use Rattle.router_trace.specs.declared.event.Event.{Event}
 use Rattle.router_trace.specs.Trace.{Entry, step_of}
 use Rattle.router_reply.specs.Acts.{Journaled, acts_of, book_after_event, book_in, booked, journaled}
-use Rattle.core_machine.specs.Meaning.{BookAt, KeptAt}
+use Rattle.core_machine.specs.Meaning.{BookAt, EitherOf, KeptAt}
 use Rattle.router_core.specs.declared.router.Core.{Core}
-use Rattle.router_core.specs.Handling.{BeforeOrAfterEvent, Fits, store_of}
-use Rattle.router_core.specs.Machine.{KeepsBook, LeavesBook, LeavesKept, core_meaning}
+use Rattle.router_core.specs.Handling.{BeforeOrAfterEvent, Fits, kept_book, store_of}
+use Rattle.router_core.specs.Machine.{HoldsBehind, KeepsBook, LeavesBook, LeavesKept, core_meaning}
 use Rattle.router_core.specs.Replies.{Replies, handled}
 use Rattle.router_core.proofs.Books.{view_answered}
+use Rattle.router_core.proofs.Moments.{EitherOpens}
 
 -- what holds of any answer Ok, from what holds of it
 pub on_ok : {A E : Type 0} (r : Result A E) {P Q : Type 0} → (P → Q) → OnOk r P → OnOk r Q
@@ -65,6 +66,22 @@ module _ {T : Type 0} (seen : T → Contents) (may_leave : T → Contents → Ty
   -- nothing of the journal changes
   pub keeps_on : (old new : Core T) (b : BookView) → store_of new ≡ store_of old → KeepsBook seen may_leave old b → KeepsBook seen may_leave new b
   keeps_on old new b same keeps = (subst (λ (s : Store T). Stands seen may_leave s) (sym same) keeps.0, ap (λ (s : Store T). s.kept.book) same ∙ keeps.1)
+
+  -- the files keep the book that they kept, or the book before the event
+  pub holds_next : (old new : Core T) (t : List Entry) → Fits old t
+      → ((kept : BookView) → StandsBehind seen may_leave (store_of old) kept → StandsBehind seen may_leave (store_of new) kept ⊎ StandsBehind seen may_leave (store_of new) (kept_book old))
+      → (b : BookView) → HoldsBehind seen may_leave old b → HoldsBehind seen may_leave new b ⊎ HoldsBehind seen may_leave new (book_in t)
+  holds_next old new t f behind b holds =
+      ⊎_elim (λ still. inl still) (λ now. inr (subst (λ (x : BookView). HoldsBehind seen may_leave new x) f.journal.book now)) (behind b holds)
+
+  -- a crash leaves the book that they kept, or the book of the trace
+  pub leaves_either : (moment : T → ℕ) (left_since : T → ℕ → Contents → Type 0) → ((twin : T) (t : ℕ) (c : Contents) → t ≤ moment twin → may_leave twin c → left_since twin t c)
+      → (old new : Core T) (t : List Entry) (b : BookView) → Fits old t
+      → LeavesOnly moment left_since (twin_of (store_of old)) (twin_of (store_of new)) (EitherOpens b (kept_book old))
+      → LeavesBook may_leave new (EitherOf b (book_in t))
+  leaves_either moment left_since counts_now old new t b f run contents left =
+      ⊎_elim (λ opens. (b, opens, inl refl)) (λ opens. (kept_book old, opens, inr f.journal.book))
+      (run.each contents (counts_now (twin_of (store_of new)) (moment (twin_of (store_of old))) contents run.later left))
 
   -- a crash leaves the book before the event, or the book after it
   pub leaves_next : (moment : T → ℕ) (left_since : T → ℕ → Contents → Type 0) → ((twin : T) (t : ℕ) (c : Contents) → t ≤ moment twin → may_leave twin c → left_since twin t c)

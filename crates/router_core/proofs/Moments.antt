@@ -1,12 +1,14 @@
 -- What a crash leaves while the acts of an event are written.
 use Rattle.std.proofs.Common.{◌≡◌, refl, sym, subst, ℕ, List, ◌⊎◌, inl}
 use Rattle.disk_core.specs.Disk.{LeavesOnly}
-use Rattle.disk_core.specs.DiskLaws.{widened}
+use Rattle.disk_core.specs.DiskLaws.{started, widened}
 use Rattle.disk_core.specs.Twin.{Contents}
 use Rattle.book_model.specs.declared.act.Act.{Act}
 use Rattle.book_model.specs.Book.{BookView, effects}
 use Rattle.twin_journal.specs.Holding.{BeforeOrAfter}
-use Rattle.journal_store.specs.Store.{OpensTo, Stands, count_of, twin_of}
+use Rattle.twin_journal.specs.Keeping.{held_opens}
+use Rattle.journal_store.specs.declared.store.Store.{Store}
+use Rattle.journal_store.specs.Store.{OpensTo, Stands, StandsBehind, book_of, count_of, journal_of, twin_of}
 use Rattle.journal_store.proofs.Moments.{still_held, unmoved}
 use Rattle.router_trace.specs.declared.event.Event.{Event}
 use Rattle.router_trace.specs.Trace.{Entry}
@@ -18,6 +20,10 @@ use Rattle.router_core.proofs.Books.{before_or_after_event}
 -- the book before these acts, or the book after them
 abbrev pub EitherBook : {T : Type 0} → Core T → List Act → Contents → Type 0
 EitherBook core acts contents = OpensTo contents (kept_book core) ⊎ OpensTo contents (effects (kept_book core) acts)
+
+-- one of two books
+abbrev pub EitherOpens : BookView → BookView → Contents → Type 0
+EitherOpens a b contents = OpensTo contents a ⊎ OpensTo contents b
 
 module _ {T : Type 0} (seen : T → Contents) (may_leave : T → Contents → Type 0) (moment : T → ℕ) (left_since : T → ℕ → Contents → Type 0) where
   -- these are the event's
@@ -48,3 +54,25 @@ module _ {T : Type 0} (seen : T → Contents) (may_leave : T → Contents → Ty
       known_journal core twin t e (acts_of t e) f refl
       (subst (λ (d : T). LeavesOnly moment left_since (twin_of (store_of core)) d (BeforeOrAfter (kept_book core) (count_of (store_of core)) (acts_of t e))) (sym same)
       (still_held seen may_leave moment left_since only_now (store_of core) (acts_of t e) stands))
+
+  -- what is held, where the files are left alone
+  pub still_behind : ((twin : T) (c : Contents) → left_since twin (moment twin) c → may_leave twin c) → (s : Store T) (twin : T) (kept : BookView)
+      → StandsBehind seen may_leave s kept → twin ≡ twin_of s → LeavesOnly moment left_since (twin_of s) twin (EitherOpens kept (book_of s))
+  still_behind only_now s twin kept holds same =
+      subst (λ (d : T). LeavesOnly moment left_since (twin_of s) d (EitherOpens kept (book_of s))) (sym same)
+      (started moment left_since (twin_of s) (EitherOpens kept (book_of s)) (λ c left. inl (held_opens seen may_leave (journal_of s) kept (book_of s) c holds (only_now (twin_of s) c left))))
+
+  -- what is held, where the store is left alone before, and after
+  pub behind_between : (s u v w : Store T) → u ≡ s → w ≡ v
+      → ((kept : BookView) → StandsBehind seen may_leave u kept → StandsBehind seen may_leave v kept ⊎ StandsBehind seen may_leave v (book_of u))
+      → (kept : BookView) → StandsBehind seen may_leave s kept → StandsBehind seen may_leave w kept ⊎ StandsBehind seen may_leave w (book_of s)
+  behind_between s u v w before after is =
+      subst (λ (x : Store T). (kept : BookView) → StandsBehind seen may_leave s kept → StandsBehind seen may_leave x kept ⊎ StandsBehind seen may_leave x (book_of s)) (sym after)
+      (subst (λ (x : Store T). (kept : BookView) → StandsBehind seen may_leave x kept → StandsBehind seen may_leave v kept ⊎ StandsBehind seen may_leave v (book_of x)) before is)
+
+  pub moment_between : (s u v w : Store T) → u ≡ s → w ≡ v
+      → ((kept : BookView) → StandsBehind seen may_leave u kept → LeavesOnly moment left_since (twin_of u) (twin_of v) (EitherOpens kept (book_of u)))
+      → (kept : BookView) → StandsBehind seen may_leave s kept → LeavesOnly moment left_since (twin_of s) (twin_of w) (EitherOpens kept (book_of s))
+  moment_between s u v w before after is =
+      subst (λ (x : Store T). (kept : BookView) → StandsBehind seen may_leave s kept → LeavesOnly moment left_since (twin_of s) (twin_of x) (EitherOpens kept (book_of s))) (sym after)
+      (subst (λ (x : Store T). (kept : BookView) → StandsBehind seen may_leave x kept → LeavesOnly moment left_since (twin_of x) (twin_of v) (EitherOpens kept (book_of x))) before is)

@@ -2,6 +2,7 @@ pub mod Handling
 pub mod Replies
 pub mod Runs
 pub mod Leaving
+pub mod Groups
 pub mod Machine
 pub mod Moves
 pub mod Attaches

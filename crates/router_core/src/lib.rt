@@ -2,6 +2,8 @@
 #![tactic(auto)]
 
 mod driving;
+mod group;
+mod held;
 mod machine;
 mod router;
 

@@ -15,6 +15,18 @@ impl<T: Twin> Machine for Core<T> {
         Core::handle(self, event)
     }
 
+    fn hold(&mut self, event: Event) -> Result<Done, CoreFault> {
+        Core::hold(self, event)
+    }
+
+    fn write_held(&mut self) -> Result<(), CoreFault> {
+        Core::write_held(self)
+    }
+
+    fn held(&self) -> usize {
+        Core::held(self)
+    }
+
     fn take_items(&mut self, conn: ConnectionId, most: usize) -> Result<Taken, CoreFault> {
         self.take_out(conn, most)
     }

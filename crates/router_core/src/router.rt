@@ -50,7 +50,7 @@ use std::mem;
 use twin_journal::{JournalFault, OpenFault};
 
 /// The batch that was written, if one was: its number and its acts.
-type Written = Option<(u64, Vec<Act>)>;
+pub(crate) type Written = Option<(u64, Vec<Act>)>;
 
 /// What is planned for an event: whether it finds the journal full, the answer to its item, its acts but for an admission,
 /// what it takes up again, and what was found of its item.
@@ -65,14 +65,14 @@ struct Planned {
 
 /// What an event does to the book: its acts, and whether it finds the journal full.
 #[derive(Drop)]
-struct Prepared {
-    full: bool,
-    acts: Vec<Act>,
+pub(crate) struct Prepared {
+    pub(crate) full: bool,
+    pub(crate) acts: Vec<Act>,
 }
 
 /// What the answer to an event that was handled needs.
 #[derive(Drop)]
-struct Ready {
+pub(crate) struct Ready {
     /// The connections that it ends because their outboxes are full.
     ends: Vec<u64>,
     /// The answer to its item.
@@ -85,7 +85,7 @@ struct Ready {
 
 impl Ready {
     /// Nothing yet.
-    fn nothing(alloc: Global) -> Ready {
+    pub(crate) fn nothing(alloc: Global) -> Ready {
         Ready {
             ends: Vec::new(alloc),
             answer: Answer::Nothing,
@@ -98,13 +98,13 @@ impl Ready {
 /// The router. It handles one event at a time; the items that it puts out are fetched with `take`. Its durable deliveries
 /// are kept by a journal on two files.
 pub struct Core<T: Twin> {
-    alloc: Global,
+    pub(crate) alloc: Global,
     id: RouterId,
-    state: State,
-    store: Store<T>,
-    counts: Counts,
+    pub(crate) state: State,
+    pub(crate) store: Store<T>,
+    pub(crate) counts: Counts,
     started: bool,
-    failed: bool,
+    pub(crate) failed: bool,
 }
 
 impl<T: Twin> Drop for Core<T> {
@@ -298,7 +298,7 @@ impl<T: Twin> Core<T> {
 
     /// The phase of the connection of an event's item, before the event; none of another event. `Refused` exactly if the event comes out of
     /// turn, or is refused.
-    fn phase_before(&self, event: &Event) -> Result<Option<Conn>, Refused>
+    pub(crate) fn phase_before(&self, event: &Event) -> Result<Option<Conn>, Refused>
         ensures refused { OnErr result ((t : List Entry) → Fits self.now t → declines t event.now ≡ true) }
         ensures taken { IfOk result (λ phase. (t : List Entry) → Fits self.now t → IsTaken t event.now phase) }
     {
@@ -359,7 +359,7 @@ impl<T: Twin> Core<T> {
     }
 
     /// Plans an event that is not declined, with its connection in this phase before it, and handles it; nothing is put and nothing written. Fills in what its answer needs, and gives the acts that it has.
-    fn prepare(
+    pub(crate) fn prepare(
         &mut self,
         event: &Event,
         before: Option<Conn>,
@@ -570,7 +570,7 @@ impl<T: Twin> Core<T> {
     }
 
     /// Answers an event that was handled, with these acts, and counts it.
-    fn answer(
+    pub(crate) fn answer(
         &mut self,
         event: Event,
         ready: &mut Ready,
@@ -748,7 +748,7 @@ impl<T: CrashTwin> Core<T> {
 }
 
 /// The acts of the batch that was written, if one was.
-fn acts_written(journal: &Written) -> &[Act]
+pub(crate) fn acts_written(journal: &Written) -> &[Act]
     ensures some { IfSome journal.now (λ batch. result.now ≡ batch.1.items) }
     ensures none { IfNone journal.now (result.now ≡ []) }
 {

@@ -6,6 +6,7 @@ use Rattle.book_model.specs.declared.act.Act.{Act}
 use Rattle.book_model.specs.Book.{BookView, empty_book}
 use Rattle.disk_core.specs.Twin.{Contents}
 use Rattle.journal_codec.specs.Batches.{book_after}
+use Rattle.twin_journal.specs.declared.figures.Figures.{Figures}
 use Rattle.twin_journal.specs.Holding.{TwinHolds, last_of}
 use Rattle.twin_journal.proofs.Unique.{same_list}
 use Rattle.journal_store.specs.declared.store.Store.{Store}
@@ -128,7 +129,7 @@ module _ {T : Type 0} (seen : T → Contents) (may_leave : T → Contents → Ty
         batches = k.batches;
         holds = subst (λ (c : Contents). TwinHolds c (base_of (store_of core)) k.start k.batches) (sym (k.keeps.at.durable contents left)) (held (store_of core) k);
         book = sym agrees.0.journal.book ∙ k.leaves;
-        count = sym agrees.0.journal.batches ∙ k.keeps.at.fits.last;
+        count = sym agrees.0.journal.batches ∙ ap (λ (f : Figures). f.last) k.keeps.level ∙ k.keeps.at.fits.last;
       }
 
   -- a router that is opened on two files
@@ -139,7 +140,7 @@ module _ {T : Type 0} (seen : T → Contents) (may_leave : T → Contents → Ty
       let one = same_list contents base h.base k.start h.start k.batches h.batches (subst (λ (c : Contents). TwinHolds c base k.start k.batches) same (held (store_of core) k)) h.holds in
       let book : kept_book core ≡ j.book = k.leaves ∙ ap (λ (b : BookView). book_after b k.batches) one.starts ∙ ap (book_after h.start) one.lists ∙ sym h.book in
       let count : count_of (store_of core) ≡ j.batches
-      = k.keeps.at.fits.last ∙ ap (λ (n : ℕ). n + length k.batches) one.bases ∙ ap (λ (bs : List (List Act)). h.base + length bs) one.lists ∙ sym h.count in
+      = ap (λ (f : Figures). f.last) k.keeps.level ∙ k.keeps.at.fits.last ∙ ap (λ (n : ℕ). n + length k.batches) one.bases ∙ ap (λ (bs : List (List Act)). h.base + length bs) one.lists ∙ sym h.count in
       ap (λ (b : BookView). begun_with config b (count_of (store_of core))) book ∙ ap (λ (n : ℕ). begun_with config j.book n) count
 
   -- one more run, as its router was opened and as it is now

@@ -1,4 +1,4 @@
-use Rattle.std.proofs.Common.{◌∙◌, ◌≡◌, ◌++◌, refl, ◌⊎◌, List, true, rules}
+use Rattle.std.proofs.Common.{◌∙◌, ◌≡◌, ◌++◌, refl, inl, ◌⊎◌, List, true, rules}
 use Rattle.std.proofs.lemmas.Result.{err_from_is_err_and}
 use Rattle.router_trace.specs.Trace.{Entry}
 use Rattle.router_core.specs.Handling.{Fits, is_failed}
@@ -36,3 +36,7 @@ pub returns-in_err-take_one-in-Some-clause-known : goal.returns-in_err-take_one-
 returns-in_err-take_one-in-Some-clause-known g c =
     let p = err_from_is_err_and c.from_residual.result c.from_residual.ensures.1 in
     rw (p.1, p.2) (λ t f is. let w = c.loop-turn.invariant.fits t f in unready _ (c.in_err-take_one-in-Some.ensures.known is _ w.2) (c.in-Some.ensures _ w.2).0)
+
+-- too many turns: one is ready still
+pub returns-in-Some-ready-clause-memory : goal.returns-in-Some-ready-clause-memory
+returns-in-Some-ready-clause-memory g c = λ is. inl (λ t f. (c.in-Some-ready.field-0.0, (c.in-Some-ready.ensures t f).0))

@@ -1,8 +1,7 @@
-use Rattle.std.proofs.Common.{◌≡◌, ◌∙◌, sym, ap, subst, ℕ, ◌+◌, List, []}
-use Rattle.std.specs.Prelude.{◌⊎◌, Option, Some, None, IfSome, IfNone, Result, Ok, Err}
+use Rattle.std.proofs.Common.{◌≡◌, ◌∙◌, sym, ap, subst, ℕ, ◌+◌, List}
+use Rattle.std.specs.Prelude.{◌⊎◌, Err}
 use Rattle.core_machine.specs.declared.fault.CoreFault.{CoreFault}
 use Rattle.disk_core.specs.Disk.{LeavesOnly}
-use Rattle.book_model.specs.declared.act.Act.{Act}
 use Rattle.book_model.specs.Book.{effects}
 use Rattle.twin_journal.specs.Journal.{batch_count}
 use Rattle.journal_store.specs.declared.store.Store.{Store}
@@ -17,15 +16,9 @@ use Rattle.router_reply.specs.Replies.{row_found}
 use Rattle.router_core.specs.Handling.{IsReady, Journals, BeforeOrAfterEvent, id_of, state_of, store_of}
 use Rattle.router_core.specs.Replies.{answered, handled}
 use Rattle.router_core.proofs.Books.{journals_after, journals_stored, fits_handled}
-use Rattle.router_core.proofs.Committing.{some_weaker}
+use Rattle.router_core.proofs.Committing.{acts_in, acts_none, fault_of, some_weaker}
 use Rattle.router_core.proofs.Moments.{known_journal, known_moment, still_journal}
 use Rattle.router_core.proofs.router.Core.carry_out.Goals as goal
-
--- the acts of what was written, or of nothing
-acts_in : {V : Type 0} (o : Option (ℕ × V)) (items : V → List Act) (given acts : List Act) (n : ℕ) → IfSome o (λ batch. given ≡ items batch.1) → IfNone o (given ≡ [])
-    → IfSome o (λ batch. (batch.0 ≡ n) × (items batch.1 ≡ acts)) → IfNone o (acts ≡ []) → given ≡ acts
-acts_in None items given acts n some none written silent = none ∙ sym silent
-acts_in (Some batch) items given acts n some none written silent = some ∙ written.1
 
 pub returns-clause-fits : goal.returns-clause-fits
 returns-clause-fits g c = λ t f taken.
@@ -49,10 +42,6 @@ pub returns-clause-written : goal.returns-clause-written
 returns-clause-written g c = λ t f taken.
     some_weaker _ _ c.in-Ok-write.journal
     (λ batch is. (is.0 ∙ ap (λ (s : Store _). batch_count (journal_of s) + 1) (ap store_of c.prepare.ensures.rest), is.1 ∙ c.in-Ok.ensures.acts t f taken)) c.in-Ok-write.ensures.written
-
-acts_none : {X : Type 0} (o : Option X) (xs ys : List Act) → xs ≡ ys → IfNone o (xs ≡ []) → IfNone o (ys ≡ [])
-acts_none None xs ys same is = sym same ∙ is
-acts_none (Some x) xs ys same is = tt
 
 pub returns-clause-silent : goal.returns-clause-silent
 returns-clause-silent g c = λ t f taken.
@@ -89,10 +78,6 @@ returns-in-Err-clause-any_moment g c = λ t f taken stands.
     let run = subst (λ (s : Store _). Stands g.T.Twin.seen g.T.Twin.may_leave s → LeavesOnly g.T.Twin.moment g.T.Twin.left_since (twin_of s) (twin_of (store_of c.write.new.self))
     (λ contents. OpensTo contents (book_of s) ⊎ OpensTo contents (effects (book_of s) acts))) same c.write.ensures.any_moment stands in
     known_moment g.T.Twin.seen g.T.Twin.may_leave g.T.Twin.moment g.T.Twin.left_since core (twin_of (store_of c.write.new.self)) t e acts f (c.in-Ok.ensures.acts t f taken) run
-
-abbrev fault_of : {W : Type 0} → CoreFault → Result W CoreFault → CoreFault
-fault_of f (Ok w) = f
-fault_of f (Err x) = x
 
 -- another fault of the write is another one of the call
 pub returns-in-Err-clause-no_other : goal.returns-in-Err-clause-no_other
