@@ -1,12 +1,11 @@
 -- Batches that are written one after another.
-use Rattle.std.proofs.Common.{◌≡◌, ◌∙◌, sym, ap, refl, subst, ℕ, ◌+◌, false, List, [], ◌∷◌, ◌++◌, length, Option, Result, Ok, Err, OnOk, OnErr, IfOk, IfErr, arith}
+use Rattle.std.proofs.Common.{◌≡◌, ◌∙◌, sym, ap, refl, subst, ℕ, ◌+◌, false, List, [], ◌∷◌, ◌++◌, length, Option, Result, Ok, Err, OnOk, OnErr, IfOk, arith}
 use Rattle.std.proofs.Common.{append_assoc, append-nil}
 use Rattle.std.specs.Io.KnownBytes.{Appends}
 use Rattle.router_trace.specs.declared.event.ConnectionId.{ConnectionId}
 use Rattle.core_machine.specs.declared.answers.Batch.{Batch}
 use Rattle.core_machine.specs.declared.counts.Counts.{Counts}
 use Rattle.core_machine.specs.declared.fault.CoreFault.{CoreFault}
-use Rattle.core_machine.specs.declared.fault.CoreFault.TheVariants.{Disk}
 use Rattle.core_machine.specs.Counting.{with_batch}
 use Rattle.serve_streams.specs.declared.end.WriteEnd.{WriteEnd}
 use Rattle.serve_streams.specs.Spelled.{spelled}
@@ -46,9 +45,9 @@ pub no_more : (n : Counts) → n ≡ with_batches 0 n
 no_more n = ap (λ (i : ℕ). record n { batches = i }) (let same : n.batches ≡ n.batches + 0 = omega arith in same)
 
 -- what an answer is, and counts
-pub is_answer : (Given : Batch → Type 0) (c : ConnectionId) (r : Result Batch CoreFault) → IfOk r Given → IfOk r (λ b. b.conn ≡ c) → IfErr r (λ f. f ≡ Disk → ⊥) → IsAnswer Given c r
-is_answer Given c (Ok b) given whose no_disk = (given, whose)
-is_answer Given c (Err f) given whose no_disk = no_disk
+pub is_answer : (Given : Batch → Type 0) (c : ConnectionId) (r : Result Batch CoreFault) → IfOk r Given → IfOk r (λ b. b.conn ≡ c) → IsAnswer Given c r
+is_answer Given c (Ok b) given whose = (given, whose)
+is_answer Given c (Err f) given whose = tt
 
 pub counts_one : (r : Result Batch CoreFault) (old new : Counts) → OnOk r (new ≡ with_batch old) → OnErr r (new ≡ old) → new ≡ with_batches (taken_by r) old
 counts_one (Ok b) old new counted uncounted = counted

@@ -1,5 +1,5 @@
 -- What readers' seats count.
-use Rattle.std.proofs.Common.{◌≡◌, ◌∙◌, sym, ap, ℕ, ◌+◌, ◌-◌, ◌≤◌, false, Result, IsOk, Ok, Err, OnOk, OnErr, List, [], ◌∷◌, ◌++◌, Option, length, arith}
+use Rattle.std.proofs.Common.{◌≡◌, ◌∙◌, sym, ap, ℕ, ◌+◌, ◌-◌, ◌≤◌, ◌⊎◌, inl, inr, false, Result, IsOk, Ok, Err, OnOk, OnErr, List, [], ◌∷◌, ◌++◌, Option, length, arith}
 use Rattle.std.proofs.lemmas.List.{length-append, length-drop}
 use Rattle.std.specs.Iterator.{Yields}
 use Rattle.std.specs.Vec.Iter.{into_iter_items, into_iter_steps}
@@ -63,9 +63,10 @@ handed_gone old new before behind h = record {
   counted = h.counted;
 }
 
--- one of them was refused
-pub refused_some : (old new : Counts) (before behind : List Item) → Handled 1 old new before behind → CountsSome old new (length before)
-refused_some old new before behind h = record { items = h.items; within = omega (arith, h.there); counted = h.counted }
+-- all that left it were handled, or one of them was refused
+pub refused_some : (old new : Counts) (before behind : List Item) → Handled 0 old new before behind ⊎ Handled 1 old new before behind → CountsSome old new (length before)
+refused_some old new before behind (inl h) = record { items = h.items; within = omega (arith, h.there); counted = h.counted }
+refused_some old new before behind (inr h) = record { items = h.items; within = omega (arith, h.there); counted = h.counted }
 
 -- items left a queue, and of those after them some are counted
 pub some_behind : (a b c : Counts) (xs ys : List Item) (n : ℕ) → length xs ≤ n → CountsGone a b xs ys → CountsSome b c (length ys) → CountsSome a c n

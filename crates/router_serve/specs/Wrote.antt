@@ -6,7 +6,6 @@ use Rattle.router_trace.specs.declared.event.ConnectionId.{ConnectionId}
 use Rattle.core_machine.specs.declared.answers.Batch.{Batch}
 use Rattle.core_machine.specs.declared.counts.Counts.{Counts}
 use Rattle.core_machine.specs.declared.fault.CoreFault.{CoreFault}
-use Rattle.core_machine.specs.declared.fault.CoreFault.TheVariants.{Disk}
 use Rattle.serve_streams.specs.declared.end.WriteEnd.{WriteEnd}
 use Rattle.serve_streams.specs.declared.end.WriteEnd.TheVariants as end
 use Rattle.serve_streams.specs.Spelled.{spelled}
@@ -37,10 +36,10 @@ abbrev pub taken_by : Result Batch CoreFault → ℕ
 taken_by (Ok b) = 1
 taken_by (Err f) = 0
 
--- a batch of the connection that the router gave, or its fault; a take never tells that the disk failed
+-- a batch of the connection that the router gave, or its fault
 abbrev pub IsAnswer : (Batch → Type 0) → ConnectionId → Result Batch CoreFault → Type 0
 IsAnswer Given c (Ok b) = Given b × (b.conn ≡ c)
-IsAnswer Given c (Err f) = f ≢ Disk
+IsAnswer Given c (Err f) = Unit {0}
 
 -- less than all of these bytes were appended
 abbrev pub IsPartOf : List ℕ → Option (List ℕ) → Option (List ℕ) → Type 0

@@ -1,15 +1,16 @@
 //! The data under the lock.
-ghost use Rattle.std.specs.Prelude.{◌≡◌, ◌≤◌, ◌<◌, ◌+◌, ◌-◌, ◌^◌, ◌∷◌, ◌%◌, ◌==◌, ◌⊎◌, ◌&&◌, ◌||◌, not, ℕ, if◌then◌else◌, min};
-ghost use Rattle.std.specs.Prelude.{[], None, true, false, is_some, length, OnOk, OnErr, IfOk, IfErr, IfSome, IsErrOf};
+ghost use Rattle.std.specs.Prelude.{◌≡◌, ◌≤◌, ◌<◌, ◌+◌, ◌-◌, ◌^◌, ◌∷◌, ◌++◌, ◌%◌, ◌==◌, ◌⊎◌, ◌&&◌, ◌||◌, not, ℕ, if◌then◌else◌, min};
+ghost use Rattle.std.specs.Prelude.{[], None, Err, true, false, is_some, length, OnOk, OnErr, IfOk, IfErr, IfSome, IsErrOf};
+ghost use Rattle.book_model.specs.Book.{BookView};
 ghost use Rattle.router_trace.specs.Trace.{Trace, Took, step_of};
 ghost use Rattle.router_trace.specs.Connection.{conn as known, is_ready, is_live};
 ghost use Rattle.core_machine.specs.Counting.{uncounted, with_event, with_batch};
-ghost use Rattle.core_machine.specs.Meaning.{BookAt, IsBatchOf};
+ghost use Rattle.core_machine.specs.Meaning.{BookAt, EitherOf, IsBatchOf};
 ghost use Rattle.core_machine.specs.Turns.{declines};
 ghost use Rattle.core_machine.specs.declared.fault.CoreFault.TheVariants.{Disk as DiskFailed, Memory, Failed, NoConnection};
 ghost use Rattle.serve_lock.specs.Adding.{sums, Handled};
-ghost use Rattle.serve_lock.specs.Handing.{Enough, Refuses, Stopped, found_full, gone, handed, with_full};
-ghost use Rattle.core_machine.specs.History.{HasHistory, IsFirstBatch, IsGiven};
+ghost use Rattle.serve_lock.specs.Handing.{BookAmong, BookFrom, Declined, Enough, HoldsAmong, Refuses, Stopped, found_full, gone, handed, with_full};
+ghost use Rattle.core_machine.specs.History.{HasHistory, HasKept, IsFirstBatch, IsGiven};
 ghost use Rattle.core_machine.specs.Opened.{IsOpened};
 ghost use Rattle.serve_lock.specs.Ringing.{is_set};
 
@@ -23,13 +24,9 @@ use amqp_model::Item;
 use core_machine::{Batch, CoreFault, Counts, Machine, take};
 use router_trace::{ConnectionId, Event};
 use std::collections::VecDeque;
-use std::sync::atomic::{AtomicU64, Ordering};
 
 /// The most items that are taken at a time, and that are handed in while the lock is taken once.
 const MOST: usize = 64;
-
-/// The most items that write to the journal while the lock is taken once.
-const WRITES: usize = 8;
 
 /// A log of a router's events and takes.
 pub trait Log: Drop {}
@@ -107,7 +104,36 @@ impl<M: Machine, L: Log, G: Ledgers> Locked<M, L, G> {
         self.totals.seat()
     }
 
-    /// Handles one event, and returns whether it wrote to the journal.
+    /// Writes what is held to the journal: its batches stand then, and nothing is held.
+    pub fn write(&mut self) -> Result<(), CoreFault>
+        ensures fits { OnOk result ((t : Trace) → M.meaning.fits self.old.router t → M.meaning.fits self.new.router t) }
+        ensures works { OnOk result (M.meaning.is_failed self.new.router ≡ false) }
+        ensures named { M.meaning.id self.new.router ≡ M.meaning.id self.old.router }
+        ensures batches { OnOk result (M.meaning.batches self.new.router ≡ M.meaning.batches self.old.router) }
+        ensures full { self.new.full ≡ self.old.full }
+
+        // Its journal keeps its book, and that of its history. Whatever is answered, a crash leaves the book that the
+        // files kept, or the router's own.
+        ensures keeps { OnOk result ((t : Trace) (b : BookView) → M.meaning.fits self.old.router t
+            → M.meaning.holds self.old.router b → M.meaning.keeps self.new.router (M.meaning.book t)) }
+        ensures leaves { (t : Trace) (b : BookView) → M.meaning.fits self.old.router t
+            → M.meaning.holds self.old.router b
+            → M.meaning.leaves self.new.router (EitherOf b (M.meaning.book t)) }
+        ensures kept { OnOk result (∥ HasKept M.meaning G.opening self.new.router ∥₁) }
+
+        // Which fault occurs, and what it leaves.
+        ensures taken { IfErr result (λ f. f ≡ NoConnection → ⊥) }
+        ensures fails { M.meaning.is_failed self.old.router ≡ true → result ≡ Err Failed }
+        ensures failed { IfErr result (λ f. f ≡ Failed → (self.new.router ≡ self.old.router) × (M.meaning.is_failed self.old.router ≡ true)) }
+        ensures memory { IfErr result (λ f. f ≡ Memory → M.meaning.is_failed self.new.router ≡ true) }
+        ensures disk { IfErr result (λ f. f ≡ DiskFailed → M.meaning.is_failed self.new.router ≡ true) }
+        ensures cause { IfErr result (λ f. f ≡ DiskFailed → M.meaning.failures self.old.router < M.meaning.failures self.new.router) }
+        ensures no_other { (IsErrOf result DiskFailed → ⊥) → M.meaning.failures self.new.router ≡ M.meaning.failures self.old.router }
+    {
+        self.router.write_held()
+    }
+
+    /// Handles one event, whose batch is written with what is held before it, and returns whether it has a batch.
     pub fn handle(&mut self, seat: &mut Seat<G>, event: Event) -> Result<bool, CoreFault>
         ensures counted { OnOk result (seat.new ≡ with_event event seat.old) }
         ensures uncounted { OnErr result (seat.new ≡ seat.old) }
@@ -116,20 +142,54 @@ impl<M: Machine, L: Log, G: Ledgers> Locked<M, L, G> {
         ensures named { M.meaning.id self.new.router ≡ M.meaning.id self.old.router }
         ensures works { OnOk result (M.meaning.is_failed self.new.router ≡ false) }
 
-        // Its journal keeps the next book. Whatever is answered, a crash leaves the book before the event or the one
-        // after it.
-        ensures keeps { OnOk result ((t : Trace) → M.meaning.fits self.old.router t
-            → M.meaning.keeps self.old.router (M.meaning.book t) → M.meaning.keeps self.new.router
+        // Its journal keeps the next book. Whatever is answered, a crash leaves the book that the files kept, the book
+        // before the event, or the one after it.
+        ensures keeps { OnOk result ((t : Trace) (b : BookView) → M.meaning.fits self.old.router t
+            → M.meaning.holds self.old.router b → M.meaning.keeps self.new.router
             (M.meaning.book (M.meaning.next (M.meaning.id self.old.router) t (step_of event)))) }
-        ensures leaves { (t : Trace) → M.meaning.fits self.old.router t
-            → M.meaning.keeps self.old.router (M.meaning.book t)
-            → M.meaning.leaves self.new.router (BookAt M.meaning t event) }
+        ensures leaves { (t : Trace) (b : BookView) → M.meaning.fits self.old.router t
+            → M.meaning.holds self.old.router b
+            → M.meaning.leaves self.new.router (BookFrom M.meaning b t event) }
 
         // One more event is counted as one that found the journal full exactly if it did.
         ensures full { OnOk result ((t : Trace) → M.meaning.fits self.old.router t → self.new.full ≡ with_full (M.meaning.finds_full t event) self.old.full) }
         ensures not_full { OnErr result (self.new.full ≡ self.old.full) }
 
         // Which fault occurs, and what it leaves.
+        ensures refused { IfErr result (λ f. f ≡ NoConnection → (t : Trace) → M.meaning.fits self.old.router t
+            → M.meaning.fits self.new.router t × (declines t event ≡ true)) }
+        ensures failed { IfErr result (λ f. f ≡ Failed → (self.new.router ≡ self.old.router) × (M.meaning.is_failed self.old.router ≡ true)) }
+        ensures memory { IfErr result (λ f. f ≡ Memory → M.meaning.is_failed self.new.router ≡ true) }
+        ensures disk { IfErr result (λ f. f ≡ DiskFailed → M.meaning.is_failed self.new.router ≡ true) }
+        ensures cause { IfErr result (λ f. f ≡ DiskFailed → M.meaning.failures self.old.router < M.meaning.failures self.new.router) }
+        ensures no_other { (IsErrOf result DiskFailed → ⊥) → M.meaning.failures self.new.router ≡ M.meaning.failures self.old.router }
+    {
+        match self.write() {
+            Ok(()) => self.handle_next(seat, event),
+            Err(fault) => {
+                drop(event);
+                Err(fault)
+            }
+        }
+    }
+
+    /// Handles one event where nothing is held, and returns whether it has a batch, which is written.
+    fn handle_next(&mut self, seat: &mut Seat<G>, event: Event) -> Result<bool, CoreFault>
+        requires kept { ∥ HasKept M.meaning G.opening self.old.router ∥₁ }
+        ensures counted { OnOk result (seat.new ≡ with_event event seat.old) }
+        ensures uncounted { OnErr result (seat.new ≡ seat.old) }
+        ensures fits { OnOk result ((t : Trace) → M.meaning.fits self.old.router t → M.meaning.fits self.new.router (M.meaning.next (M.meaning.id self.old.router) t (step_of event))) }
+        ensures wrote { IfOk result (λ wrote. (t : Trace) → M.meaning.fits self.old.router t → M.meaning.batches self.new.router ≡ M.meaning.batches self.old.router + (if wrote then 1 else 0)) }
+        ensures named { M.meaning.id self.new.router ≡ M.meaning.id self.old.router }
+        ensures works { OnOk result (M.meaning.is_failed self.new.router ≡ false) }
+        ensures keeps { OnOk result ((t : Trace) → M.meaning.fits self.old.router t
+            → M.meaning.keeps self.old.router (M.meaning.book t) → M.meaning.keeps self.new.router
+            (M.meaning.book (M.meaning.next (M.meaning.id self.old.router) t (step_of event)))) }
+        ensures leaves { (t : Trace) → M.meaning.fits self.old.router t
+            → M.meaning.keeps self.old.router (M.meaning.book t)
+            → M.meaning.leaves self.new.router (BookAt M.meaning t event) }
+        ensures full { OnOk result ((t : Trace) → M.meaning.fits self.old.router t → self.new.full ≡ with_full (M.meaning.finds_full t event) self.old.full) }
+        ensures not_full { OnErr result (self.new.full ≡ self.old.full) }
         ensures refused { IfErr result (λ f. f ≡ NoConnection → (self.new.router ≡ self.old.router) × ((t : Trace) → M.meaning.fits self.old.router t → declines t event ≡ true)) }
         ensures failed { IfErr result (λ f. f ≡ Failed → (self.new.router ≡ self.old.router) × (M.meaning.is_failed self.old.router ≡ true)) }
         ensures memory { IfErr result (λ f. f ≡ Memory → M.meaning.is_failed self.new.router ≡ true) }
@@ -146,15 +206,53 @@ impl<M: Machine, L: Log, G: Ledgers> Locked<M, L, G> {
         Ok(self.router.batch() != before)
     }
 
-    /// Handles the items at the front of a queue, in order, each as an event of its own: all of them, but at most 64, and none after
-    /// one that is refused or the eighth that wrote to the journal; nor after the first that wrote, if threads wait for the lock, of
-    /// which `waiting` has the number. One that is refused is dropped. Returns whether one wrote.
-    pub fn handle_items(
+    /// Handles one event, whose batch is held, and returns whether it has one.
+    pub fn hold(&mut self, seat: &mut Seat<G>, event: Event) -> Result<bool, CoreFault>
+        ensures counted { OnOk result (seat.new ≡ with_event event seat.old) }
+        ensures uncounted { OnErr result (seat.new ≡ seat.old) }
+        ensures fits { OnOk result ((t : Trace) → M.meaning.fits self.old.router t → M.meaning.fits self.new.router (M.meaning.next (M.meaning.id self.old.router) t (step_of event))) }
+        ensures wrote { IfOk result (λ wrote. (t : Trace) → M.meaning.fits self.old.router t → M.meaning.batches self.new.router ≡ M.meaning.batches self.old.router + (if wrote then 1 else 0)) }
+        ensures named { M.meaning.id self.new.router ≡ M.meaning.id self.old.router }
+        ensures works { OnOk result (M.meaning.is_failed self.new.router ≡ false) }
+
+        // Its files keep the book that they kept, or, after a checkpoint, the book before the event. Whatever is answered,
+        // a crash leaves one of the two.
+        ensures holds { OnOk result ((t : Trace) (b : BookView) → M.meaning.fits self.old.router t
+            → M.meaning.holds self.old.router b
+            → M.meaning.holds self.new.router b ⊎ M.meaning.holds self.new.router (M.meaning.book t)) }
+        ensures leaves { (t : Trace) (b : BookView) → M.meaning.fits self.old.router t
+            → M.meaning.holds self.old.router b
+            → M.meaning.leaves self.new.router (EitherOf b (M.meaning.book t)) }
+
+        // One more event is counted as one that found the journal full exactly if it did.
+        ensures full { OnOk result ((t : Trace) → M.meaning.fits self.old.router t → self.new.full ≡ with_full (M.meaning.finds_full t event) self.old.full) }
+        ensures not_full { OnErr result (self.new.full ≡ self.old.full) }
+
+        // Which fault occurs, and what it leaves.
+        ensures refused { IfErr result (λ f. f ≡ NoConnection → (self.new.router ≡ self.old.router) × ((t : Trace) → M.meaning.fits self.old.router t → declines t event ≡ true)) }
+        ensures works_on { IfErr result (λ f. f ≡ NoConnection → M.meaning.is_failed self.old.router ≡ false) }
+        ensures failed { IfErr result (λ f. f ≡ Failed → (self.new.router ≡ self.old.router) × (M.meaning.is_failed self.old.router ≡ true)) }
+        ensures memory { IfErr result (λ f. f ≡ Memory → M.meaning.is_failed self.new.router ≡ true) }
+        ensures disk { IfErr result (λ f. f ≡ DiskFailed → M.meaning.is_failed self.new.router ≡ true) }
+        ensures cause { IfErr result (λ f. f ≡ DiskFailed → M.meaning.failures self.old.router < M.meaning.failures self.new.router) }
+        ensures no_other { (IsErrOf result DiskFailed → ⊥) → M.meaning.failures self.new.router ≡ M.meaning.failures self.old.router }
+    {
+        let kind = Kind::of(&event);
+        let before = self.router.batch();
+        let done = self.router.hold(event)?;
+        self.full = full_after(self.full, done.full);
+        drop(done);
+        self.totals.add(seat, kind, self.router.counts());
+        Ok(self.router.batch() != before)
+    }
+
+    /// Handles the items at the front of a queue, in order, each as an event of its own, and holds their batches: all of them, but at most 64,
+    /// and none after one that is refused, which is dropped. Returns whether one has a batch.
+    pub fn hold_items(
         &mut self,
         seat: &mut Seat<G>,
         conn: ConnectionId,
         items: &mut VecDeque<Item>,
-        waiting: &AtomicU64,
     ) -> Result<bool, CoreFault>
         ensures handled { OnOk result (Handled 0 seat.old seat.new items.old.items items.new.items) }
         ensures refused { OnErr result (Handled 1 seat.old seat.new items.old.items items.new.items) }
@@ -162,9 +260,15 @@ impl<M: Machine, L: Log, G: Ledgers> Locked<M, L, G> {
 
         // Exactly the items that left the queue were handled; and none is left without a reason.
         ensures fits { OnOk result ((t : Trace) → M.meaning.fits self.old.router t → M.meaning.fits self.new.router (handed (M.meaning.next (M.meaning.id self.old.router)) conn (gone items.old.items items.new.items) t)) }
-        ensures stopped { OnOk result ((t : Trace) → M.meaning.fits self.old.router t → Stopped items.old.items items.new.items (M.meaning.batches self.old.router) (M.meaning.batches self.new.router)) }
+        ensures stopped { OnOk result (Stopped items.old.items items.new.items) }
         ensures wrote { IfOk result (λ wrote. (t : Trace) → M.meaning.fits self.old.router t → (wrote ≡ true → M.meaning.batches self.old.router < M.meaning.batches self.new.router) × (wrote ≡ false → M.meaning.batches self.new.router ≡ M.meaning.batches self.old.router)) }
-        ensures writes { OnOk result ((t : Trace) → M.meaning.fits self.old.router t → M.meaning.batches self.new.router ≤ M.meaning.batches self.old.router + 8) }
+        ensures failures { OnOk result (M.meaning.failures self.new.router ≡ M.meaning.failures self.old.router) }
+        ensures untouched { OnOk result (M.meaning.is_failed self.new.router ≡ true → self.new.router ≡ self.old.router) }
+        ensures queue { OnOk result (items.old.items ≡ gone items.old.items items.new.items ++ items.new.items) }
+
+        // Its files keep the book that they kept, or the book after some first ones of these items.
+        ensures holds { OnOk result ((t : Trace) (b : BookView) → M.meaning.fits self.old.router t → M.meaning.holds self.old.router b
+            → HoldsAmong M.meaning self.old.router self.new.router conn (gone items.old.items items.new.items) t b) }
 
         // So many more events are counted that found the journal full.
         ensures full { OnOk result ((t : Trace) → M.meaning.fits self.old.router t
@@ -174,21 +278,79 @@ impl<M: Machine, L: Log, G: Ledgers> Locked<M, L, G> {
         ensures fault { IfErr result (λ f.
             Refuses M.meaning conn items.old.items items.new.items self.old.router self.new.router self.old.full self.new.full f) }
     {
-        let mut writes = WRITES;
+        let mut wrote = false;
         for _turn in 0..MOST {
-            if gives_way(writes, waiting) {
-                return Ok(true);
-            }
             let Some(item) = items.pop_front() else {
-                return Ok(is_some_written(writes));
+                return Ok(wrote);
             };
-            let wrote = self.handle(seat, Event::Item(conn, item))?;
-            writes = left_of(writes, wrote);
+            let more = self.hold(seat, Event::Item(conn, item))?;
+            wrote |= more;
         }
-        Ok(is_some_written(writes))
+        Ok(wrote)
     }
 
-    /// Handles one take.
+    /// Handles the items at the front of a queue as `hold_items` does, and then writes what is held: their batches stand behind each other in
+    /// one append, also where one of the items was declined. Returns whether one has a batch. The fault that is told is the first one; but that
+    /// the disk failed, or memory was refused, is told rather than that an item was declined.
+    pub fn handle_items(
+        &mut self,
+        seat: &mut Seat<G>,
+        conn: ConnectionId,
+        items: &mut VecDeque<Item>,
+    ) -> Result<bool, CoreFault>
+        ensures handled { OnOk result (Handled 0 seat.old seat.new items.old.items items.new.items) }
+        ensures refused { OnErr result (Handled 0 seat.old seat.new items.old.items items.new.items
+            ⊎ Handled 1 seat.old seat.new items.old.items items.new.items) }
+        ensures enough { OnOk result (Enough items.old.items items.new.items) }
+
+        // Exactly the items that left the queue were handled; and none is left without a reason.
+        ensures fits { OnOk result ((t : Trace) → M.meaning.fits self.old.router t → M.meaning.fits self.new.router (handed (M.meaning.next (M.meaning.id self.old.router)) conn (gone items.old.items items.new.items) t)) }
+        ensures stopped { OnOk result (Stopped items.old.items items.new.items) }
+        ensures wrote { IfOk result (λ wrote. (t : Trace) → M.meaning.fits self.old.router t → (wrote ≡ true → M.meaning.batches self.old.router < M.meaning.batches self.new.router) × (wrote ≡ false → M.meaning.batches self.new.router ≡ M.meaning.batches self.old.router)) }
+        ensures works { OnOk result (M.meaning.is_failed self.new.router ≡ false) }
+
+        // Its journal keeps the book after them. Whatever is answered, a crash leaves the book that the files kept, or
+        // the book after some first items of the queue.
+        ensures keeps { OnOk result ((t : Trace) (b : BookView) → M.meaning.fits self.old.router t → M.meaning.holds self.old.router b
+            → M.meaning.keeps self.new.router (M.meaning.book (handed (M.meaning.next (M.meaning.id self.old.router)) conn (gone items.old.items items.new.items) t))) }
+        ensures leaves { (t : Trace) (b : BookView) → M.meaning.fits self.old.router t → M.meaning.holds self.old.router b
+            → M.meaning.leaves self.new.router (BookAmong M.meaning self.old.router conn items.old.items t b) }
+
+        // So many more events are counted that found the journal full.
+        ensures full { OnOk result ((t : Trace) → M.meaning.fits self.old.router t
+            → self.new.full ≡ min (self.old.full + found_full M.meaning (M.meaning.id self.old.router) conn (gone items.old.items items.new.items) t) (2 ^ 64 - 1)) }
+
+        // Which fault occurs, and what it leaves.
+        ensures declined { IfErr result (λ f. f ≡ NoConnection →
+            Declined M.meaning conn items.old.items items.new.items self.old.router self.new.router self.old.full self.new.full) }
+        ensures failed { IfErr result (λ f. f ≡ Failed → (self.new.router ≡ self.old.router) × (M.meaning.is_failed self.old.router ≡ true)) }
+        ensures memory { IfErr result (λ f. f ≡ Memory → M.meaning.is_failed self.new.router ≡ true) }
+        ensures disk { IfErr result (λ f. f ≡ DiskFailed → M.meaning.is_failed self.new.router ≡ true) }
+        ensures cause { IfErr result (λ f. f ≡ DiskFailed → M.meaning.failures self.old.router < M.meaning.failures self.new.router) }
+        ensures no_other { (IsErrOf result DiskFailed → ⊥) → M.meaning.failures self.new.router ≡ M.meaning.failures self.old.router }
+    {
+        match self.hold_items(seat, conn, items) {
+            Ok(wrote) => match self.write() {
+                Ok(()) => Ok(wrote),
+                Err(fault) => Err(fault),
+            },
+            Err(CoreFault::NoConnection) => match self.write() {
+                Ok(()) => Err(CoreFault::NoConnection),
+                Err(fault) => Err(fault),
+            },
+            Err(fault) => Err(fault),
+        }
+    }
+
+    /// How many bytes of batches are held.
+    pub fn held(&self) -> usize
+        ensures { (t : Trace) (b : BookView) → result ≡ 0 → M.meaning.fits self.now.router t → M.meaning.holds self.now.router b
+            → M.meaning.keeps self.now.router (M.meaning.book t) }
+    {
+        self.router.held()
+    }
+
+    /// Handles one take, after what is held is written: so nothing is taken of an event whose batch doesn't stand.
     pub fn take(&mut self, seat: &mut Seat<G>, conn: ConnectionId) -> Result<Batch, CoreFault>
         ensures fits { IfOk result (λ batch. (t : Trace) → M.meaning.fits self.old.router t → M.meaning.fits self.new.router (Took conn.0 (length batch.items.items) ∷ t)) }
         ensures batch { IfOk result (λ batch. (t : Trace) → M.meaning.fits self.old.router t → IsBatchOf (known t conn.0) 64 batch) }
@@ -199,7 +361,38 @@ impl<M: Machine, L: Log, G: Ledgers> Locked<M, L, G> {
         ensures uncounted { OnErr result (seat.new ≡ seat.old) }
         ensures full { self.new.full ≡ self.old.full }
 
+        // Its journal keeps the book of the trace, with what was held.
+        ensures keeps { IfOk result (λ batch. (t : Trace) (b : BookView) → M.meaning.fits self.old.router t → M.meaning.holds self.old.router b
+            → M.meaning.keeps self.new.router (M.meaning.book (Took conn.0 (length batch.items.items) ∷ t))) }
+
         // Which fault occurs, and what it leaves.
+        ensures refused { IfErr result (λ f. f ≡ NoConnection → (t : Trace) → M.meaning.fits self.old.router t
+            → M.meaning.fits self.new.router t × (known t conn.0 ≡ None)) }
+        ensures failed { IfErr result (λ f. f ≡ Failed → (self.new.router ≡ self.old.router) × (M.meaning.is_failed self.old.router ≡ true)) }
+        ensures memory { IfErr result (λ f. f ≡ Memory → M.meaning.is_failed self.new.router ≡ true) }
+        ensures disk { IfErr result (λ f. f ≡ DiskFailed → M.meaning.is_failed self.new.router ≡ true) }
+        ensures cause { IfErr result (λ f. f ≡ DiskFailed → M.meaning.failures self.old.router < M.meaning.failures self.new.router) }
+    {
+        let written = self.write();
+        match written {
+            Ok(()) => self.take_next(seat, conn),
+            Err(fault) => Err(fault),
+        }
+    }
+
+    /// Handles one take where nothing is held.
+    fn take_next(&mut self, seat: &mut Seat<G>, conn: ConnectionId) -> Result<Batch, CoreFault>
+        requires kept { ∥ HasKept M.meaning G.opening self.old.router ∥₁ }
+        ensures fits { IfOk result (λ batch. (t : Trace) → M.meaning.fits self.old.router t → M.meaning.fits self.new.router (Took conn.0 (length batch.items.items) ∷ t)) }
+        ensures batch { IfOk result (λ batch. (t : Trace) → M.meaning.fits self.old.router t → IsBatchOf (known t conn.0) 64 batch) }
+        ensures whose { IfOk result (λ b. b.conn ≡ conn) }
+        ensures most { IfOk result (λ b. length b.items.items ≤ 64) }
+        ensures given { IfOk result (λ b. ∥ IsGiven M.meaning G.opening conn b ∥₁) }
+        ensures counted { OnOk result (seat.new ≡ with_batch seat.old) }
+        ensures uncounted { OnErr result (seat.new ≡ seat.old) }
+        ensures full { self.new.full ≡ self.old.full }
+        ensures keeps { IfOk result (λ batch. (t : Trace) → M.meaning.keeps self.old.router (M.meaning.book t)
+            → M.meaning.keeps self.new.router (M.meaning.book (Took conn.0 (length batch.items.items) ∷ t))) }
         ensures refused { IfErr result (λ f. f ≡ NoConnection → (self.new.router ≡ self.old.router) × ((t : Trace) → M.meaning.fits self.old.router t → known t conn.0 ≡ None)) }
         ensures failed { IfErr result (λ f. f ≡ Failed → (self.new.router ≡ self.old.router) × (M.meaning.is_failed self.old.router ≡ true)) }
         ensures memory { IfErr result (λ f. f ≡ Memory → M.meaning.is_failed self.new.router ≡ true) }
@@ -291,31 +484,4 @@ fn full_after(full: u64, found: bool) -> u64
     ensures { result ≡ with_full found full }
 {
     if found { full.saturating_add(1) } else { full }
-}
-
-/// Whether the lock is to be released, where so many more items may write to the journal, and so many threads wait for the lock.
-fn gives_way(writes: usize, waiting: &AtomicU64) -> bool
-    ensures wrote { result ≡ true → writes < 8 }
-    ensures left { result ≡ false → 0 < writes }
-{
-    writes == 0 || (writes < WRITES && waiting.load(Ordering::SeqCst) > 0)
-}
-
-/// Whether an item wrote to the journal, where so many more may.
-fn is_some_written(writes: usize) -> bool
-    ensures some { result ≡ true → writes < 8 }
-    ensures none { result ≡ false → 8 ≤ writes }
-{
-    writes < WRITES
-}
-
-/// How many more items may write to the journal, after one that wrote, or didn't.
-fn left_of(writes: usize, wrote: bool) -> usize
-    ensures { 0 < writes → writes ≡ result + (if wrote then 1 else 0) }
-{
-    if wrote {
-        writes.saturating_sub(1)
-    } else {
-        writes
-    }
 }

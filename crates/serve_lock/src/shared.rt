@@ -1,7 +1,6 @@
 //! The lock, and the bells beside it.
-ghost use Rattle.std.specs.Prelude.{◌≡◌, ◌<◌, ◌≤◌, true, length, vec_len, OnOk, OnErr, IfOk, IfErr, IfSome};
+ghost use Rattle.std.specs.Prelude.{◌≡◌, ◌<◌, ◌≤◌, ◌⊎◌, true, length, vec_len, OnOk, OnErr, IfOk, IfSome};
 ghost use Rattle.core_machine.specs.Counting.{uncounted, with_event, with_batch};
-ghost use Rattle.core_machine.specs.declared.fault.CoreFault.TheVariants.{Disk as DiskFailed};
 ghost use Rattle.serve_lock.specs.Adding.{sums, Handled};
 ghost use Rattle.serve_lock.specs.Handing.{Enough};
 ghost use Rattle.core_machine.specs.History.{HasHistory, IsFirstBatch, IsGiven};
@@ -23,6 +22,9 @@ use std::time::Duration;
 
 /// How many seconds a thread sleeps at a bell at most, before it looks again.
 const LONG: u64 = 60;
+
+/// From this many bytes on what is held is written, even if others would go on with it.
+const MOST_HELD: usize = 524_288;
 
 /// The bell of a connection.
 #[derive(Drop)]
@@ -47,6 +49,8 @@ pub struct Shared<M: Machine, L: Log, G: Ledgers> {
     state: Mutex<Locked<M, L, G>>,
     // how many threads wait for the lock that count as waiting
     waiting: AtomicU64,
+    // how many readers wait for it whose connections write: they go on with what is held, and write it
+    joining: AtomicU64,
     // rung by each of them once it has the lock
     turn: Condvar,
     bells: Vec<Bell>,
@@ -81,6 +85,7 @@ impl<M: Machine, L: Log, G: Ledgers> Shared<M, L, G> {
         Ok(Shared {
             state: Mutex::new(locked),
             waiting: AtomicU64::new(0),
+            joining: AtomicU64::new(0),
             turn: Condvar::new(),
             bells,
         })
@@ -118,9 +123,10 @@ impl<M: Machine, L: Log, G: Ledgers> Shared<M, L, G> {
     }
 
     /// Submits the items at the front of a queue, in order, each as an event of its own, while the lock is taken once: up to 64 of them, and
-    /// none after one that is refused or the eighth that wrote to the journal, nor after the first if others wait for the lock. Then it wakes
-    /// the writers that have something to take, and lets one of those others have its turn. The seat counts exactly the items that left the
-    /// queue, but for one that is refused, which is dropped.
+    /// none after one that is refused, which is dropped. Their batches are written together before the lock is released; or, where the reader
+    /// of another connection that writes waits for the lock, they stay held, and that one writes them with its own, or whoever takes first. Then
+    /// it wakes the writers that have something to take, and, where one of the items has a batch and others waited for the lock, lets one of
+    /// those have its turn. The seat counts exactly the items that left the queue, but for one that is refused.
     pub fn submit_items<R: Wait>(
         &self,
         rt: &R,
@@ -129,11 +135,16 @@ impl<M: Machine, L: Log, G: Ledgers> Shared<M, L, G> {
         items: &mut VecDeque<Item>,
     ) -> Result<(), CoreFault>
         ensures handled { OnOk result (Handled 0 seat.old seat.new items.old.items items.new.items) }
-        ensures refused { OnErr result (Handled 1 seat.old seat.new items.old.items items.new.items) }
+        ensures refused { OnErr result (Handled 0 seat.old seat.new items.old.items items.new.items
+            ⊎ Handled 1 seat.old seat.new items.old.items items.new.items) }
         ensures enough { OnOk result (Enough items.old.items items.new.items) }
     {
-        let mut locked = self.lock_for(rt, conn);
-        let done = locked.handle_items(seat, conn, items, &self.waiting);
+        let mut locked = self.lock_to_join(rt, conn);
+        let done = if self.is_joined(&locked) {
+            locked.hold_items(seat, conn, items)
+        } else {
+            locked.handle_items(seat, conn, items)
+        };
         let woken = locked.wake(None);
         let others = self.waiting.load(Ordering::SeqCst) > 0;
         let turn = self.turn.notifications();
@@ -154,7 +165,7 @@ impl<M: Machine, L: Log, G: Ledgers> Shared<M, L, G> {
     ///
     /// # Errors
     ///
-    /// `NoConnection` if the connection is unknown, `Failed` or `Memory` if the router fails.
+    /// `NoConnection` if the connection is unknown, `Failed`, `Memory` or `Disk` if the router fails.
     pub fn wait_batch<R: Wait>(
         &self,
         rt: &R,
@@ -167,7 +178,6 @@ impl<M: Machine, L: Log, G: Ledgers> Shared<M, L, G> {
         ensures given { IfOk result (λ b. ∥ IsGiven M.meaning G.opening conn b ∥₁) }
         ensures counted { OnOk result (seat.new ≡ with_batch seat.old) }
         ensures uncounted { OnErr result (seat.new ≡ seat.old) }
-        ensures no_disk { IfErr result (λ f. f ≡ DiskFailed → ⊥) }
     {
         if let Some(quiet) = quiet.take() {
             self.doze(rt, conn, quiet);
@@ -213,6 +223,7 @@ impl<M: Machine, L: Log, G: Ledgers> Shared<M, L, G> {
         let Shared {
             state,
             waiting: _,
+            joining: _,
             turn: _,
             bells: _,
         } = self;
@@ -245,6 +256,22 @@ impl<M: Machine, L: Log, G: Ledgers> Shared<M, L, G> {
         } else {
             self.lock(rt)
         }
+    }
+
+    /// Takes the lock for what a connection hands in, which goes on with what is held then, if the connection writes.
+    fn lock_to_join<R: Wait>(&self, rt: &R, conn: ConnectionId) -> MutexGuard<'_, Locked<M, L, G>> {
+        if !self.bells[bell_of(conn)].writes.load(Ordering::SeqCst) {
+            return self.lock(rt);
+        }
+        self.joining.fetch_add(1, Ordering::SeqCst);
+        let locked = self.state.lock(rt);
+        self.joining.fetch_sub(1, Ordering::SeqCst);
+        locked
+    }
+
+    /// Whether another reader goes on with what is held, and writes it.
+    fn is_joined(&self, locked: &Locked<M, L, G>) -> bool {
+        self.joining.load(Ordering::SeqCst) > 0 && locked.held() < MOST_HELD
     }
 
     /// Releases the lock, sleeps until the bell of a connection is rung, and takes the lock again.

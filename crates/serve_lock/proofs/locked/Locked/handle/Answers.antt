@@ -1,25 +1,11 @@
-use Rattle.std.proofs.Common.{◌∙◌, sym}
-use Rattle.std.proofs.Math.Logic.{∥∥₁_map}
-use Rattle.core_machine.proofs.Histories.{handled}
-use Rattle.serve_lock.proofs.Queues.{full_fits}
+use Rattle.serve_lock.proofs.Queues.{leaves_held, leaves_next}
 use Rattle.serve_lock.proofs.locked.Locked.handle.Goals as goal
 
--- a fault is handed on
-pub invariant_of-self : goal.invariant_of-self
-invariant_of-self g c = let h = c.handle.ensures in
-    let more = handled g.M.Machine.meaning g.G.Ledgers.opening c.args.self.now.router c.handle.new.self c.args.event c.handle.result in record {
-      bounded = c.args.self.now.bounded;
-      counted = c.in_err-done.ensures.uncounted ∙ c.args.self.now.counted;
-      history = ∥∥₁_map c.args.self.now.history (λ lived. more lived h.fits h.taken h.works h.keeps h.leaves h.counted h.uncounted h.named h.failed h.refused h.refuses h.unchanged h.memory h.disk);
-      first = c.args.self.now.first;
-    }
+-- what was held is written, and the event was handled, or met a fault
+pub returns-in-Ok-clause-leaves : goal.returns-in-Ok-clause-leaves
+returns-in-Ok-clause-leaves g c = λ t b fits holds. leaves_next g.M.Machine.meaning c.handle_next.new.self.router b t c.args.event
+    (c.handle_next.ensures.leaves t (c.in-Ok.ensures.fits t fits) (c.in-Ok.ensures.keeps t b fits holds))
 
--- the event was handled
-pub invariant_of-self-2 : goal.invariant_of-self-2
-invariant_of-self-2 g c = let h = c.handle.ensures in
-    let more = handled g.M.Machine.meaning g.G.Ledgers.opening c.args.self.now.router c.handle.new.self c.args.event c.handle.result in record {
-      bounded = full_fits _ _ _ c.full_after-self.ensures;
-      counted = sym c.counts.ensures ∙ sym c.add.ensures.total;
-      history = ∥∥₁_map c.args.self.now.history (λ lived. more lived h.fits h.taken h.works h.keeps h.leaves h.counted h.uncounted h.named h.failed h.refused h.refuses h.unchanged h.memory h.disk);
-      first = c.args.self.now.first;
-    }
+-- it couldn't be written
+pub returns-in-Err-clause-leaves : goal.returns-in-Err-clause-leaves
+returns-in-Err-clause-leaves g c = λ t b fits holds. leaves_held g.M.Machine.meaning c.write.new.self.router b t c.args.event (c.in-Err.ensures.leaves t b fits holds)
