@@ -15,6 +15,8 @@ from served import PROGRAM, Served, expect
 # rows of a producer's link; deliveries of one that are bound to nothing and not settled
 MOST_ROWS, MOST_UNBOUND = 64, 1_024
 MANY = 300
+# messages of a busy pair
+BUSY = 50
 # messages of 60,000 bytes that pass two checkpoints
 LARGE = 40
 
@@ -564,6 +566,34 @@ def many(scene, served):
     it.close()
 
 
+def told_soon(scene, served):
+    """A pair that sends one message and stops is told within a second: alone, and beside four pairs that have 50 messages each under way."""
+    alone, others = Pair(scene, served, "d.soon"), [Pair(scene, served, f"d.busy{n}", credit=BUSY) for n in range(4)]
+    for beside in ([], others):
+        pairs = [alone, *beside]
+        for it in beside:
+            for n in range(BUSY):
+                it.p.send(it.sender, n)
+        sent, began, taken = alone.p.send(alone.sender, "m"), time.monotonic(), {it: len(it.c.got["r"]) for it in pairs}
+        taken.update({it: 0 for it in beside})
+
+        def told():
+            for it in pairs:
+                for delivery, _ in it.c.got["r"][taken[it]:]:
+                    it.c.decide(delivery, Delivery.ACCEPTED)
+                    taken[it] += 1
+            return sent.remote_state
+
+        until(told, *(peer for it in pairs for peer in (it.c, it.p)))
+        expect(time.monotonic() - began < 1, True)
+        until(lambda: told() and all(len(it.p.updates) == BUSY for it in beside), *(peer for it in pairs for peer in (it.c, it.p)))
+        for it in pairs:
+            it.settle(*(one for one in it.p.updates if not one.settled))
+    for it in [alone, *others]:
+        it.close()
+    scene.acts()
+
+
 class KeepsTarget(SenderOption):
     """A sender whose target keeps what is unsettled."""
 
@@ -653,7 +683,7 @@ ROWS = (
     ("60,000 bytes", long_messages), (f"{LARGE} of 60,000 bytes, and two checkpoints", checkpoints),
     ("64 rows", most_rows), ("64 rows that are settled first", most_rows_settled),
     ("1,024 released ones, and one more", most_unbound),
-    (f"{MANY} messages in order", many), ("Proton's handlers", handler),
+    (f"{MANY} messages in order", many), ("one message is told soon", told_soon), ("Proton's handlers", handler),
 )
 
 
