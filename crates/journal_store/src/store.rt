@@ -5,6 +5,7 @@ ghost use Rattle.book_model.specs.declared.act.Act.{Act as AnAct};
 ghost use Rattle.book_model.specs.Book.{BookView, first_fault, effects};
 ghost use Rattle.journal_codec.specs.Batches.{HaveOutcomes};
 ghost use Rattle.journal_codec.specs.Format.{acts_bytes};
+ghost use Rattle.twin_journal.specs.Held.{held_bytes};
 ghost use Rattle.twin_journal.specs.Holding.{BeforeOrAfter};
 ghost use Rattle.twin_journal.specs.Journal.{batch_count, has_failed};
 ghost use Rattle.twin_journal.specs.Judging.{Explains};
@@ -249,9 +250,10 @@ impl<T: Twin> Store<T> {
         self.journal.write_held()
     }
 
-    /// How many bytes of batches are held.
+    /// How many bytes the batches have that are held, with the gates before them.
     pub fn held(&self) -> usize
-        ensures { result ≡ 0 → (kept : BookView) → StandsBehind T.seen T.may_leave self.now kept → Stands T.seen T.may_leave self.now }
+        ensures number { (kept : BookView) (behind : StandsBehind T.seen T.may_leave self.now kept) → result ≡ held_bytes behind.held }
+        ensures none { result ≡ 0 → (kept : BookView) → StandsBehind T.seen T.may_leave self.now kept → Stands T.seen T.may_leave self.now }
     {
         self.journal.held()
     }

@@ -2,6 +2,7 @@
 ghost use Rattle.std.specs.Prelude.{◌≡◌, ◌≢◌, ◌⊎◌, ◌+◌, ◌<◌, List, [], true, false, Err, OnOk, OnErr, IfOk, IfErr, IfSome, IfNone, IsErrOf};
 ghost use Rattle.disk_core.specs.Disk.{LeavesOnly};
 ghost use Rattle.book_model.specs.Book.{BookView, effects};
+ghost use Rattle.twin_journal.specs.Held.{held_bytes};
 ghost use Rattle.twin_journal.specs.Journal.{batch_count};
 ghost use Rattle.journal_store.specs.Store.{OpensTo, Stands, StandsBehind, Writable, IsSuited, journal_of, twin_of, count_of, batches_after};
 ghost use Rattle.router_trace.specs.Trace.{Entry, step_of};
@@ -223,9 +224,10 @@ impl<T: Twin> Core<T> {
         }
     }
 
-    /// How many bytes of batches are held.
+    /// How many bytes the batches have that are held, with the gates before them.
     pub fn held(&self) -> usize
-        ensures { result ≡ 0 → (kept : BookView) → StandsBehind T.seen T.may_leave (store_of self.now) kept → Stands T.seen T.may_leave (store_of self.now) }
+        ensures number { (kept : BookView) (behind : StandsBehind T.seen T.may_leave (store_of self.now) kept) → result ≡ held_bytes behind.held }
+        ensures none { result ≡ 0 → (kept : BookView) → StandsBehind T.seen T.may_leave (store_of self.now) kept → Stands T.seen T.may_leave (store_of self.now) }
     {
         self.store.held()
     }

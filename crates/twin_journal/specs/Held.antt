@@ -14,6 +14,10 @@ pub record IsHeld (figures : Figures) (held : Held) (lists : List (List Act)) : 
   pub bytes : held.bytes.items ≡ blocks lists ++ 0 ∷ []
   pub ahead : held.ahead ≡ record figures { place = figures.place + length (blocks lists); last = figures.last + length lists }
 
+-- how many bytes batches have that are held: an open gate before each, the length of its acts, and these
+abbrev pub held_bytes : List (List Act) → ℕ
+held_bytes held = length (blocks held)
+
 -- what stands behind the first gate: batches with open gates between them, and a closed gate
 pub record IsFillOf (lists : List (List Act)) (fill : List ℕ) : Type 0 where
   pub batches : List ℕ

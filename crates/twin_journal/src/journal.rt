@@ -7,7 +7,7 @@ ghost use Rattle.journal_codec.specs.Batches.{HaveOutcomes, IsBatch, book_after}
 ghost use Rattle.journal_codec.specs.Format.{acts_bytes};
 ghost use Rattle.gate_journal.specs.Ordered.{IsOrdered};
 ghost use Rattle.gate_journal.specs.Reserve.{reserve};
-ghost use Rattle.twin_journal.specs.Held.{IsAhead};
+ghost use Rattle.twin_journal.specs.Held.{IsAhead, held_bytes};
 ghost use Rattle.twin_journal.specs.Holding.{BeforeOrAfter, HoldsAt, HoldsUpTo, TwinHolds, OpensTo, last_of};
 ghost use Rattle.twin_journal.specs.Journal.{Holds, HoldsBook, Keeps, KeepsBook, SuitsBook, twin_of, base_of, batch_count, written_count, has_failed, is_due_in};
 ghost use Rattle.twin_journal.specs.Judging.{Explains};
@@ -302,9 +302,11 @@ impl<T: Twin> Journal<T> {
         }
     }
 
-    /// How many bytes of batches are held.
+    /// How many bytes the batches have that are held, with the gates before them.
     pub fn held(&self) -> usize
-        ensures { result ≡ 0 → (base : ℕ) (start : BookView) (bs held : List (List AnAct)) → Holds T.seen T.may_leave self.now base start bs held
+        ensures number { (base : ℕ) (start : BookView) (bs held : List (List AnAct)) → Holds T.seen T.may_leave self.now base start bs held
+            → result ≡ held_bytes held }
+        ensures none { result ≡ 0 → (base : ℕ) (start : BookView) (bs held : List (List AnAct)) → Holds T.seen T.may_leave self.now base start bs held
             → Keeps T.seen T.may_leave self.now base start (bs ++ held) }
     {
         self.held.bytes.len() - 1

@@ -1,4 +1,4 @@
 use Rattle.router_core.proofs.machine.CoreMachine.held.Goals as goal
 
 pub returns : goal.returns
-returns g c = λ t b none f holds. (c.held.ensures none b holds, f.journal.book)
+returns g c = λ t b none f holds. (c.held.ensures.none none b holds, f.journal.book)
