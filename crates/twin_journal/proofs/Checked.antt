@@ -53,6 +53,17 @@ module _ (bytes rest : List ℕ) (n : ℕ) (first : bytes ≡ in_8 n ++ rest) (s
         let one : is.acts ≡ acts = acts_unique is.acts acts is.writable writable (sym behind_second.inside_is ∙ spelled) in
         refused (ap (λ (k : ℕ). restore_fault k m acts) (sym behind_first.number) ∙ ap (λ (k : ℕ). restore_fault is.next_terminus k acts) (sym behind_second.number) ∙ ap (restore_fault is.next_terminus is.next_row) (sym one) ∙ is.reads)
 
+-- a book's own list, written part by part behind other bytes
+pub put_parts : (old first second bytes : List ℕ) (n m : ℕ) (acts : List Act) (book : BookView) → n ≡ book.next_terminus → m ≡ book.next_row → acts ≡ acts_of_book book
+    → first ≡ old ++ in_8 n → second ≡ first ++ in_8 m → bytes ≡ second ++ acts_bytes acts → bytes ≡ old ++ checkpoint_bytes book.next_terminus book.next_row (acts_of_book book)
+put_parts old first second bytes n m acts book terminus row are one two all =
+    all
+    ∙ ap (λ (l : List ℕ). l ++ acts_bytes acts) (two ∙ ap (λ (l : List ℕ). l ++ in_8 m) one ∙ append_assoc old (in_8 n) (in_8 m))
+    ∙ append_assoc old (in_8 n ++ in_8 m) (acts_bytes acts)
+    ∙ ap (λ (k : ℕ). old ++ checkpoint_bytes k m acts) terminus
+    ∙ ap (λ (k : ℕ). old ++ checkpoint_bytes book.next_terminus k acts) row
+    ∙ ap (λ (xs : List Act). old ++ checkpoint_bytes book.next_terminus book.next_row xs) are
+
 -- a sound book's own list is a checkpoint of it
 pub listed_book : (bytes : List ℕ) (book : BookView) → IsSound book → bytes ≡ checkpoint_bytes book.next_terminus book.next_row (acts_of_book book) → book.next_terminus ≤ largest → book.next_row ≤ largest
     → AreWritable (acts_of_book book) → IsCheckpoint bytes book

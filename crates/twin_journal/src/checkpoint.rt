@@ -1,5 +1,5 @@
 //! A book as a checkpoint, and back.
-ghost use Rattle.std.specs.Prelude.{◌≡◌, ◌≢◌, None, OnOk, IfOk, IsErrOf};
+ghost use Rattle.std.specs.Prelude.{◌≡◌, ◌≢◌, ◌++◌, None, OnOk, IfOk, IsErrOf};
 ghost use Rattle.book_model.specs.Book.{BookView};
 ghost use Rattle.book_model.specs.Restoring.{acts_of_book, restore_fault, restored};
 ghost use Rattle.twin_journal.specs.Checkpoints.{IsCheckpoint};
@@ -12,15 +12,22 @@ use book_model::{Act, BookFault, RowNumber, TerminusNumber};
 use journal_codec::{ReadFault, put_acts, read_acts};
 use std::alloc::{AllocError, Global};
 
-/// The checkpoint of a book: the numbers that come next in it, and its acts.
+/// Appends the checkpoint of a book whose acts these are: the numbers that come next in it, and its acts.
 ///
 /// # Errors
 ///
 /// `AllocError` where memory is refused, a number is too large to be read again, or an act can't be encoded.
-pub(crate) fn checkpoint_of(alloc: Global, book: &Book) -> Result<Vec<u8>, AllocError>
-    ensures spelled { IfOk result (λ v. v.items
-        ≡ checkpoint_bytes book.now.next_terminus book.now.next_row (acts_of_book book.now)) }
-    ensures is_read { IfOk result (λ v. IsWritten book.now → IsCheckpoint v.items book.now) }
+pub(crate) fn put_checkpoint(
+    alloc: Global,
+    out: &mut Vec<u8>,
+    book: &Book,
+    acts: &[Act],
+) -> Result<(), AllocError>
+    requires { acts.now ≡ acts_of_book book.now }
+    ensures put { OnOk result (out.new.items ≡ out.old.items
+        ++ checkpoint_bytes book.now.next_terminus book.now.next_row (acts_of_book book.now)) }
+    ensures is_read { OnOk result (IsWritten book.now
+        → IsCheckpoint (checkpoint_bytes book.now.next_terminus book.now.next_row (acts_of_book book.now)) book.now) }
 {
     book.is_sound();
     let next_terminus = book.next_terminus().0;
@@ -28,12 +35,9 @@ pub(crate) fn checkpoint_of(alloc: Global, book: &Book) -> Result<Vec<u8>, Alloc
     if next_terminus > LARGEST || next_row > LARGEST {
         return Err(AllocError);
     }
-    let acts = book.acts()?;
-    let mut bytes = Vec::new(alloc);
-    put_8(&mut bytes, next_terminus)?;
-    put_8(&mut bytes, next_row)?;
-    put_acts(alloc, &mut bytes, acts.as_slice())?;
-    Ok(bytes)
+    put_8(out, next_terminus)?;
+    put_8(out, next_row)?;
+    put_acts(alloc, out, acts)
 }
 
 /// The book of a checkpoint.

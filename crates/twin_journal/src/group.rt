@@ -12,6 +12,7 @@ ghost use Rattle.twin_journal.specs.Holding.{TwinHolds};
 use crate::figures::Figures;
 use crate::held::Held;
 use crate::renew::renew;
+use crate::scratch::Scratch;
 use crate::store::store;
 use book_core::Book;
 use disk_core::{DiskFault, Twin};
@@ -44,6 +45,7 @@ pub(crate) fn write_group<T: Twin>(
 pub(crate) fn make_room<T: Twin>(
     alloc: Global,
     twin: &mut T,
+    scratch: &mut Scratch,
     figures: Figures,
     held: &Held,
     book: &Book,
@@ -71,5 +73,5 @@ pub(crate) fn make_room<T: Twin>(
         return Ok(figures);
     }
     write_group(twin, figures, held)?;
-    renew(alloc, twin, held.ahead, book)
+    renew(alloc, twin, scratch, held.ahead, book)
 }

@@ -19,6 +19,7 @@ use crate::held::Held;
 use crate::opened::scan;
 use crate::plan::{Plan, needs_after, plan_batch};
 use crate::room::{JOURNAL_LIMIT, cost_of, needs_of};
+use crate::scratch::Scratch;
 use crate::whole::read_active;
 use book_core::Book;
 use book_model::Act;
@@ -34,6 +35,7 @@ pub struct Journal<T: Twin> {
     twin: T,
     figures: Figures,
     held: Held,
+    scratch: Scratch,
     needs: Needs,
     failed: bool,
 }
@@ -59,6 +61,7 @@ impl<T: Twin> Journal<T> {
         let (figures, book) = scan(alloc, &active)?;
         let needs = needs_of(alloc, &book)?;
         let held = Held::none(alloc, figures)?;
+        let scratch = Scratch::new(alloc);
         let failed = false;
         Ok((
             Journal {
@@ -66,6 +69,7 @@ impl<T: Twin> Journal<T> {
                 twin,
                 figures,
                 held,
+                scratch,
                 needs,
                 failed,
             },
@@ -234,6 +238,7 @@ impl<T: Twin> Journal<T> {
         let figures = make_room(
             self.alloc,
             &mut self.twin,
+            &mut self.scratch,
             self.figures,
             &self.held,
             book,
@@ -353,6 +358,7 @@ impl<T: Twin> Journal<T> {
         match make_room(
             self.alloc,
             &mut self.twin,
+            &mut self.scratch,
             self.figures,
             &self.held,
             book,
@@ -425,10 +431,12 @@ impl<T: Twin> Journal<T> {
             twin,
             figures: _figures,
             held,
+            scratch,
             needs: _needs,
             failed: _failed,
         } = self;
         drop(held);
+        drop(scratch);
         twin
     }
 }

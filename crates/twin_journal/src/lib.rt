@@ -19,6 +19,7 @@ mod opened;
 mod plan;
 mod renew;
 mod room;
+mod scratch;
 mod stamp;
 mod store;
 mod whole;

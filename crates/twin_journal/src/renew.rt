@@ -14,6 +14,7 @@ use crate::device::{put, refill};
 use crate::figures::Figures;
 use crate::gate::GATE;
 use crate::numbers::LARGEST;
+use crate::scratch::Scratch;
 use crate::stamp::fill_of;
 use book_core::Book;
 use disk_core::{DiskFault, Twin};
@@ -94,6 +95,7 @@ fn write_checkpoint<T: Twin>(twin: &mut T, figures: Figures, fill: &[u8]) -> Res
 pub(crate) fn renew<T: Twin>(
     alloc: Global,
     twin: &mut T,
+    scratch: &mut Scratch,
     figures: Figures,
     book: &Book,
 ) -> Result<Figures, JournalFault>
@@ -118,7 +120,7 @@ pub(crate) fn renew<T: Twin>(
     if epoch >= LARGEST {
         return Err(JournalFault::Memory);
     }
-    let fill = fill_of(alloc, epoch, figures.last, book)?;
+    let fill = fill_of(alloc, scratch, epoch, figures.last, book)?;
     let next = Figures {
         side: figures.side.other(),
         epoch,
@@ -129,5 +131,6 @@ pub(crate) fn renew<T: Twin>(
         idle_open: true,
     };
     write_checkpoint(twin, figures, fill.bytes.as_slice())?;
+    scratch.keep(fill.bytes);
     Ok(next)
 }

@@ -2,6 +2,7 @@
 ghost use Rattle.std.specs.Prelude.{◌≡◌, ◌+◌, ◌-◌, ◌<◌, ◌↔◌, ◌++◌, ◌∷◌, [], List, None, sum_by, length, IfOk, IfSome, IsTrue, OnOk};
 ghost use Rattle.book_model.specs.declared.act.Act.{Act as AnAct};
 ghost use Rattle.book_model.specs.Book.{BookView, first_fault, effects};
+ghost use Rattle.book_model.specs.Restoring.{acts_of_book};
 ghost use Rattle.journal_codec.specs.Batches.{HaveOutcomes, HaveTermini, AreWritable};
 ghost use Rattle.journal_codec.specs.Format.{batch};
 ghost use Rattle.gate_journal.specs.Ordered.{IsOrdered};
@@ -22,16 +23,23 @@ pub(crate) const JOURNAL_LIMIT: u64 = 67_108_864;
 /// From this many bytes of batches on a checkpoint is due.
 const MANY: u64 = 1_048_576;
 
-/// How many bytes a checkpoint of a book has. It encodes the whole book.
-pub(crate) fn size_of(alloc: Global, book: &Book) -> Result<u64, AllocError>
-    ensures { IfOk result (λ n. n ≡ checkpoint_size book.now) }
+/// How many bytes the checkpoint of a book has whose acts these are. No payload is encoded for it.
+pub(crate) fn size_with(alloc: Global, acts: &[Act]) -> Result<u64, AllocError>
+    ensures { IfOk result (λ n. (book : BookView) → acts.now ≡ acts_of_book book → n ≡ checkpoint_size book) }
 {
-    let acts = book.acts()?;
-    let len = acts_len(alloc, acts.as_slice())?;
+    let len = acts_len(alloc, acts)?;
     match (len as u64).checked_add(16) {
         Some(size) => Ok(size),
         None => Err(AllocError),
     }
+}
+
+/// How many bytes a checkpoint of a book has.
+pub(crate) fn size_of(alloc: Global, book: &Book) -> Result<u64, AllocError>
+    ensures { IfOk result (λ n. n ≡ checkpoint_size book.now) }
+{
+    let acts = book.acts()?;
+    size_with(alloc, acts.as_slice())
 }
 
 /// What a book needs.

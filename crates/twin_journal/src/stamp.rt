@@ -4,8 +4,10 @@ ghost use Rattle.twin_journal.specs.Checkpoints.{NoStamp};
 ghost use Rattle.twin_journal.specs.Format.{checkpoint_size};
 ghost use Rattle.twin_journal.specs.Reading.{IsSized, AreFields, BeginsWithStamp, IsWritten, IsFill};
 
-use crate::checkpoint::{checkpoint_of, read_checkpoint};
+use crate::checkpoint::{put_checkpoint, read_checkpoint};
 use crate::numbers::{LARGEST, number_4, put_4, put_8, small_number};
+use crate::room::size_with;
+use crate::scratch::Scratch;
 use book_core::Book;
 use journal_codec::ReadFault;
 use std::alloc::{AllocError, Global};
@@ -92,6 +94,9 @@ pub(crate) fn read_stamp(alloc: Global, bytes: &[u8]) -> Result<(Stamp, &[u8]), 
     }
 }
 
+/// How many bytes stand around a checkpoint behind a gate: epoch, base and length, and a closed gate.
+const AROUND: usize = 21;
+
 /// What a side gets behind its gate.
 #[derive(Drop)]
 pub(crate) struct Fill {
@@ -101,12 +106,19 @@ pub(crate) struct Fill {
     pub(crate) size: usize,
 }
 
-/// What a side gets behind its gate for a checkpoint of this book.
+/// What a side gets behind its gate for a checkpoint of this book, in the buffer that is kept for it. It is counted
+/// first, and encoded once.
 ///
 /// # Errors
 ///
 /// `AllocError` where memory is refused, a number is too large to be read again, or an act can't be encoded.
-pub(crate) fn fill_of(alloc: Global, epoch: u64, base: u64, book: &Book) -> Result<Fill, AllocError>
+pub(crate) fn fill_of(
+    alloc: Global,
+    scratch: &mut Scratch,
+    epoch: u64,
+    base: u64,
+    book: &Book,
+) -> Result<Fill, AllocError>
     ensures fill { IfOk result (λ f. IsWritten book.now → IsFill f.bytes.items epoch base f.size book.now) }
     ensures size { IfOk result (λ f. f.size ≡ checkpoint_size book.now) }
     ensures len { IfOk result (λ f. length f.bytes.items ≡ f.size + 21) }
@@ -114,18 +126,19 @@ pub(crate) fn fill_of(alloc: Global, epoch: u64, base: u64, book: &Book) -> Resu
     if epoch > LARGEST || base > LARGEST {
         return Err(AllocError);
     }
-    let checkpoint = checkpoint_of(alloc, book)?;
-    let Ok(size) = u32::try_from(checkpoint.len()) else {
+    let acts = book.acts()?;
+    let count = size_with(alloc, acts.as_slice())?;
+    let Ok(size) = u32::try_from(count) else {
         return Err(AllocError);
     };
-    let mut bytes = Vec::new(alloc);
+    let mut bytes = scratch.take(alloc, AROUND + size as usize)?;
     put_8(&mut bytes, epoch)?;
     put_8(&mut bytes, base)?;
     put_4(&mut bytes, size)?;
-    bytes.extend_from_slice(checkpoint.as_slice())?;
+    put_checkpoint(alloc, &mut bytes, book, acts.as_slice())?;
     bytes.push(0)?;
     Ok(Fill {
         bytes,
-        size: checkpoint.len(),
+        size: size as usize,
     })
 }

@@ -1,15 +1,6 @@
-use Rattle.std.proofs.Common.{◌∙◌, ap, arith, List, length}
-use Rattle.book_model.specs.declared.act.Act.{Act}
-use Rattle.journal_codec.specs.Format.{acts_bytes}
-use Rattle.twin_journal.proofs.Sizes.{checkpoint_size_is}
+use Rattle.std.proofs.Common.{◌∙◌}
+use Rattle.twin_journal.proofs.Keeping.{if_ok}
 use Rattle.twin_journal.proofs.room.size_of.Goals as goal
 
-pub returns-in-Some : goal.returns-in-Some
-returns-in-Some c =
-    omega (
-      arith,
-      c.in-Some.ensures.1,
-      c.in_ok-len.ensures,
-      ap (λ (acts : List Act). length (acts_bytes acts)) (c.as_slice.ensures.value ∙ c.in_ok-acts.ensures),
-      checkpoint_size_is c.args.book.now,
-    )
+pub returns : goal.returns
+returns c = if_ok c.size_with.result (λ n counted. counted c.args.book.now (c.as_slice.ensures.value ∙ c.in_ok-acts.ensures)) c.size_with.ensures
