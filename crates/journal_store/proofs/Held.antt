@@ -1,10 +1,10 @@
 -- A store whose files are behind its book.
-use Rattle.std.proofs.Common.{◌≡◌, ◌⊎◌, inl, inr, ⊎_elim, ◌++◌, ℕ, List, [], ◌∷◌, sym, subst}
+use Rattle.std.proofs.Common.{◌⊎◌, inl, inr, ⊎_elim, ◌++◌, ℕ, List, sym, subst}
 use Rattle.disk_core.specs.Disk.{LeavesOnly}
 use Rattle.disk_core.specs.DiskLaws.{widened, started}
 use Rattle.disk_core.specs.Twin.{Contents}
 use Rattle.book_model.specs.declared.act.Act.{Act}
-use Rattle.book_model.specs.Book.{BookView, effects}
+use Rattle.book_model.specs.Book.{BookView}
 use Rattle.journal_codec.specs.Batches.{book_after}
 use Rattle.twin_journal.specs.Holding.{HoldsAt, HoldsUpTo, last_of}
 use Rattle.twin_journal.specs.Journal.{Holds, batch_count, written_count}
