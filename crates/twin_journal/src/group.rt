@@ -17,7 +17,6 @@ use crate::store::store;
 use book_core::Book;
 use disk_core::{DiskFault, Twin};
 use gate_journal::JournalFault;
-use std::alloc::Global;
 
 /// Writes the batches that are held behind what has these figures, by four calls of the twin: all of them stand then. Where none is held, nothing is done.
 pub(crate) fn write_group<T: Twin>(
@@ -43,7 +42,6 @@ pub(crate) fn write_group<T: Twin>(
 
 /// Makes a checkpoint of the book that the batches leave, if it is due; those that are held are written before it.
 pub(crate) fn make_room<T: Twin>(
-    alloc: Global,
     twin: &mut T,
     scratch: &mut Scratch,
     figures: Figures,
@@ -73,5 +71,5 @@ pub(crate) fn make_room<T: Twin>(
         return Ok(figures);
     }
     write_group(twin, figures, held)?;
-    renew(alloc, twin, scratch, held.ahead, book)
+    renew(twin, scratch, held.ahead, book)
 }

@@ -31,11 +31,10 @@ use std::alloc::{AllocError, Global};
 /// then, byte by byte, and a crash meanwhile leaves all of those that were held, or none.
 #[derive(Drop)]
 pub struct Journal<T: Twin> {
-    alloc: Global,
+    scratch: Scratch,
     twin: T,
     figures: Figures,
     held: Held,
-    scratch: Scratch,
     needs: Needs,
     failed: bool,
 }
@@ -65,11 +64,10 @@ impl<T: Twin> Journal<T> {
         let failed = false;
         Ok((
             Journal {
-                alloc,
+                scratch,
                 twin,
                 figures,
                 held,
-                scratch,
                 needs,
                 failed,
             },
@@ -188,7 +186,7 @@ impl<T: Twin> Journal<T> {
         if self.failed {
             return Err(JournalFault::Failed);
         }
-        let plan = match plan_batch(self.alloc, self.held.ahead, self.needs, book, acts) {
+        let plan = match plan_batch(self.scratch.alloc(), self.held.ahead, self.needs, book, acts) {
             Ok(plan) => plan,
             Err(JournalFault::Full) => return Err(JournalFault::Full),
             Err(fault) => {
@@ -236,7 +234,6 @@ impl<T: Twin> Journal<T> {
         ensures works { has_failed self.new ≡ has_failed self.old }
     {
         let figures = make_room(
-            self.alloc,
             &mut self.twin,
             &mut self.scratch,
             self.figures,
@@ -356,7 +353,6 @@ impl<T: Twin> Journal<T> {
             return Err(JournalFault::Failed);
         }
         match make_room(
-            self.alloc,
             &mut self.twin,
             &mut self.scratch,
             self.figures,
@@ -386,8 +382,8 @@ impl<T: Twin> Journal<T> {
     pub fn is_full(&self, book: &Book, acts: &[Act]) -> Result<bool, AllocError>
         ensures { IfOk result (λ full. first_fault book.now acts.now ≡ None → SuitsBook self.now book.now → IsTrue full ↔ IsFull book.now acts.now) }
     {
-        let cost = cost_of(self.alloc, acts)?;
-        match needs_after(self.alloc, self.needs, book, cost) {
+        let cost = cost_of(self.scratch.alloc(), acts)?;
+        match needs_after(self.scratch.alloc(), self.needs, book, cost) {
             Ok(_) => Ok(false),
             Err(JournalFault::Full) => Ok(true),
             Err(_) => Err(AllocError),
@@ -403,7 +399,7 @@ impl<T: Twin> Journal<T> {
     pub fn room(&self, book: &Book) -> Result<i128, AllocError>
         ensures { IfOk result (λ n. n ≡ room book.now) }
     {
-        let needs = needs_of(self.alloc, book)?;
+        let needs = needs_of(self.scratch.alloc(), book)?;
         let used = i128::from(needs.size) + 30;
         Ok(i128::from(JOURNAL_LIMIT) - (used + i128::from(needs.reserve)))
     }
@@ -427,16 +423,15 @@ impl<T: Twin> Journal<T> {
         ensures { result ≡ twin_of self }
     {
         let Journal {
-            alloc: _alloc,
+            scratch,
             twin,
             figures: _figures,
             held,
-            scratch,
             needs: _needs,
             failed: _failed,
         } = self;
-        drop(held);
         drop(scratch);
+        drop(held);
         twin
     }
 }

@@ -19,7 +19,6 @@ use crate::stamp::fill_of;
 use book_core::Book;
 use disk_core::{DiskFault, Twin};
 use gate_journal::JournalFault;
-use std::alloc::Global;
 
 /// Shuts the gate of the idle side, if it is open. Nothing is written over a gate that isn't: a side may end behind it.
 fn shut_idle<T: Twin>(twin: &mut T, figures: Figures) -> Result<(), DiskFault>
@@ -93,7 +92,6 @@ fn write_checkpoint<T: Twin>(twin: &mut T, figures: Figures, fill: &[u8]) -> Res
 /// Makes a checkpoint of the book that the batches leave, and gives the figures with it. It takes five calls of the
 /// twin, or seven where the gate of the idle side is open.
 pub(crate) fn renew<T: Twin>(
-    alloc: Global,
     twin: &mut T,
     scratch: &mut Scratch,
     figures: Figures,
@@ -120,7 +118,7 @@ pub(crate) fn renew<T: Twin>(
     if epoch >= LARGEST {
         return Err(JournalFault::Memory);
     }
-    let fill = fill_of(alloc, scratch, epoch, figures.last, book)?;
+    let fill = fill_of(scratch, epoch, figures.last, book)?;
     let next = Figures {
         side: figures.side.other(),
         epoch,

@@ -113,7 +113,6 @@ pub(crate) struct Fill {
 ///
 /// `AllocError` where memory is refused, a number is too large to be read again, or an act can't be encoded.
 pub(crate) fn fill_of(
-    alloc: Global,
     scratch: &mut Scratch,
     epoch: u64,
     base: u64,
@@ -126,12 +125,13 @@ pub(crate) fn fill_of(
     if epoch > LARGEST || base > LARGEST {
         return Err(AllocError);
     }
+    let alloc = scratch.alloc();
     let acts = book.acts()?;
     let count = size_with(alloc, acts.as_slice())?;
     let Ok(size) = u32::try_from(count) else {
         return Err(AllocError);
     };
-    let mut bytes = scratch.take(alloc, AROUND + size as usize)?;
+    let mut bytes = scratch.take(AROUND + size as usize)?;
     put_8(&mut bytes, epoch)?;
     put_8(&mut bytes, base)?;
     put_4(&mut bytes, size)?;

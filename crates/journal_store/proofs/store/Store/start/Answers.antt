@@ -1,9 +1,8 @@
 use Rattle.std.proofs.Common.{◌≡◌, ◌⊎◌, List, true, sym, ◌∙◌, subst}
-use Rattle.std.specs.Prelude.{OnOk}
 use Rattle.disk_core.specs.Disk.{LeavesOnly}
 use Rattle.book_model.specs.Book.{effects}
 use Rattle.book_model.specs.declared.act.Act.{Act}
-use Rattle.journal_store.specs.Store.{OpensTo, IsSuited, twin_of, book_of, base_of, base_after, exceeds}
+use Rattle.journal_store.specs.Store.{OpensTo, twin_of, book_of, exceeds}
 use Rattle.journal_store.proofs.store.Store.start.Goals as goal
 
 pub returns-clause-never_full : goal.returns-clause-never_full
@@ -19,8 +18,3 @@ returns-clause-any_moment g c stands =
     subst
     (λ (acts : List Act). LeavesOnly T.moment T.left_since (twin_of old) (twin_of c.commit.new.self) (λ x. OpensTo x (book_of old) ⊎ OpensTo x (effects (book_of old) acts)))
     c.in-Ok.ensures.acts (c.commit.ensures.any_moment stands)
-
-pub returns-clause-base : goal.returns-clause-base
-returns-clause-base g c =
-    let old = c.args.self.now in
-    subst (λ (acts : List Act). OnOk c.commit.result (IsSuited old → base_of c.commit.new.self ≡ base_after old acts)) c.in-Ok.ensures.acts c.commit.ensures.base
