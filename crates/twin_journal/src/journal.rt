@@ -186,7 +186,13 @@ impl<T: Twin> Journal<T> {
         if self.failed {
             return Err(JournalFault::Failed);
         }
-        let plan = match plan_batch(self.scratch.alloc(), self.held.ahead, self.needs, book, acts) {
+        let plan = match plan_batch(
+            self.scratch.alloc(),
+            self.held.ahead,
+            self.needs,
+            book,
+            acts,
+        ) {
             Ok(plan) => plan,
             Err(JournalFault::Full) => return Err(JournalFault::Full),
             Err(fault) => {
