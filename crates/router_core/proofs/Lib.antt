@@ -13,6 +13,7 @@ pub mod Machines
 pub mod Moments
 pub mod Committing
 pub mod Remains
+pub mod Partway
 pub mod Granting
 pub mod Due
 pub mod Ordered

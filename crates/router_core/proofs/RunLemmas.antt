@@ -1,5 +1,5 @@
 -- Lemmas on takes and runs.
-use Rattle.std.proofs.Common.{◌≡◌, ◌∙◌, sym, ap, refl, subst, ℕ, ◌+◌, List, [], ◌∷◌, ◌++◌, append_assoc, append-nil, suc, length, length-append, arith, true, Option, Some, None, ◌⊎◌, inl, inr}
+use Rattle.std.proofs.Common.{◌≡◌, ◌∙◌, sym, ap, refl, subst, ℕ, ◌+◌, List, [], ◌∷◌, ◌++◌, append_assoc, append-nil, length, length-append, arith, true, Option, Some, None, ◌⊎◌, inl, inr, Vec, Global}
 use Rattle.std.specs.Prelude.{map}
 use Rattle.router_core.specs.declared.driving.Sent.{Sent}
 use Rattle.router_trace.specs.declared.event.Event.{Event}
@@ -8,7 +8,7 @@ use Rattle.router_trace.specs.Trace.{Entry}
 use Rattle.router_trace.specs.Connection.{Connection, conn as known, is_ready}
 use Rattle.state_connections.specs.Fits.{IsLeast}
 use Rattle.router_core.specs.Handling.{Fits, is_failed}
-use Rattle.router_core.specs.Runs.{InTurn, took_all, sent, as_sent, Steps, Run, Waits}
+use Rattle.router_core.specs.Runs.{InTurn, took_all, sent, as_sent, events_of, MayStep, MaySteps, Steps, Run, Waits}
 use Rattle.core_machine.specs.Moves.{IsNext, Taking, took_one, items_of}
 
 took_more : (xs : List Taking) (x : Taking) (t : List Entry) → took_all (xs ++ x ∷ []) t ≡ took_one x (took_all xs t)
@@ -41,46 +41,53 @@ one_more core place t before mid after xs x turns next fit was now = (
       ∙ ap (λ ys. before ++ ys) (sym (sent_more place xs x t)),
 )
 
+-- no group is left
+pub none_left : (groups : List (Vec Event Global)) → length groups ≡ 0 → events_of groups ≡ []
+none_left [] none = refl
+none_left (g ∷ groups) none = absurd (omega (arith, none))
+
 -- nothing is left to run
-pub all_run : (id : List ℕ) (t : List Entry) (es first rest : List Event) (xs : List Sent) (m : List Entry)
-    → es ≡ first ++ rest → length rest ≡ 0 → Run id 0 t first xs m → Run id 0 t es xs m
-all_run id t es first [] xs m is none run = subst (λ (fs : List Event). Run id 0 t fs xs m) (sym (is ∙ append-nil first)) run
-all_run id t es first (x ∷ rest) xs m is none run = absurd (suc_zero (length rest) none)
-  where
-    suc_zero : (n : ℕ) → suc n ≡ 0 → ⊥
-    suc_zero n h = omega arith
+pub all_run : (id : List ℕ) (t : List Entry) (groups first rest : List (List Event)) (xs : List Sent) (m : List Entry)
+    → groups ≡ first ++ rest → rest ≡ [] → Run id 0 t first xs m → Run id 0 t groups xs m
+all_run id t groups first rest xs m is none run =
+    subst (λ (gs : List (List Event)). Run id 0 t gs xs m) (sym (is ∙ ap (λ (gs : List (List Event)). first ++ gs) none ∙ append-nil first)) run
 
 -- one more event
-pub run_more : (id : List ℕ) (place at : ℕ) (t : List Entry) (first : List Event) (xs : List Sent) (m : List Entry) (e : Event) (ys : List Sent) (u : List Entry)
-    → at ≡ place + length first → Run id place t first xs m → Steps id at m e ys u → Run id place t (first ++ e ∷ []) (xs ++ ys) u
-run_more id place at t [] xs m e ys u is run st = (
+pub steps_more : (id : List ℕ) (t m u : List Entry) (es : List Event) (e : Event) → MaySteps id t es m → MayStep id m e u → MaySteps id t (es ++ e ∷ []) u
+steps_more id t m u [] e first next = (u, subst (λ (v : List Entry). MayStep id v e u) first next, refl)
+steps_more id t m u (x ∷ es) e first next = (first.0, first.1, steps_more id first.0 m u es e first.2 next)
+
+-- one more group
+pub run_more : (id : List ℕ) (place at : ℕ) (t : List Entry) (first : List (List Event)) (xs : List Sent) (m : List Entry) (es : List Event) (ys : List Sent) (u : List Entry)
+    → at ≡ place + length first → Run id place t first xs m → Steps id at m es ys u → Run id place t (first ++ es ∷ []) (xs ++ ys) u
+run_more id place at t [] xs m es ys u is run st = (
   u,
   ys,
   [],
-  subst (λ (p : ℕ). Steps id p t e ys u) (is ∙ omega arith) (subst (λ (v : List Entry). Steps id at v e ys u) run.0 st),
+  subst (λ (p : ℕ). Steps id p t es ys u) (is ∙ omega arith) (subst (λ (v : List Entry). Steps id at v es ys u) run.0 st),
   (refl, refl),
   ap (λ (zs : List Sent). zs ++ ys) run.1 ∙ sym (append-nil ys),
 )
-run_more id place at t (x ∷ first) xs m e ys u is (mid, before, after, steps, run, all) st = (
+run_more id place at t (x ∷ first) xs m es ys u is (mid, before, after, steps, run, all) st = (
   mid,
   before,
   after ++ ys,
   steps,
-  run_more id (place + 1) at mid first after m e ys u (is ∙ omega arith) run st,
+  run_more id (place + 1) at mid first after m es ys u (is ∙ omega arith) run st,
   ap (λ (zs : List Sent). zs ++ ys) all ∙ append_assoc before after ys,
 )
 
-one_longer : (n : ℕ) (first : List Event) (e : Event) → n ≡ length first → n + 1 ≡ length (first ++ e ∷ [])
-one_longer n first e is = ap (λ (k : ℕ). k + 1) is ∙ sym (length-append first (e ∷ []))
+one_longer : (n : ℕ) (first : List (List Event)) (es : List Event) → n ≡ length first → n + 1 ≡ length (first ++ es ∷ [])
+one_longer n first es is = ap (λ (k : ℕ). k + 1) is ∙ sym (length-append first (es ∷ []))
 
-pub past_more : (id other : List ℕ) (handled : ℕ) (t m u : List Entry) (es first rest behind : List Event) (e : Event) (xs ys zs : List Sent)
-    → other ≡ id → rest ≡ e ∷ behind → zs ≡ xs ++ ys → es ≡ first ++ rest → handled ≡ length first → Run id 0 t first xs m → Steps other handled m e ys u
-    → (es ≡ (first ++ e ∷ []) ++ behind) × (handled + 1 ≡ length (first ++ e ∷ [])) × Run id 0 t (first ++ e ∷ []) zs u
-past_more id other handled t m u es first rest behind e xs ys zs same next taken all count run steps = (
-  all ∙ ap (λ (fs : List Event). first ++ fs) next ∙ sym (append_assoc first (e ∷ []) behind),
-  one_longer handled first e count,
-  subst (λ (ts : List Sent). Run id 0 t (first ++ e ∷ []) ts u) (sym taken)
-      (run_more id 0 handled t first xs m e ys u (count ∙ omega arith) run (subst (λ (i : List ℕ). Steps i handled m e ys u) same steps)),
+pub past_more : (id other : List ℕ) (handled : ℕ) (t m u : List Entry) (groups first rest behind : List (List Event)) (es : List Event) (xs ys zs : List Sent)
+    → other ≡ id → rest ≡ es ∷ behind → zs ≡ xs ++ ys → groups ≡ first ++ rest → handled ≡ length first → Run id 0 t first xs m → Steps other handled m es ys u
+    → (groups ≡ (first ++ es ∷ []) ++ behind) × (handled + 1 ≡ length (first ++ es ∷ [])) × Run id 0 t (first ++ es ∷ []) zs u
+past_more id other handled t m u groups first rest behind es xs ys zs same next taken all count run steps = (
+  all ∙ ap (λ (gs : List (List Event)). first ++ gs) next ∙ sym (append_assoc first (es ∷ []) behind),
+  one_longer handled first es count,
+  subst (λ (ts : List Sent). Run id 0 t (first ++ es ∷ []) ts u) (sym taken)
+      (run_more id 0 handled t first xs m es ys u (count ∙ omega arith) run (subst (λ (i : List ℕ). Steps i handled m es ys u) same steps)),
 )
 
 -- memory was refused for the items of a ready connection

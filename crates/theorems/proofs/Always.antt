@@ -1,4 +1,4 @@
--- What holds in every trace of the router holds of lists of events and of scripts of bytes: they have such traces.
+-- What holds in every trace of the router holds of groups of events and of scripts of bytes: they have such traces.
 use Rattle.router_trace.specs.Trace.{Trace, Beginning}
 use Rattle.router_core.proofs.Moves.{run_is_trace}
 use Rattle.router_play.specs.Script.{new_journal, new_router}
@@ -7,13 +7,13 @@ use Rattle.theorems.specs.Always.{Always, AlwaysFrom, InOneRun, InTraces, InTrac
 use Rattle.theorems.specs.Lives.{InLives}
 
 pub holds_in_one_run : (P : Trace → Type 0) → InTraces P → InOneRun P
-holds_in_one_run P all = (all, λ id g events xs u run. all id g u (run_is_trace id g events xs u run))
+holds_in_one_run P all = (all, λ id g groups xs u run. all id g u (run_is_trace id g groups xs u run))
 
 pub holds_always : (P : Trace → Type 0) → InTraces P → InLives P → Always P
 holds_always P all lives = (holds_in_one_run P all, lives)
 
 pub holds_from : (P : Beginning → Trace → Type 0) → InTracesFrom P → AlwaysFrom P
-holds_from P all = (all, λ id g events xs u run. all id g u (run_is_trace id g events xs u run))
+holds_from P all = (all, λ id g groups xs u run. all id g u (run_is_trace id g groups xs u run))
 
 pub holds_in_scripts : (P : Trace → Type 0) → InTraces P → InScripts P
 holds_in_scripts P all =

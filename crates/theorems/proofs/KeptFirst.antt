@@ -51,7 +51,7 @@ use Rattle.router_core.specs.declared.driving.Sent.{Sent}
 use Rattle.router_core.specs.Moves.{Goes, IsTrace}
 use Rattle.core_machine.specs.Moves.{Move, handles, takes}
 use Rattle.router_core.specs.Replies.{handled}
-use Rattle.router_core.specs.Runs.{took_all, MayStep, Run}
+use Rattle.router_core.specs.Runs.{took_all, MayStep, MaySteps, Run}
 use Rattle.core_machine.specs.Moves.{Taking, took_one}
 use Rattle.core_machine.specs.Turns.{is_out_of_turn, is_started, declines}
 use Rattle.router_core.proofs.Booking.{booked_keeps}
@@ -601,7 +601,7 @@ turns_on id [] ns t u v first rest = subst (λ (w : Trace). GoesInTurn id ns w v
 turns_on id (handles s ∷ ms) ns t u v first rest = (first.0, turns_on id ms ns (handled id t s) u v first.1 rest)
 turns_on id (takes x ∷ ms) ns t u v first rest = turns_on id ms ns (took_one x t) u v first rest
 
-leads_on : (id : List ℕ) (t u v : Trace) → LeadsInTurn id t u → LeadsInTurn id u v → LeadsInTurn id t v
+pub leads_on : (id : List ℕ) (t u v : Trace) → LeadsInTurn id t u → LeadsInTurn id u v → LeadsInTurn id t v
 leads_on id t u v first rest = (first.0 ++ rest.0, turns_on id first.0 rest.0 t u v first.1 rest.1)
 
 leads_takes : (id : List ℕ) (xs : List Taking) (t : Trace) → LeadsInTurn id t (took_all xs t)
@@ -612,12 +612,16 @@ step_leads : (id : List ℕ) (t : Trace) (e : Event) (u : Trace) → MayStep id 
 step_leads id t e u (inl is_refused) = ([], is_refused.1)
 step_leads id t e u (inr taken) = (handles (step_of e) ∷ [], (taken.0, taken.1.answers))
 
-pub run_leads : (id : List ℕ) (place : ℕ) (t : Trace) (es : List Event) (xs : List Sent) (u : Trace) → Run id place t es xs u → LeadsInTurn id t u
+pub steps_lead : (id : List ℕ) (t : Trace) (es : List Event) (u : Trace) → MaySteps id t es u → LeadsInTurn id t u
+steps_lead id t [] u went = ([], went)
+steps_lead id t (e ∷ es) u went = leads_on id t went.0 u (step_leads id t e went.0 went.1) (steps_lead id went.0 es u went.2)
+
+pub run_leads : (id : List ℕ) (place : ℕ) (t : Trace) (groups : List (List Event)) (xs : List Sent) (u : Trace) → Run id place t groups xs u → LeadsInTurn id t u
 run_leads id place t [] xs u run = ([], run.0)
-run_leads id place t (e ∷ es) xs u run =
+run_leads id place t (es ∷ groups) xs u run =
     let behind : Trace = run.3.behind in
     let emptied : LeadsInTurn id behind run.0 = subst (λ (w : Trace). LeadsInTurn id behind w) (sym run.3.emptied.trace) (leads_takes id run.3.emptied.takes behind) in
-    leads_on id t run.0 u (leads_on id t behind run.0 (step_leads id t e behind run.3.event) emptied) (run_leads id (place + 1) run.0 es run.2 u run.4)
+    leads_on id t run.0 u (leads_on id t behind run.0 (steps_lead id t es behind run.3.events) emptied) (run_leads id (place + 1) run.0 groups run.2 u run.4)
 
-pub run_outcomes : (id : List ℕ) (g : Beginning) (events : List Event) (xs : List Sent) (u : Trace) → Run id 0 (beginning g) events xs u → IsSound g.book → EachOutcomeIsKept g u
-run_outcomes id g events xs u run sound = let led = run_leads id 0 (beginning g) events xs u run in outcomes_kept id g u led.0 led.1 sound
+pub run_outcomes : (id : List ℕ) (g : Beginning) (groups : List (List Event)) (xs : List Sent) (u : Trace) → Run id 0 (beginning g) groups xs u → IsSound g.book → EachOutcomeIsKept g u
+run_outcomes id g groups xs u run sound = let led = run_leads id 0 (beginning g) groups xs u run in outcomes_kept id g u led.0 led.1 sound

@@ -1,4 +1,4 @@
--- What always holds: in every trace of the router, and so of every list of events, and of every script of bytes; and over runs that end by stops.
+-- What always holds: in every trace of the router, and so of all groups of events, and of every script of bytes; and over runs that end by stops.
 use Rattle.std.specs.Prelude.{ℕ, List}
 use Rattle.route_table.specs.Settings.{Settings}
 use Rattle.book_model.specs.Sound.{IsSound}
@@ -17,11 +17,11 @@ use Rattle.theorems.specs.Lives.{GoesInTurn, InLives}
 abbrev pub InTraces : (Trace → Type 0) → Type 0
 InTraces P = (id : List ℕ) (g : Beginning) (u : Trace) → IsTrace id g u → P u
 
--- in the trace of every list of events, the outboxes emptied after each
+-- in the trace of all groups of events, the outboxes emptied after each
 abbrev pub InRuns : (Trace → Type 0) → Type 0
 InRuns P =
-    (id : List ℕ) (g : Beginning) (events : List Event) (xs : List Sent) (u : Trace)
-    → Run id 0 (beginning g) events xs u → P u
+    (id : List ℕ) (g : Beginning) (groups : List (List Event)) (xs : List Sent) (u : Trace)
+    → Run id 0 (beginning g) groups xs u → P u
 
 -- in one run, whatever happens
 abbrev pub InOneRun : (Trace → Type 0) → Type 0
@@ -41,13 +41,13 @@ InTracesFrom P = (id : List ℕ) (g : Beginning) (u : Trace) → IsTrace id g u 
 
 abbrev pub InRunsFrom : (Beginning → Trace → Type 0) → Type 0
 InRunsFrom P =
-    (id : List ℕ) (g : Beginning) (events : List Event) (xs : List Sent) (u : Trace)
-    → Run id 0 (beginning g) events xs u → P g u
+    (id : List ℕ) (g : Beginning) (groups : List (List Event)) (xs : List Sent) (u : Trace)
+    → Run id 0 (beginning g) groups xs u → P g u
 
 abbrev pub AlwaysFrom : (Beginning → Trace → Type 0) → Type 0
 AlwaysFrom P = InTracesFrom P × InRunsFrom P
 
--- in every trace of the router in which no event is declined, and of every list of events
+-- in every trace of the router in which no event is declined, and of all groups of events
 abbrev pub InTracesInTurn : (Beginning → Trace → Type 0) → Type 0
 InTracesInTurn P =
     (id : List ℕ) (g : Beginning) (u : Trace) (moves : List Move) → GoesInTurn id moves (beginning g) u → P g u

@@ -1,8 +1,9 @@
--- What a stop leaves of the journal, at any moment of a call that handles events: a crash, or the end of the program; and how the next
--- router goes on.
-use Rattle.std.specs.Prelude.{◌≡◌, ◌≢◌, ◌≤◌, ℕ, List, [], ◌∷◌, ◌++◌, take, None, IfSome}
+-- What a stop leaves of the journal, at any moment of a call that handles groups of events: a crash, or the end of the program; and how
+-- the next router goes on.
+use Rattle.std.specs.Prelude.{◌≡◌, ◌≢◌, ℕ, List, [], ◌∷◌, ◌++◌, None, IfSome}
 use Rattle.disk_core.specs.Disk.{LeavesOnly}
 use Rattle.disk_core.specs.Twin.{Contents}
+use Rattle.book_model.specs.Book.{BookView}
 use Rattle.journal_store.specs.Store.{OpensTo, Stands, twin_of}
 use Rattle.router_trace.specs.declared.event.Event.{Event}
 use Rattle.router_trace.specs.Trace.{Trace, Beginning}
@@ -13,9 +14,9 @@ use Rattle.router_core.specs.declared.driving.Driven.{Driven}
 use Rattle.router_core.specs.declared.driving.Sent.{Sent}
 use Rattle.router_core.specs.declared.router.Core.{Core}
 use Rattle.router_core.specs.Handling.{Fits, id_of, store_of}
-use Rattle.router_core.specs.Leaving.{IsLeftAfter, LeftBy, book_after_next_turn}
+use Rattle.router_core.specs.Leaving.{IsLeftAfter, IsLeftBy, LeftBy}
 use Rattle.router_core.specs.Runs.{Run}
-use Rattle.theorems.specs.Lives.{Life, Lives, CutOff}
+use Rattle.theorems.specs.Lives.{Life, Lives}
 
 -- A kind of two files that stop together, by what the trait `Twin` says of them: what a read gives, what a stop may
 -- leave, which moment it is, and what a stop since some moment might have left.
@@ -35,32 +36,32 @@ abbrev pub JournalStands : {T : Type 0} → Stopping T → Core T → Type 0
 JournalStands d core = Stands d.seen d.may_leave (store_of core)
 
 -- A stop at any moment, before, within or after any call of the files, leaves two files that open to the book after
--- some first events, or to that book after the acts of the next one.
-abbrev pub AnyMomentLeavesAPrefix : {T : Type 0} → Stopping T → Core T → List Event → Core T → Type 0
-AnyMomentLeavesAPrefix d old events new =
+-- some first groups, and some first events of the next one.
+abbrev pub AnyMomentLeavesAPrefix : {T : Type 0} → Stopping T → Core T → List (List Event) → Core T → Type 0
+AnyMomentLeavesAPrefix d old groups new =
     (t : Trace) → Fits old t → JournalStands d old
-    → LeavesOnly d.moment d.left_since (twin_of (store_of old)) (twin_of (store_of new)) (LeftBy (id_of old) t events)
+    → LeavesOnly d.moment d.left_since (twin_of (store_of old)) (twin_of (store_of new)) (LeftBy (id_of old) t groups)
 
 -- any two files that a stop may leave now open to this book
 abbrev pub AllOpenTo : {T : Type 0} → Stopping T → Core T → Trace → Type 0
 AllOpenTo d core u = (contents : Contents) → d.may_leave (twin_of (store_of core)) contents → OpensTo contents (book_in u)
 
 -- Where no fault was answered the journal stands at the end, and any two files that a stop leaves open to the book
--- after all events.
-abbrev pub TheEndLeavesAll : {T : Type 0} → Stopping T → Core T → List Event → Core T → Driven → Type 0
-TheEndLeavesAll d old events new driven =
+-- after all groups.
+abbrev pub TheEndLeavesAll : {T : Type 0} → Stopping T → Core T → List (List Event) → Core T → Driven → Type 0
+TheEndLeavesAll d old groups new driven =
     driven.fault ≡ None → JournalStands d old
     → JournalStands d new
-    × ((t : Trace) → Fits old t → (u : Trace) × Run (id_of old) 0 t events driven.taken.items u × AllOpenTo d new u)
+    × ((t : Trace) → Fits old t → (u : Trace) × Run (id_of old) 0 t groups driven.taken.items u × AllOpenTo d new u)
 
--- Where a fault was answered, two files that a stop leaves at the end open to the book after the events that were handled,
--- or to that book after the acts of the one that met the fault; and to the latter if an item was taken after it.
+-- Where a fault was answered, two files that a stop leaves at the end open to the book after the groups that were handled,
+-- and some first events of the one that met the fault; and after all of its events if an item was taken after it.
 -- So, whatever was answered, the events of which an item was taken are in the book that is left.
-abbrev pub AFaultLeavesAllAnswered : {T : Type 0} → Stopping T → Core T → List Event → Core T → Driven → Type 0
-AFaultLeavesAllAnswered d old events new driven =
+abbrev pub AFaultLeavesAllAnswered : {T : Type 0} → Stopping T → Core T → List (List Event) → Core T → Driven → Type 0
+AFaultLeavesAllAnswered d old groups new driven =
     IfSome driven.fault (λ f. (t : Trace) → Fits old t → JournalStands d old
     → (contents : Contents) → d.may_leave (twin_of (store_of new)) contents
-    → IsLeftAfter (id_of old) t events driven.handled driven.taken.items contents)
+    → IsLeftAfter (id_of old) t groups driven.handled driven.taken.items contents)
 
 -- Over runs.
 
@@ -68,45 +69,37 @@ AFaultLeavesAllAnswered d old events new driven =
 abbrev pub IsUnderWay : List ℕ → Life → List Life → Trace → Type 0
 IsUnderWay id life lives t = (life.cut ≡ []) × Lives id (life ∷ lives) t
 
--- the run that a stop leaves: as it went so far, with more moves, and these events cut off
-abbrev pub stopped : Life → List Move → List Event → Life
-stopped life more cut = record { opening = life.opening; moves = life.moves ++ more; cut = cut }
+-- the run that a stop leaves: as it went so far, with more moves
+abbrev pub stopped : Life → List Move → Life
+stopped life more = record { opening = life.opening; moves = life.moves ++ more; cut = [] }
 
--- Two files that a stop leaves while these events are handled after t open to the book of the runs before, and of this one: with the moves of
--- some first events, each handled and its items taken, and cut off there, or within the event that comes next.
-pub record EndsLife (id : List ℕ) (life : Life) (lives : List Life) (t : Trace) (events : List Event) (contents : Contents) : Type 0 where
-  pub first : List Event
-  pub rest : List Event
-  pub are : events ≡ first ++ rest
-  pub taken : List Sent
-  pub mid : Trace
-  pub run : Run id 0 t first taken mid
-  pub most : ℕ
-  pub at_most_one : most ≤ 1
+-- Two files that a stop leaves while these groups are handled after t open to the book of the runs before, and of this one: with the moves of
+-- some first groups, each handled and its items taken, and of some first events of the next one, of which nothing was taken.
+pub record EndsLife (id : List ℕ) (life : Life) (lives : List Life) (t : Trace) (groups : List (List Event)) (contents : Contents) : Type 0 where
+  pub book : BookView
+  pub left : IsLeftBy id t groups book
   pub more : List Move
-  pub trace : Trace
-  pub cut_off : CutOff (take most rest) mid trace
-  pub ended : Lives id (stopped life more (take most rest) ∷ lives) trace
-  pub opens : OpensTo contents (book_in trace)
+  pub ended : Lives id (stopped life more ∷ lives) left.within.end
+  pub opens : OpensTo contents book
 
 -- whatever runs were before, and whatever this one did so far
-abbrev pub EndsALife : {T : Type 0} → Stopping T → Core T → List Event → Core T → Type 0
-EndsALife d old events new =
+abbrev pub EndsALife : {T : Type 0} → Stopping T → Core T → List (List Event) → Core T → Type 0
+EndsALife d old groups new =
     (life : Life) (lives : List Life) (t : Trace) → IsUnderWay (id_of old) life lives t → Fits old t → JournalStands d old
-    → LeavesOnly d.moment d.left_since (twin_of (store_of old)) (twin_of (store_of new)) (EndsLife (id_of old) life lives t events)
+    → LeavesOnly d.moment d.left_since (twin_of (store_of old)) (twin_of (store_of new)) (EndsLife (id_of old) life lives t groups)
 
--- So they do at the end of the call, after which these items had been taken. An item that isn't of the events before the
--- one that met a fault was put out by that one, or before all of them; then the book is the one after it.
-pub record EndsAnswered (id : List ℕ) (life : Life) (lives : List Life) (t : Trace) (events : List Event) (xs : List Sent) (contents : Contents) : Type 0 where
-  pub ends : EndsLife id life lives t events contents
+-- So they do at the end of the call, after which these items had been taken. An item that isn't of the groups before the
+-- one that met a fault was put out by that one, or before all of them; then the book is the one after all of its events.
+pub record EndsAnswered (id : List ℕ) (life : Life) (lives : List Life) (t : Trace) (groups : List (List Event)) (xs : List Sent) (contents : Contents) : Type 0 where
+  pub ends : EndsLife id life lives t groups contents
   pub last : List Sent
-  pub items : xs ≡ ends.taken ++ last
-  pub answered : last ≢ [] → book_in ends.trace ≡ book_after_next_turn ends.mid ends.rest
+  pub items : xs ≡ ends.left.taken ++ last
+  pub answered : last ≢ [] → ends.left.within.others ≡ []
 
-abbrev pub EndsALifeAnswered : {T : Type 0} → Stopping T → Core T → List Event → Core T → Driven → Type 0
-EndsALifeAnswered d old events new driven =
+abbrev pub EndsALifeAnswered : {T : Type 0} → Stopping T → Core T → List (List Event) → Core T → Driven → Type 0
+EndsALifeAnswered d old groups new driven =
     (life : Life) (lives : List Life) (t : Trace) → IsUnderWay (id_of old) life lives t → Fits old t → JournalStands d old
-    → (contents : Contents) → d.may_leave (twin_of (store_of new)) contents → EndsAnswered (id_of old) life lives t events driven.taken.items contents
+    → (contents : Contents) → d.may_leave (twin_of (store_of new)) contents → EndsAnswered (id_of old) life lives t groups driven.taken.items contents
 
 -- a run that has just begun
 abbrev pub born : Beginning → Life

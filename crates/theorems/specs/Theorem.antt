@@ -23,13 +23,13 @@ use Rattle.theorems.specs.Scripts.{InSmallScripts, InSmallRuns}
 use Rattle.theorems.specs.Stops.{Stopping, AnyMomentLeavesAPrefix, TheEndLeavesAll, AFaultLeavesAllAnswered, EndsALife, EndsALifeAnswered, GoesOnFrom}
 use Rattle.theorems.specs.Windows.{WindowKept}
 
--- Stopped at any moment, the journal opens to the book after some first events, or after the next one too; at the end, if
--- no fault was answered, to the book after all of them, and if one was, to a book that holds all of which an item was
--- taken. It is the book of the runs before, and of this one.
-abbrev pub AStopLeavesAPrefix : {T : Type 0} → Stopping T → Core T → List Event → Core T → Driven → Type 0
-AStopLeavesAPrefix d old es new x =
-    AnyMomentLeavesAPrefix d old es new × TheEndLeavesAll d old es new x × AFaultLeavesAllAnswered d old es new x
-    × EndsALife d old es new × EndsALifeAnswered d old es new x
+-- Stopped at any moment, the journal opens to the book after some first groups of events, and some first events of the
+-- next one; at the end, if no fault was answered, to the book after all of them, and if one was, to a book that holds all
+-- of which an item was taken. It is the book of the runs before, and of this one.
+abbrev pub AStopLeavesAPrefix : {T : Type 0} → Stopping T → Core T → List (List Event) → Core T → Driven → Type 0
+AStopLeavesAPrefix d old groups new x =
+    AnyMomentLeavesAPrefix d old groups new × TheEndLeavesAll d old groups new x × AFaultLeavesAllAnswered d old groups new x
+    × EndsALife d old groups new × EndsALifeAnswered d old groups new x
 
 -- A router that is opened on what a stop left goes on from the runs of whose book that is.
 abbrev pub ARouterGoesOn : {T : Type 0} → Stopping T → List ℕ → Beginning → Contents → Core T → Type 0
@@ -132,6 +132,6 @@ PiecesMakeNoDifference = SameHoweverCut
 -- events handled that holds every event answered; and over every list of runs each row is decided at most once, and goes to
 -- its own consumer alone, a producer is told accepted only after its consumer accepted, and no link starts a delivery
 -- beyond its granted credit.
-abbrev pub TheHeadline : {T : Type 0} → Stopping T → Core T → List Event → Core T → Driven → Type 0
-TheHeadline d old es new x =
-    AStopLeavesAPrefix d old es new x × InLives RowsAreDecidedOnce × RowsStayWithConsumers × AcceptedIsToldTruly × InLives WithinCredit
+abbrev pub TheHeadline : {T : Type 0} → Stopping T → Core T → List (List Event) → Core T → Driven → Type 0
+TheHeadline d old groups new x =
+    AStopLeavesAPrefix d old groups new x × InLives RowsAreDecidedOnce × RowsStayWithConsumers × AcceptedIsToldTruly × InLives WithinCredit

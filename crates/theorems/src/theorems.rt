@@ -5,6 +5,7 @@ ghost use Rattle.theorems.specs.Stops.{stopping};
 ghost use Rattle.theorems.specs.Locked.{kind};
 ghost use Rattle.std.specs.Prelude.{IfOk};
 ghost use Rattle.router_core.specs.Machine.{opening_of};
+ghost use Rattle.router_core.specs.Runs.{events_of};
 ghost use Rattle.theorems.specs.Theorem.{TheHeadline, AStopLeavesAPrefix, ARouterGoesOn};
 ghost use Rattle.theorems.specs.Theorem.{NoDeliveryStartsBeyondCredit};
 ghost use Rattle.theorems.specs.Theorem.{ADeliveryHasOneConsumer, FramesCarryWhatWasBound, MessagesAreBoundOnce};
@@ -22,31 +23,31 @@ use router_trace::Event;
 use std::alloc::Global;
 use twin_journal::OpenFault;
 
-/// Handles events as `drive` does. Stopped before, within or after any call of its two files, the journal reopens to the
-/// book of a prefix of the events handled that holds every event answered; and over every list of events, disconnections,
-/// stops and resumptions each durable delivery is decided at most once, its sender is told accepted only after its
-/// consumer accepted, and no link starts a delivery beyond its granted credit. What a stop leaves is the book of such a
-/// list of runs, and a router that is opened on it goes on from them (`a_router_goes_on`).
-pub fn the_headline<T: Twin>(alloc: Global, core: &mut Core<T>, events: Vec<Event>) -> Driven
-    ensures { TheHeadline (stopping T.seen T.may_leave T.moment T.left_since) core.old events.items core.new result }
+/// Handles groups of events as `drive` does. Stopped before, within or after any call of its two files, the journal reopens
+/// to the book of a prefix of the events handled that holds every event answered; and over every list of events,
+/// disconnections, stops and resumptions each durable delivery is decided at most once, its sender is told accepted only
+/// after its consumer accepted, and no link starts a delivery beyond its granted credit. What a stop leaves is the book of
+/// such a list of runs, and a router that is opened on it goes on from them (`a_router_goes_on`).
+pub fn the_headline<T: Twin>(alloc: Global, core: &mut Core<T>, groups: Vec<Vec<Event>>) -> Driven
+    ensures { TheHeadline (stopping T.seen T.may_leave T.moment T.left_since) core.old (events_of groups.items) core.new result }
 {
-    a_stop_leaves_a_prefix(alloc, core, events)
+    a_stop_leaves_a_prefix(alloc, core, groups)
 }
 
-/// Handles events as `drive` does. Stopped at any moment, before, within or after any call of its two files, whatever the
-/// call answers, the journal opens to the book of durable links and messages after some first events, or to that
-/// book after the acts of the event that comes next. If no fault is answered it opens, at the end, to the book after
-/// all of them, and the journal stands for the next call. If one is, it opens to the book after those that were handled,
-/// or after the one that met the fault too; and surely to the latter if an item was taken after that one.
+/// Handles groups of events as `drive` does. Stopped at any moment, before, within or after any call of its two files,
+/// whatever the call answers, the journal opens to the book of durable links and messages after some first groups, and some
+/// first events of the one that comes next. If no fault is answered it opens, at the end, to the book after all of them,
+/// and the journal stands for the next call. If one is, it opens to the book after those that were handled, and some first
+/// events of the one that met the fault; and surely after all of these if an item was taken after that group.
 pub fn a_stop_leaves_a_prefix<T: Twin>(
     alloc: Global,
     core: &mut Core<T>,
-    events: Vec<Event>,
+    groups: Vec<Vec<Event>>,
 ) -> Driven
     ensures { AStopLeavesAPrefix (stopping T.seen T.may_leave T.moment T.left_since)
-        core.old events.items core.new result }
+        core.old (events_of groups.items) core.new result }
 {
-    drive(alloc, core, events)
+    drive(alloc, core, groups)
 }
 
 /// Opens a router as `Core::open` does. If the two files read as files that open to the book of some runs, as what a stop leaves does, the
@@ -67,7 +68,7 @@ pub fn a_router_goes_on<T: Twin>(
 }
 
 /// In every trace of the router each transfer is put out on an attached link, and before each that starts a delivery
-/// the link's remaining credit is at least 1 (AMQP 1.0 part 2, section 2.6.7). Lists of events have such traces.
+/// the link's remaining credit is at least 1 (AMQP 1.0 part 2, section 2.6.7). Groups of events have such traces.
 pub fn no_delivery_starts_beyond_credit()
     ensures { NoDeliveryStartsBeyondCredit }
 {}
@@ -82,7 +83,7 @@ pub fn a_delivery_has_one_consumer()
 /// In every trace of the router each transfer carries the next bytes of a message, on the link of the consumer that
 /// it was bound to: the first has the delivery-tag, a later one none, and the last carries all remaining bytes. What
 /// a consumer gets of a delivery is a beginning of the message, and after the last frame the whole message (AMQP 1.0
-/// part 2, sections 2.6.14 and 2.7.5). Lists of events have such traces.
+/// part 2, sections 2.6.14 and 2.7.5). Groups of events have such traces.
 pub fn frames_carry_what_was_bound()
     ensures { FramesCarryWhatWasBound }
 {}
@@ -94,7 +95,7 @@ pub fn frames_carry_what_was_bound()
 /// there, with its outcome if it is decided, or the one that the acts of the attach give it (where the router was opened
 /// on a sound book, or after other runs). A row that the book has for a producer's durable link is joined to that link,
 /// by a delivery that it resumes or without one, and nothing is sent for it. So each delivery is of such a message, or of
-/// such a row (AMQP 1.0 part 2, sections 2.6.13, 2.6.14 and 2.7.5). Lists of events have such traces.
+/// such a row (AMQP 1.0 part 2, sections 2.6.13, 2.6.14 and 2.7.5). Groups of events have such traces.
 pub fn messages_are_bound_once()
     ensures { MessagesAreBoundOnce }
 {}
@@ -124,7 +125,7 @@ pub fn outcomes_are_told_once()
 /// disk before it puts anything out, so no crash loses an outcome that was told. Each row is decided at most once,
 /// whatever happens. Over every list of runs the row that is told is the producer's own: it came on the terminus of the
 /// producer's link, with the tag of the delivery that the producer is told of (AMQP 1.0 part 2, section 2.6.12, and part
-/// 3, section 3.4). Lists of events have such traces.
+/// 3, section 3.4). Groups of events have such traces.
 pub fn durable_outcomes_are_kept_first()
     ensures { DurableOutcomesAreKeptFirst }
 {}
@@ -166,7 +167,7 @@ pub fn the_lock_keeps_them<T: Twin>()
 
 /// In every trace of the router a durable link is taken only once the book has its terminus, with the link's key and
 /// its address. `Core::handle` has the book on the disk before it puts anything out, so whoever is told that its link
-/// is durable has a terminus there (AMQP 1.0 part 3, sections 3.5.3 to 3.5.5). Lists of events have such traces.
+/// is durable has a terminus there (AMQP 1.0 part 3, sections 3.5.3 to 3.5.5). Groups of events have such traces.
 pub fn durable_links_are_kept_first()
     ensures { DurableLinksAreKeptFirst }
 {}
@@ -176,7 +177,7 @@ pub fn durable_links_are_kept_first()
 /// producer's durable link. `Core::handle` has the acts on the disk before it puts anything out, so no consumer gets
 /// a durable message that a crash could lose. Each row is bound at most once, but for the times when its consumer's
 /// link takes it up again, and each that the book gave since the router was opened is bound (AMQP 1.0 part 2, section
-/// 2.6.12, and part 3, sections 3.5.3 to 3.5.5). Lists of events have such traces.
+/// 2.6.12, and part 3, sections 3.5.3 to 3.5.5). Groups of events have such traces.
 pub fn durable_messages_are_kept_first()
     ensures { DurableMessagesAreKeptFirst }
 {}
@@ -185,13 +186,13 @@ pub fn durable_messages_are_kept_first()
 /// never without an open before it, and nothing after the close. Heartbeats and frames of sessions come between open
 /// and close; on each channel begin and end take turns, and the other frames of a session come between them. If the
 /// first item received is a header, the router's header is written first; if nothing is received, nothing is written
-/// (AMQP 1.0 part 2, sections 2.2, 2.4 and 2.5). Lists of events have such traces.
+/// (AMQP 1.0 part 2, sections 2.2, 2.4 and 2.5). Groups of events have such traces.
 pub fn connections_keep_order()
     ensures { ConnectionsKeepOrder }
 {}
 
 /// In every trace of the router, before each transfer put out, the session's remote-incoming-window is at least 1
-/// (AMQP 1.0 part 2, section 2.5.6). Lists of events have such traces.
+/// (AMQP 1.0 part 2, section 2.5.6). Groups of events have such traces.
 pub fn windows_are_kept()
     ensures { WindowsAreKept }
 {}

@@ -6,6 +6,6 @@ use Rattle.router_core.proofs.driving.append.Given as goal
 
 abbrev pub invariant-loop-item : goal.invariant-loop-item
 invariant-loop-item l = record {
-  items : l.taken.items ++ map (as_sent l.event l.conn) (into_iter_items l.item-iterator) ≡ l.fn.taken.items ++ map (as_sent l.event l.conn) l.fn.items.items;
+  items : l.taken.items ++ map (as_sent l.group l.conn) (into_iter_items l.item-iterator) ≡ l.fn.taken.items ++ map (as_sent l.group l.conn) l.fn.items.items;
   room : vec_len l.taken + length (into_iter_items l.item-iterator) ≤ vec_capacity l.taken;
 }

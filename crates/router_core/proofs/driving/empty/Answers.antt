@@ -11,7 +11,7 @@ use Rattle.router_core.proofs.driving.empty.Goals as goal
 pub loop-turn-preserved : goal.loop-turn-preserved
 loop-turn-preserved g c = record {
   fits = λ t f. let w = c.loop-turn.invariant.fits t f
-      in one_more c.take_one.new.core c.args.event t c.args.taken.now.items c.loop-turn.taken.items c.take_one.new.taken.items w.0 (taking c.in-Some.conn)
+      in one_more c.take_one.new.core c.args.group t c.args.taken.now.items c.loop-turn.taken.items c.take_one.new.taken.items w.0 (taking c.in-Some.conn)
       w.1 (record { most = refl; lowest = c.in-Some.ensures _ w.2 })
       (c.in_ok-take_one-in-Some.ensures.fits _ w.2) w.3 (c.in_ok-take_one-in-Some.ensures.items _ w.2);
   works = search rules;
@@ -28,7 +28,7 @@ returns-in_err-take_one-in-Some-clause-memory g c =
 
 pub returns-in_err-take_one-in-Some-clause-broken : goal.returns-in_err-take_one-in-Some-clause-broken
 returns-in_err-take_one-in-Some-clause-broken g c =
-    let broken : (t : List Entry) → Fits c.args.core.now t → (takes : List Taking) × InTurn takes t × (c.take_one.new.taken.items ≡ c.args.taken.now.items ++ sent c.args.event takes t)
+    let broken : (t : List Entry) → Fits c.args.core.now t → (takes : List Taking) × InTurn takes t × (c.take_one.new.taken.items ≡ c.args.taken.now.items ++ sent c.args.group takes t)
     = λ t f. let w = c.loop-turn.invariant.fits t f in (w.0, w.1, c.in_err-take_one-in-Some.ensures.kept ∙ w.3) in
     search (broken, rules)
 

@@ -7,7 +7,7 @@ use Rattle.router_core.proofs.driving.empty.Given as goal
 
 abbrev pub invariant-loop-turn : goal.invariant-loop-turn
 invariant-loop-turn g l = record {
-  fits : (t : List Entry) → Fits l.fn.core t → (takes : List Taking) × InTurn takes t × Fits l.core (took_all takes t) × (l.taken.items ≡ l.fn.taken.items ++ sent l.event takes t);
+  fits : (t : List Entry) → Fits l.fn.core t → (takes : List Taking) × InTurn takes t × Fits l.core (took_all takes t) × (l.taken.items ≡ l.fn.taken.items ++ sent l.group takes t);
   works : is_failed l.core ≡ true → is_failed l.fn.core ≡ true;
   named : id_of l.core ≡ id_of l.fn.core;
   store : store_of l.core ≡ store_of l.fn.core;
