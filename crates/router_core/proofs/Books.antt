@@ -132,21 +132,21 @@ fits_handled new id t e taken tables started journal = record {
 abbrev pub early_of : {T : Type 0} → Core T → List Entry → Event → Bool
 early_of core t e = exceeds (kept_book core) (planned_acts false (kept_book core) t e)
 
-pub acts_are : {T : Type 0} (core : Core T) (t : List Entry) (e : Event) → Fits core t
+pub acts_are : {T : Type 0} (core : Core T) (t : List Entry) (e : Event) → Journals core t
     → with_admission (early_of core t e) (kept_book core) (planned_acts (early_of core t e) (kept_book core) t e)
     (admits (kept_book core) (event_admission (kept_book core) t e (event_answer (early_of core t e) (kept_book core) t e))) ≡ acts_of t e
 acts_are core t e f =
     ap (λ (x : BookView). with_admission (exceeds x (planned_acts false x t e)) x (planned_acts (exceeds x (planned_acts false x t e)) x t e)
-    (admits x (event_admission x t e (event_answer (exceeds x (planned_acts false x t e)) x t e)))) f.journal.book
+    (admits x (event_admission x t e (event_answer (exceeds x (planned_acts false x t e)) x t e)))) f.book
     ∙ (chosen (book_in t) t e).acts
 
 -- whether it finds the journal full
-pub full_is : {T : Type 0} (core : Core T) (t : List Entry) (e : Event) → Fits core t
+pub full_is : {T : Type 0} (core : Core T) (t : List Entry) (e : Event) → Journals core t
     → full_with (early_of core t e) (kept_book core) (planned_acts (early_of core t e) (kept_book core) t e)
     (admits (kept_book core) (event_admission (kept_book core) t e (event_answer (early_of core t e) (kept_book core) t e))) ≡ finds_full (journaled t) t e
 full_is core t e f =
     ap (λ (x : BookView). full_with (exceeds x (planned_acts false x t e)) x (planned_acts (exceeds x (planned_acts false x t e)) x t e)
-    (admits x (event_admission x t e (event_answer (exceeds x (planned_acts false x t e)) x t e)))) f.journal.book
+    (admits x (event_admission x t e (event_answer (exceeds x (planned_acts false x t e)) x t e)))) f.book
     ∙ (chosen (book_in t) t e).full
 
 -- the answer to its item: it is the same after its acts
@@ -169,9 +169,9 @@ answer_found t (event.Down c) = refl
 answer_found t (event.Tick ms) = refl
 answer_found t event.Start = refl
 
-pub answer_is : {T : Type 0} (core : Core T) (t : List Entry) (e : Event) → Fits core t → event_answer (early_of core t e) (kept_book core) t e ≡ answer_to_event (booked t e) e
+pub answer_is : {T : Type 0} (core : Core T) (t : List Entry) (e : Event) → Journals core t → event_answer (early_of core t e) (kept_book core) t e ≡ answer_to_event (booked t e) e
 answer_is core t e f =
-    ap (λ (x : BookView). event_answer (exceeds x (planned_acts false x t e)) x t e) f.journal.book
+    ap (λ (x : BookView). event_answer (exceeds x (planned_acts false x t e)) x t e) f.book
     ∙ (chosen (book_in t) t e).answer
     ∙ answer_found t e
 

@@ -9,11 +9,7 @@ use Rattle.amqp_model.specs.declared.perf.Perf.TheVariants as perf
 use Rattle.amqp_conn.specs.declared.conn.Conn.{Conn}
 use Rattle.book_model.specs.declared.act.Act.{Act}
 use Rattle.book_model.specs.declared.act.Admission.{Admission}
-use Rattle.book_model.specs.declared.act.Decision.{Decision}
-use Rattle.book_model.specs.declared.row.RowNumber.{RowNumber}
 use Rattle.book_model.specs.Book.{BookView}
-use Rattle.journal_store.specs.declared.acting.TerminusAct.{TerminusAct}
-use Rattle.journal_store.specs.Acting.{event_acts as settled_acts}
 use Rattle.journal_store.specs.Store.{exceeds}
 use Rattle.router_trace.specs.declared.event.ConnectionId.{ConnectionId}
 use Rattle.router_trace.specs.declared.event.Event.{Event}
@@ -28,33 +24,17 @@ use Rattle.reply_rows.specs.declared.answer.Answer.TheVariants.{Taken}
 use Rattle.reply_rows.specs.Booking.{answer_at}
 use Rattle.reply_rows.proofs.Mapped.{IsHere, answer_here}
 use Rattle.router_reply.specs.declared.heard.Heard.{Heard}
-use Rattle.router_reply.specs.declared.planning.Findings.{Findings}
-use Rattle.router_reply.specs.Acts.{event_answer, live_answer, answer_acts, planned_acts, acts_of, finds_full, journaled}
+use Rattle.router_reply.specs.Acts.{event_answer, live_answer, planned_acts, acts_of, book_found, finds_full, journaled}
 use Rattle.router_reply.specs.Admitting.{answer_admission, taken_admission, part_admission, unless_ends, event_admission, admits, without_acts}
-use Rattle.router_reply.specs.Deciding.{decided, forgotten, terminus_of_event}
-use Rattle.router_reply.specs.Heard.{ItemHeard, IsHeard, IsSession, IsChange}
+use Rattle.router_reply.specs.Heard.{ItemHeard, IsHeard}
+use Rattle.router_reply.specs.Planning.{IsSession}
 use Rattle.router_core.specs.declared.router.Core.{Core}
-use Rattle.router_core.specs.Handling.{Fits, TakenHere, TakenIn, within, with_admission, full_with, kept_book}
+use Rattle.router_state.specs.declared.tables.State.{State}
+use Rattle.router_reply.specs.declared.plan.Plan.{Plan}
+use Rattle.router_reply.specs.Resuming.{Resumes}
+use Rattle.router_core.specs.Handling.{IsReady, Journals, TakenHere, TakenIn, within, with_admission, full_with, kept_book}
 use Rattle.router_core.proofs.Books.{early_of, acts_are, full_is}
 use Rattle.router_core.proofs.Committing.{none_kept}
-
--- of an event that is no start, the acts are those of its answer
-planned_is : (full : Bool) (b : BookView) (t : List Entry) (e : Event) → (e ≡ event.Start → ⊥) → answer_acts b t e (event_answer full b t e) ≡ planned_acts full b t e
-planned_is full b t event.Start other = absurd (other refl)
-planned_is full b t (event.Up c p) other = refl
-planned_is full b t (event.Item c i) other = refl
-planned_is full b t (event.Down c) other = refl
-planned_is full b t (event.Tick ms) other = refl
-
-pub planned_told : (full : Bool) (b given : BookView) (t : List Entry) (e : Event) (acts : List Act) (ds : List Decision) (ns : List RowNumber) (x : Option TerminusAct)
-    → given ≡ b → (e ≡ event.Start → ⊥) → acts ≡ settled_acts b ds ns x → ds ≡ decided given t e (event_answer full given t e) → ns ≡ forgotten given t e (event_answer full given t e)
-    → x ≡ terminus_of_event given t e (event_answer full given t e) → acts ≡ planned_acts full b t e
-planned_told full b given t e acts ds ns x same other are ds_are ns_are x_is =
-    are ∙ ap (λ (v : List Decision). settled_acts b v ns x) ds_are
-    ∙ ap (λ (v : List RowNumber). settled_acts b (decided given t e (event_answer full given t e)) v x) ns_are
-    ∙ ap (λ (v : Option TerminusAct). settled_acts b (decided given t e (event_answer full given t e)) (forgotten given t e (event_answer full given t e)) v) x_is
-    ∙ ap (λ (g : BookView). settled_acts b (decided g t e (event_answer full g t e)) (forgotten g t e (event_answer full g t e)) (terminus_of_event g t e (event_answer full g t e))) same
-    ∙ planned_is full b t e other
 
 pub none_ended : (ends : List ℕ) → (length ends == 0) ≡ true → ends ≡ []
 none_ended [] is = refl
@@ -105,7 +85,7 @@ itemless_admits b t (event.Tick ms) a other = refl
 itemless_admits b t event.Start a other = refl
 
 -- all of it together
-pub prepared : {T : Type 0} (core : Core T) (t : List Entry) (e : Event) (full : Bool) (a : Answer) (planned acts : List Act) → Fits core t → full ≡ early_of core t e
+pub prepared : {T : Type 0} (core : Core T) (t : List Entry) (e : Event) (full : Bool) (a : Answer) (planned acts : List Act) → Journals core t → full ≡ early_of core t e
     → a ≡ event_answer full (kept_book core) t e → planned ≡ planned_acts full (kept_book core) t e
     → acts ≡ with_admission full (kept_book core) planned (admits (kept_book core) (event_admission (kept_book core) t e a)) → acts ≡ acts_of t e
 prepared core t e full a planned acts f early answered are told =
@@ -117,7 +97,7 @@ prepared core t e full a planned acts f early answered are told =
     ∙ acts_are core t e f
 
 -- and whether it finds the journal full
-pub found_full : {T : Type 0} (core : Core T) (t : List Entry) (e : Event) (full : Bool) (a : Answer) (planned : List Act) (found : Bool) → Fits core t → full ≡ early_of core t e
+pub found_full : {T : Type 0} (core : Core T) (t : List Entry) (e : Event) (full : Bool) (a : Answer) (planned : List Act) (found : Bool) → Journals core t → full ≡ early_of core t e
     → a ≡ event_answer full (kept_book core) t e → planned ≡ planned_acts full (kept_book core) t e
     → found ≡ full_with full (kept_book core) planned (admits (kept_book core) (event_admission (kept_book core) t e a)) → found ≡ finds_full (journaled t) t e
 found_full core t e full a planned found f early answered are told =
@@ -167,20 +147,25 @@ event_gives : (full : Bool) (b : BookView) (t : List Entry) (e : Event) (a : Ans
 event_gives full b t (event.Item c i) a acts = item_gives full b t c i a acts
 event_gives full b t _ a acts = refl
 
-pub gives : {T : Type 0} (core : Core T) (t : List Entry) (e : Event) (full : Bool) (a : Answer) (planned : List Act) → Fits core t → full ≡ early_of core t e
+pub gives : {T : Type 0} (core : Core T) (t : List Entry) (e : Event) (full : Bool) (a : Answer) (planned : List Act) → Journals core t → full ≡ early_of core t e
     → a ≡ event_answer full (kept_book core) t e → planned ≡ planned_acts full (kept_book core) t e → giving_of e planned ≡ giving_of e (acts_of t e)
 gives core t e full a planned f early answered are =
     event_gives full (kept_book core) t e a planned
     ∙ ap (giving_of e)
     (prepared core t e full a planned (with_admission full (kept_book core) planned (admits (kept_book core) (event_admission (kept_book core) t e a))) f early answered are refl)
 
--- the session of an event's item is the same after acts; a start has none, and changes nothing at once
+-- the session of an event's item is the same after acts
 pub session_after : (t : List Entry) (e : Event) (own : Option ℕ) → IsSession t e own → (acts : List Act) (full : List ℕ) → IsSession (Booked acts full ∷ t) e own
 session_after t (event.Item d i) own is acts full = is
 session_after t _ own is acts full = tt
 
-pub start_session : (t : List Entry) (e : Event) (own : Option ℕ) → e ≡ event.Start → IsSession t e own
-start_session t e own is = subst (λ (x : Event). IsSession t x own) (sym is) tt
-
-pub start_change : (ends : List ℕ) (e : Event) (f : Findings) → e ≡ event.Start → IsChange ends e f
-start_change ends e f is = subst (λ (x : Event). IsChange ends x f) (sym is) tt
+-- what is ready for an answer is so without the plan's acts
+pub ready_without : (s : State) (t : List Entry) (e : Event) (p q : Plan) (h : Heard) → q ≡ record p { acts = q.acts } → IsReady s t e p h → IsReady s t e q h
+ready_without s t e p q h same ready = record {
+  tables = ready.tables;
+  ends = ap (λ (x : Plan). x.ends.items) same ∙ ready.ends;
+  phase = ap (λ (x : Plan). x.phase) same ∙ ready.phase;
+  answer = ap (λ (x : Plan). x.answer) same ∙ ready.answer;
+  heard = subst (λ (a : Answer). IsHeard t e a h) (sym (ap (λ (x : Plan). x.answer) same)) ready.heard;
+  resumed = subst (λ (x : Plan). Resumes (book_found t) t e x.answer x.resumption) (sym same) ready.resumed;
+}

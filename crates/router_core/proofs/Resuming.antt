@@ -7,7 +7,6 @@ use Rattle.amqp_model.specs.declared.item.Item.TheVariants as item
 use Rattle.amqp_model.specs.declared.perf.Attach.{Attach as AnAttach}
 use Rattle.amqp_model.specs.declared.perf.Perf.{Perf}
 use Rattle.amqp_model.specs.declared.perf.Perf.TheVariants as perf
-use Rattle.amqp_model.specs.declared.state.UnsettledDelivery.{UnsettledDelivery}
 use Rattle.book_model.specs.Book.{BookView}
 use Rattle.book_model.specs.declared.act.Act.{Act}
 use Rattle.book_model.specs.declared.act.Act.TheVariants.{Make, Admit, Decide, Forget, Drop}
@@ -31,11 +30,11 @@ use Rattle.router_state.specs.declared.tables.State.{State}
 use Rattle.router_state.specs.Tables.{TablesFit}
 use Rattle.resume_core.specs.declared.consumer.Sending.{Sending}
 use Rattle.reply_rows.specs.declared.answer.Answer.{Answer}
-use Rattle.reply_rows.specs.declared.answer.Answer.TheVariants.{Nothing, Attach}
+use Rattle.reply_rows.specs.declared.answer.Answer.TheVariants.{Attach}
 use Rattle.router_reply.specs.declared.resuming.Resumption.{Resumption}
 use Rattle.router_reply.specs.Acts.{acts_of, booked, book_found, book_in, found_acts, answer_to_event}
 use Rattle.router_reply.specs.Holding.{as_held, freed, freed_by, freed_from, held_if, held_key, held_to, if_sends, rows_held, with_held}
-use Rattle.router_reply.specs.Resuming.{Resumes, key_taken, key_by, key_in, taken_key, if_receives, resumed_key, attach_in, map_for, rows_for, rows_taken, key_held, key_resumed, map_resumed, rows_resumed, told_map, bound_to, bound_if, with_rows, attached_by, resumed_by, resumed}
+use Rattle.router_reply.specs.Resuming.{Resumes, key_taken, key_by, key_in, taken_key, if_receives, resumed_key, attach_in, map_for, rows_for, rows_taken, key_held, key_resumed, rows_resumed, bound_to, bound_if, with_rows, attached_by, resumed_by, resumed}
 
 pub rows_keep : (P : List Entry → Type 0) → ((b : Binding) (t : List Entry) → P t → P (Bound b ∷ t)) → (at : Attachment) (rs : List Sending) (u : List Entry) → P u → P (bound_to at rs u)
 rows_keep P step at [] u was = was
@@ -103,16 +102,13 @@ resumes_as s t e a x b acts u answer book done key held rows fits =
     (subst (λ (w : BookView). TablesFit s (freed (found_acts t) (with_held w (key_held x) (with_rows (key_resumed x) (rows_resumed x) u)))) book
     (subst (λ (xs : List Act). TablesFit s (freed xs (with_held b (key_held x) (with_rows (key_resumed x) (rows_resumed x) u)))) done fits)))))
 
--- The same of what was taken out of it, and told: first the router's map, then the tables.
-pub told_ours : (t : List Entry) (e : Event) (a : Answer) (x y : Option Resumption) (ours : List UnsettledDelivery) → Resumes (book_found t) t e a x → y ≡ x → ours ≡ map_resumed y → ours ≡ told_map t e a
-told_ours t e a x y ours is same map = map ∙ ap map_resumed same ∙ is.map
-
-pub resumes_told : (s : State) (t : List Entry) (e : Event) (a : Answer) (x y z : Option Resumption) (b : BookView) (acts : List Act) (u : List Entry)
-    → a ≡ answer_to_event t e → b ≡ book_in t → acts ≡ found_acts t → Resumes (book_found t) t e a x → y ≡ x → key_resumed z ≡ key_resumed y → key_held z ≡ key_held y
-    → rows_resumed z ≡ rows_resumed y
+-- The same once the router's map was told, and is no longer in it.
+pub resumes_told : (s : State) (t : List Entry) (e : Event) (a : Answer) (x z : Option Resumption) (b : BookView) (acts : List Act) (u : List Entry)
+    → a ≡ answer_to_event t e → b ≡ book_in t → acts ≡ found_acts t → Resumes (book_found t) t e a x → key_resumed z ≡ key_resumed x → key_held z ≡ key_held x
+    → rows_resumed z ≡ rows_resumed x
     → TablesFit s (freed acts (with_held b (key_held z) (with_rows (key_resumed z) (rows_resumed z) u))) → TablesFit s (resumed t e u)
-resumes_told s t e a x y z b acts u answer book done is same key held rows fits =
-    resumes_as s t e a z b acts u answer book done (key ∙ ap key_resumed same ∙ is.key) (held ∙ ap key_held same ∙ is.held) (rows ∙ ap rows_resumed same ∙ is.rows) fits
+resumes_told s t e a x z b acts u answer book done is key held rows fits =
+    resumes_as s t e a z b acts u answer book done (key ∙ is.key) (held ∙ is.held) (rows ∙ is.rows) fits
 
 -- What an event takes up again is the same after its acts: by the book that it finds.
 taken_booked : (acts : List Act) (full : List ℕ) (t : List Entry) (c : ℕ) (x : AnAttach) (a : Answer) → key_taken (Booked acts full ∷ t) c x a ≡ key_taken t c x a
@@ -141,7 +137,3 @@ resumes_booked b t e a x book r =
       map = r.map ∙ ap (λ (w : BookView). map_for w (attach_in e) (taken_key t e a)) book ∙ ap (map_for (book_in t) (attach_in e)) taken;
       rows = r.rows ∙ ap (λ (w : BookView). rows_for w (attach_in e) (resumed_key t e a)) book ∙ ap (rows_for (book_in t) (attach_in e)) same;
     }
-
--- a start takes nothing up
-pub start_resumes : (b : BookView) (t : List Entry) (e : Event) → e ≡ event.Start → Resumes b t e Nothing None
-start_resumes b t e is = subst (λ (f : Event). Resumes b t f Nothing None) (sym is) (record { key = refl; held = refl; map = refl; rows = refl })

@@ -14,14 +14,16 @@ use Rattle.router_trace.specs.Sessions.{theirs, maps}
 use Rattle.state_links.specs.Fits.{channel_of}
 use Rattle.reply_rows.specs.declared.answer.Answer.{Answer}
 use Rattle.reply_rows.specs.declared.answer.Answer.TheVariants.{Taken}
-use Rattle.router_trace.specs.Trace.{Trace, did}
-use Rattle.router_trace.specs.Connection.{due, phase_before}
+use Rattle.router_trace.specs.Trace.{Trace, Booked, did}
+use Rattle.router_trace.specs.Connection.{due, phase_before, phase_found}
 use Rattle.router_state.specs.declared.tables.State.{State}
-use Rattle.router_state.specs.Tables.{TablesFit}
+use Rattle.router_state.specs.Tables.{TablesAt, TablesFit}
 use Rattle.router_reply.specs.Acts.{journaled, book_found, book_in, book_after_event, answer_to_event}
 use Rattle.router_reply.specs.Heard.{IsHeard}
 use Rattle.router_reply.specs.Resuming.{Resumes}
-use Rattle.router_core.specs.declared.router.Ready.{Ready}
+use Rattle.router_reply.specs.declared.heard.Heard.{Heard}
+use Rattle.router_reply.specs.declared.plan.Plan.{Plan}
+use Rattle.router_reply.specs.Planning.{IsPlan}
 use Rattle.core_machine.specs.Turns.{is_started, declines}
 
 -- a router's journal agrees with the trace: its book, and how many batches it has; and it knows what the book needs
@@ -41,13 +43,22 @@ pub record IsTaken (t : Trace) (e : Event) (before : Option Conn) : Type 0 where
   pub taken : declines t e ≡ false
   pub phase : before ≡ phase_before t e
 
--- An event was handled in tables that agreed with the trace, and nothing was put: what is ready for its answer.
-pub record IsReady (s : State) (t : Trace) (e : Event) (r : Ready) : Type 0 where
+-- An event was decided: its tables and its book are those of the trace before it, but for the connections that it ends first.
+pub record IsDecided {T : Type 0} (core : Core T) (t : Trace) (e : Event) (p : Plan) : Type 0 where
+  pub taken : declines t e ≡ false
+  pub tables : (acts : List Act) → TablesAt core.state (Booked acts (due t e) ∷ t) e p.ends.items
+  pub before : TablesAt core.state t e p.ends.items
+  pub plan : IsPlan (book_of core.store) t e p
+  pub journal : Journals core t
+
+-- An event was heard in tables that agreed with the trace, and nothing was put: what is ready for its answer.
+pub record IsReady (s : State) (t : Trace) (e : Event) (p : Plan) (h : Heard) : Type 0 where
   pub tables : TablesFit s (did e ∷ t)
-  pub ends : r.ends.items ≡ due t e
-  pub answer : r.answer ≡ answer_to_event t e
-  pub heard : IsHeard t e r.answer r.heard
-  pub resumed : Resumes (book_found t) t e r.answer r.resumption
+  pub ends : p.ends.items ≡ due t e
+  pub phase : p.phase ≡ phase_found t e
+  pub answer : p.answer ≡ answer_to_event t e
+  pub heard : IsHeard t e p.answer h
+  pub resumed : Resumes (book_found t) t e p.answer p.resumption
 
 -- a transfer that is taken is one on the session for which its channel stands
 abbrev pub TakenHere : (ℕ → Bool) → Answer → Type 0

@@ -14,12 +14,12 @@ ghost use Rattle.router_state.specs.Waiting.{NothingWaits};
 ghost use Rattle.router_core.specs.Handling.{Fits, IsTaken, is_failed, id_of, store_of, kept_book, state_of, counts_of, LeftBook};
 ghost use Rattle.core_machine.specs.declared.fault.CoreFault.TheVariants.{Disk as DiskFailed, Memory, Failed, NoConnection};
 
-use crate::router::{Core, Prepared, Ready, Written, acts_written};
+use crate::router::{Core, Written, acts_written};
 use amqp_conn::Conn;
 use book_model::Act;
 use core_machine::{CoreFault, Done};
 use disk_core::Twin;
-use router_reply::row_in;
+use router_reply::{Heard, Plan, row_in};
 use router_trace::Event;
 use twin_journal::JournalFault;
 
@@ -87,7 +87,7 @@ impl<T: Twin> Core<T> {
         }
     }
 
-    /// Handles an event that is not declined, which finds its item's connection in this phase: it is planned and heard, its acts are held as
+    /// Handles an event that is not declined, which finds its item's connection in this phase: it is decided and heard, its acts are held as
     /// one batch, and then it is answered.
     fn hold_out(&mut self, event: Event, phase: Option<Conn>) -> Result<Done, CoreFault>
         ensures fits { OnOk result ((t : List Entry) → Fits self.old t → IsTaken t event phase → Fits self.new (handled (id_of self.old) t (step_of event))) }
@@ -111,20 +111,26 @@ impl<T: Twin> Core<T> {
         ensures cause { IfErr result (λ f. f ≡ DiskFailed → T.failures (twin_of (store_of self.old)) < T.failures (twin_of (store_of self.new))) }
         ensures no_other { (IsErrOf result DiskFailed → ⊥) → T.failures (twin_of (store_of self.new)) ≡ T.failures (twin_of (store_of self.old)) }
     {
-        let mut ready = Ready::nothing(self.alloc);
-        let Ok(Prepared { full, acts }) = self.prepare(&event, phase, &mut ready) else {
+        let mut plan = Plan::nothing(self.alloc);
+        let mut heard = Heard::nothing(self.alloc);
+        let Ok(()) = self.decide(&event, phase, &mut plan) else {
             drop(event);
             return Err(CoreFault::Memory);
         };
-        let row = row_in(&acts);
-        let journal = match self.hold_acts(acts) {
+        let Ok(()) = self.hear(&event, &mut plan, &mut heard) else {
+            drop(event);
+            return Err(CoreFault::Memory);
+        };
+        let full = plan.full;
+        let row = row_in(&plan.acts);
+        let journal = match self.hold_acts(plan.take_acts(self.alloc)) {
             Ok(journal) => journal,
             Err(fault) => {
                 drop(event);
                 return Err(fault);
             }
         };
-        let Ok(()) = self.answer(event, &mut ready, row, acts_written(&journal)) else {
+        let Ok(()) = self.answer(event, &mut plan, &mut heard, row, acts_written(&journal)) else {
             drop(journal);
             return Err(CoreFault::Memory);
         };

@@ -4,24 +4,23 @@ ghost use Rattle.disk_core.specs.Disk.{LeavesOnly, NoMore};
 ghost use Rattle.twin_journal.specs.Holding.{BeforeOrAfter};
 ghost use Rattle.twin_journal.specs.Journal.{batch_count};
 ghost use Rattle.twin_journal.specs.Judging.{Explains};
-ghost use Rattle.journal_store.specs.Store.{OpensTo, Stands, Writable, IsSuited, journal_of, twin_of, count_of, base_of, batches_after, exceeds};
+ghost use Rattle.journal_store.specs.Store.{OpensTo, Stands, Writable, IsSuited, journal_of, twin_of, count_of, base_of, batches_after};
 ghost use Rattle.router_trace.specs.Configuration.{opened};
-ghost use Rattle.router_trace.specs.Trace.{Entry, Trace, Took, did, step_of};
-ghost use Rattle.router_trace.specs.Connection.{conn as known, is_ready, is_live, due, phase_before, phase_found};
+ghost use Rattle.router_trace.specs.Trace.{Entry, Trace, Took, step_of};
+ghost use Rattle.router_trace.specs.Connection.{conn as known, is_ready, is_live, due};
 ghost use Rattle.state_connections.specs.Fits.{IsLeast};
 ghost use Rattle.state_connections.specs.Waiting.{waiting_of};
 ghost use Rattle.book_model.specs.Book.{effects};
 ghost use Rattle.twin_journal.specs.Room.{room};
-ghost use Rattle.router_reply.specs.Acts.{planned_acts, event_answer, acts_of, book_after_event, book_in, found_acts, booked, finds_full, journaled};
+ghost use Rattle.router_reply.specs.Acts.{acts_of, book_after_event, book_in, found_acts, booked, finds_full, journaled};
 ghost use Rattle.router_reply.specs.Admitting.{admits, event_admission, without_acts};
-ghost use Rattle.router_reply.specs.Heard.{IsHeard, IsSession, IsChange};
+ghost use Rattle.router_reply.specs.Heard.{IsHeard};
 ghost use Rattle.router_reply.specs.Replies.{row_found};
-ghost use Rattle.router_reply.specs.Resuming.{Resumes};
 ghost use Rattle.core_machine.specs.Turns.{declines};
 ghost use Rattle.router_core.specs.Replies.{Replies, answered, handled};
-ghost use Rattle.router_state.specs.Tables.{TablesFit, TablesAt};
+ghost use Rattle.router_state.specs.Tables.{TablesFit};
 ghost use Rattle.router_state.specs.Waiting.{NothingWaits};
-ghost use Rattle.router_core.specs.Handling.{Fits, IsTaken, IsReady, TakenIn, with_admission, full_with, is_failed, id_of, store_of, kept_book, state_of, counts_of, BeforeOrAfterEvent, LeftBook};
+ghost use Rattle.router_core.specs.Handling.{Fits, IsTaken, IsDecided, IsReady, TakenIn, with_admission, full_with, is_failed, id_of, store_of, kept_book, state_of, counts_of, BeforeOrAfterEvent, LeftBook};
 ghost use Rattle.core_machine.specs.Meaning.{IsBatchOf, IsTakenOf};
 ghost use Rattle.core_machine.specs.Counting.{uncounted, with_event, with_batch};
 ghost use Rattle.core_machine.specs.Opened.{IsOpened};
@@ -35,65 +34,17 @@ use book_model::{Act, RowNumber};
 use core_machine::{Batch, CoreFault, Counts, Done, Taken};
 use disk_core::{CrashTwin, Twin};
 use journal_store::Store;
-use reply_rows::Answer;
 use route_table::{Config, Table};
 use router_after::after;
-use router_reply::{
-    Findings, Heard, Plan, Resumption, admission_for, free_rows, hear, make_plan, reply, row_in,
-    take_up, told_map,
-};
+use router_reply::{Heard, Plan, admission_for, decide, free_rows, hear, reply, row_in, take_up};
 use router_state::State;
 use router_trace::{ConnectionId, Event, RouterId};
 use state_connections::{Refused, phase_found};
 use std::alloc::{AllocError, Global};
-use std::mem;
 use twin_journal::{JournalFault, OpenFault};
 
 /// The batch that was written, if one was: its number and its acts.
 pub(crate) type Written = Option<(u64, Vec<Act>)>;
-
-/// What is planned for an event: whether it finds the journal full, the answer to its item, its acts but for an admission,
-/// what it takes up again, and what was found of its item.
-#[derive(Drop)]
-struct Planned {
-    full: bool,
-    answer: Answer,
-    acts: Vec<Act>,
-    resumption: Option<Resumption>,
-    found: Findings,
-}
-
-/// What an event does to the book: its acts, and whether it finds the journal full.
-#[derive(Drop)]
-pub(crate) struct Prepared {
-    pub(crate) full: bool,
-    pub(crate) acts: Vec<Act>,
-}
-
-/// What the answer to an event that was handled needs.
-#[derive(Drop)]
-pub(crate) struct Ready {
-    /// The connections that it ends because their outboxes are full.
-    ends: Vec<u64>,
-    /// The answer to its item.
-    answer: Answer,
-    /// What it takes up again.
-    resumption: Option<Resumption>,
-    /// What was kept of it when it was handled.
-    heard: Heard,
-}
-
-impl Ready {
-    /// Nothing yet.
-    pub(crate) fn nothing(alloc: Global) -> Ready {
-        Ready {
-            ends: Vec::new(alloc),
-            answer: Answer::Nothing,
-            resumption: None,
-            heard: Heard::nothing(alloc),
-        }
-    }
-}
 
 /// The router. It handles one event at a time; the items that it puts out are fetched with `take`. Its durable deliveries
 /// are kept by a journal on two files.
@@ -312,7 +263,7 @@ impl<T: Twin> Core<T> {
         self.state.phase_before(event)
     }
 
-    /// Handles an event that is not declined, which finds its item's connection in this phase: it is planned and heard, its acts are written as
+    /// Handles an event that is not declined, which finds its item's connection in this phase: it is decided and heard, its acts are written as
     /// one batch, and only then it is answered.
     fn carry_out(&mut self, event: Event, phase: Option<Conn>) -> Result<Done, CoreFault>
         ensures fits { OnOk result ((t : List Entry) → Fits self.old t → IsTaken t event phase → Fits self.new (handled (id_of self.old) t (step_of event))) }
@@ -338,201 +289,119 @@ impl<T: Twin> Core<T> {
         ensures cause { IfErr result (λ f. f ≡ DiskFailed → T.failures (twin_of (store_of self.old)) < T.failures (twin_of (store_of self.new))) }
         ensures no_other { (IsErrOf result DiskFailed → ⊥) → T.failures (twin_of (store_of self.new)) ≡ T.failures (twin_of (store_of self.old)) }
     {
-        let mut ready = Ready::nothing(self.alloc);
-        let Ok(Prepared { full, acts }) = self.prepare(&event, phase, &mut ready) else {
+        let mut plan = Plan::nothing(self.alloc);
+        let mut heard = Heard::nothing(self.alloc);
+        let Ok(()) = self.decide(&event, phase, &mut plan) else {
             drop(event);
             return Err(CoreFault::Memory);
         };
-        let row = row_in(&acts);
-        let journal = match self.write(acts) {
+        let Ok(()) = self.hear(&event, &mut plan, &mut heard) else {
+            drop(event);
+            return Err(CoreFault::Memory);
+        };
+        let full = plan.full;
+        let row = row_in(&plan.acts);
+        let journal = match self.write(plan.take_acts(self.alloc)) {
             Ok(journal) => journal,
             Err(fault) => {
                 drop(event);
                 return Err(fault);
             }
         };
-        let Ok(()) = self.answer(event, &mut ready, row, acts_written(&journal)) else {
+        let Ok(()) = self.answer(event, &mut plan, &mut heard, row, acts_written(&journal)) else {
             drop(journal);
             return Err(CoreFault::Memory);
         };
         Ok(Done { journal, full })
     }
 
-    /// Plans an event that is not declined, with its connection in this phase before it, and handles it; nothing is put and nothing written. Fills in what its answer needs, and gives the acts that it has.
-    pub(crate) fn prepare(
+    /// Decides an event that is not declined, with its item's connection in this phase before it. Nothing is done yet.
+    pub(crate) fn decide(
         &mut self,
         event: &Event,
         before: Option<Conn>,
-        ready: &mut Ready,
-    ) -> Result<Prepared, AllocError>
+        plan: &mut Plan,
+    ) -> Result<(), AllocError>
         ensures rest { self.new ≡ record self.old { state = state_of self.new } }
-        ensures ready { OnOk result ((t : List Entry) → Fits self.old t → IsTaken t event.now before → IsReady (state_of self.new) (booked t event.now) event.now ready.new) }
-        ensures acts { IfOk result (λ p. (t : List Entry) → Fits self.old t → IsTaken t event.now before → p.acts.items ≡ acts_of t event.now) }
-        ensures full { IfOk result (λ p. (t : List Entry) → Fits self.old t → IsTaken t event.now before → p.full ≡ finds_full (journaled t) t event.now) }
-        ensures writable { IfOk result (λ p. Writable (kept_book self.old) p.acts.items) }
+        ensures decided { OnOk result ((t : List Entry) → Fits self.old t → IsTaken t event.now before → IsDecided self.new t event.now plan.new) }
+        ensures writable { OnOk result (Writable (kept_book self.old) plan.new.acts.items) }
     {
-        ready.ends = self.state.turn(event)?;
-        let phase = phase_found(event, &ready.ends, before);
-        let Planned {
-            full,
-            answer,
-            acts,
-            resumption,
-            found,
-        } = self.plan(&ready.ends, phase, event)?;
-        ready.answer = answer;
-        ready.resumption = resumption;
-        let Ok(()) = hear(
-            &mut self.state,
-            event,
-            &ready.ends,
-            phase,
-            found,
-            &ready.answer,
-            &acts,
-            &mut ready.heard,
-        ) else {
-            drop(acts);
-            return Err(AllocError);
-        };
-        self.admit(full, &ready.ends, event, &ready.answer, &ready.heard, acts)
+        plan.ends = self.state.turn(event)?;
+        plan.phase = phase_found(event, &plan.ends, before);
+        decide(&self.state, &self.store, event, plan)
     }
 
-    /// Plans an event: the answer to its item, and what it does to the book but for an admission; by what it would do to a journal with room if there
-    /// is room for that, else by what it does to a full one.
-    fn plan(&self, ends: &[u64], phase: Option<Conn>, event: &Event) -> Result<Planned, AllocError>
-        ensures full { IfOk result (λ p. (t : List Entry) → TablesAt (state_of self.now) t event.now ends.now → phase ≡ phase_found t event.now
-            → IsSuited (store_of self.now) → p.full ≡ exceeds (kept_book self.now) (planned_acts false (kept_book self.now) t event.now)) }
-        ensures answer { IfOk result (λ p. (t : List Entry) → TablesAt (state_of self.now) t event.now ends.now → phase ≡ phase_found t event.now → p.answer ≡ event_answer p.full (kept_book self.now) t event.now) }
-        ensures acts { IfOk result (λ p. (t : List Entry) → TablesAt (state_of self.now) t event.now ends.now → phase ≡ phase_found t event.now → p.acts.items ≡ planned_acts p.full (kept_book self.now) t event.now) }
-        ensures resumed { IfOk result (λ p. (t : List Entry) → TablesAt (state_of self.now) t event.now ends.now → phase ≡ phase_found t event.now → Resumes (kept_book self.now) t event.now p.answer p.resumption) }
-        ensures session { IfOk result (λ p. (t : List Entry) → TablesAt (state_of self.now) t event.now ends.now → IsSession t event.now p.found.own) }
-        ensures change { IfOk result (λ p. IsChange ends.now event.now p.found) }
-        ensures writable { IfOk result (λ p. Writable (kept_book self.now) p.acts.items) }
-    {
-        let planned = self.plan_as(false, ends, phase, event)?;
-        if !self.store.exceeds(&planned.acts)? {
-            return Ok(planned);
-        }
-        drop(planned);
-        self.plan_as(true, ends, phase, event)
-    }
-
-    /// Plans an event that finds the journal full, or one that finds room.
-    #[tactic(auto, using(crate::proofs::Resuming::start_resumes, crate::proofs::Preparing::start_session, crate::proofs::Preparing::start_change))]
-    fn plan_as(
-        &self,
-        full: bool,
-        ends: &[u64],
-        phase: Option<Conn>,
-        event: &Event,
-    ) -> Result<Planned, AllocError>
-        ensures full { IfOk result (λ p. p.full ≡ full) }
-        ensures answer { IfOk result (λ p. (t : List Entry) → TablesAt (state_of self.now) t event.now ends.now → phase ≡ phase_found t event.now → p.answer ≡ event_answer full (kept_book self.now) t event.now) }
-        ensures acts { IfOk result (λ p. (t : List Entry) → TablesAt (state_of self.now) t event.now ends.now → phase ≡ phase_found t event.now → p.acts.items ≡ planned_acts full (kept_book self.now) t event.now) }
-        ensures resumed { IfOk result (λ p. (t : List Entry) → TablesAt (state_of self.now) t event.now ends.now → phase ≡ phase_found t event.now → Resumes (kept_book self.now) t event.now p.answer p.resumption) }
-        ensures session { IfOk result (λ p. (t : List Entry) → TablesAt (state_of self.now) t event.now ends.now → IsSession t event.now p.found.own) }
-        ensures change { IfOk result (λ p. IsChange ends.now event.now p.found) }
-        ensures writable { IfOk result (λ p. Writable (kept_book self.now) p.acts.items) }
-    {
-        if let Event::Start = event {
-            return Ok(Planned {
-                full,
-                answer: Answer::Nothing,
-                acts: self.store.start_acts(self.alloc)?,
-                resumption: None,
-                found: Findings::none(),
-            });
-        }
-        let Plan {
-            answer,
-            decided,
-            forgotten,
-            terminus,
-            resumption,
-            found,
-        } = make_plan(&self.state, self.store.book(), full, ends, phase, event)?;
-        let acts = self
-            .store
-            .event_acts(self.alloc, decided, forgotten, terminus)?;
-        Ok(Planned {
-            full,
-            answer,
-            acts,
-            resumption,
-            found,
-        })
-    }
-
-    /// The acts of an event that was handled: those that were planned; if there are none, and the event finds room and ends no connection, those that
-    /// admit a delivery of it, if there is room for these.
-    fn admit(
+    /// Handles an event that was decided so; nothing is put and nothing written. What it admits is among its acts then, and the plan says whether that
+    /// exceeds the room.
+    pub(crate) fn hear(
         &mut self,
-        full: bool,
-        ends: &[u64],
         event: &Event,
-        answer: &Answer,
-        heard: &Heard,
-        acts: Vec<Act>,
-    ) -> Result<Prepared, AllocError>
-        requires writable { Writable (kept_book self.old) acts.items }
+        plan: &mut Plan,
+        heard: &mut Heard,
+    ) -> Result<(), AllocError>
+        requires writable { Writable (kept_book self.old) plan.old.acts.items }
         ensures rest { self.new ≡ record self.old { state = state_of self.new } }
-        ensures tables { OnOk result ((t : List Entry) → TablesFit (state_of self.old) t → TablesFit (state_of self.new) t) }
-        ensures acts { IfOk result (λ r. (t : List Entry) → (acts.items ≡ [] → TablesFit (state_of self.old) (without_acts t event.now)) → ends.now ≡ due t event.now → IsHeard t event.now answer.now heard.now
-            → TakenIn t event.now answer.now → IsSuited (store_of self.old) → r.acts.items ≡ with_admission full (kept_book self.old) acts.items (admits (kept_book self.old) (event_admission (kept_book self.old) t event.now answer.now))) }
-        ensures full { IfOk result (λ r. (t : List Entry) → (acts.items ≡ [] → TablesFit (state_of self.old) (without_acts t event.now)) → ends.now ≡ due t event.now → IsHeard t event.now answer.now heard.now
-            → TakenIn t event.now answer.now → IsSuited (store_of self.old) → r.full ≡ full_with full (kept_book self.old) acts.items (admits (kept_book self.old) (event_admission (kept_book self.old) t event.now answer.now))) }
-        ensures writable { IfOk result (λ r. Writable (kept_book self.old) r.acts.items) }
+        ensures ready { OnOk result ((t : List Entry) → IsDecided self.old t event.now plan.old → IsReady (state_of self.new) (booked t event.now) event.now plan.new heard.new) }
+        ensures acts { OnOk result ((t : List Entry) → IsDecided self.old t event.now plan.old → plan.new.acts.items ≡ acts_of t event.now) }
+        ensures full { OnOk result ((t : List Entry) → IsDecided self.old t event.now plan.old → plan.new.full ≡ finds_full (journaled t) t event.now) }
+        ensures writable { OnOk result (Writable (kept_book self.old) plan.new.acts.items) }
     {
-        if full || !acts.is_empty() {
-            return Ok(Prepared { full, acts });
-        }
-        let Ok(admits) = self.admission(ends, event, answer, heard) else {
-            drop(acts);
-            return Err(AllocError);
-        };
-        match self.store.exceeds(&admits) {
-            Ok(false) => {
-                drop(acts);
-                Ok(Prepared { full, acts: admits })
-            }
-            Ok(true) => {
-                drop(admits);
-                Ok(Prepared { full: true, acts })
-            }
-            Err(error) => {
-                drop(acts);
-                drop(admits);
-                Err(error)
-            }
-        }
+        hear(&mut self.state, event, plan, heard)?;
+        self.admit(event, plan, heard)
     }
 
-    /// The acts that admit a delivery of an event that was handled; none if it ends a connection for its full outbox.
+    /// Adds the acts that admit a message of an event that was heard, if it has no other acts, finds room and ends no connection, and if there is room for
+    /// these.
+    fn admit(&mut self, event: &Event, plan: &mut Plan, heard: &Heard) -> Result<(), AllocError>
+        requires writable { Writable (kept_book self.old) plan.old.acts.items }
+        ensures rest { self.new ≡ record self.old { state = state_of self.new } }
+        ensures plan { plan.new ≡ record plan.old { full = plan.new.full; acts = plan.new.acts } }
+        ensures tables { OnOk result ((t : List Entry) → TablesFit (state_of self.old) t → TablesFit (state_of self.new) t) }
+        ensures acts { OnOk result ((t : List Entry) → (plan.old.acts.items ≡ [] → TablesFit (state_of self.old) (without_acts t event.now)) → plan.old.ends.items ≡ due t event.now
+            → IsHeard t event.now plan.old.answer heard.now → TakenIn t event.now plan.old.answer → IsSuited (store_of self.old)
+            → plan.new.acts.items ≡ with_admission plan.old.full (kept_book self.old) plan.old.acts.items (admits (kept_book self.old) (event_admission (kept_book self.old) t event.now plan.old.answer))) }
+        ensures full { OnOk result ((t : List Entry) → (plan.old.acts.items ≡ [] → TablesFit (state_of self.old) (without_acts t event.now)) → plan.old.ends.items ≡ due t event.now
+            → IsHeard t event.now plan.old.answer heard.now → TakenIn t event.now plan.old.answer → IsSuited (store_of self.old)
+            → plan.new.full ≡ full_with plan.old.full (kept_book self.old) plan.old.acts.items (admits (kept_book self.old) (event_admission (kept_book self.old) t event.now plan.old.answer))) }
+        ensures writable { OnOk result (Writable (kept_book self.old) plan.new.acts.items) }
+    {
+        if plan.full || !plan.acts.is_empty() {
+            return Ok(());
+        }
+        let admits = self.admission(event, plan, heard)?;
+        if self.store.exceeds(&admits)? {
+            drop(admits);
+            plan.full = true;
+        } else {
+            plan.acts = admits;
+        }
+        Ok(())
+    }
+
+    /// The acts that admit a message of an event that was heard; none if the event ends a connection for its full outbox.
     fn admission(
         &mut self,
-        ends: &[u64],
         event: &Event,
-        answer: &Answer,
+        plan: &Plan,
         heard: &Heard,
     ) -> Result<Vec<Act>, AllocError>
         ensures rest { self.new ≡ record self.old { state = state_of self.new } }
         ensures tables { OnOk result ((t : List Entry) → TablesFit (state_of self.old) t → TablesFit (state_of self.new) t) }
-        ensures acts { IfOk result (λ r. (t : List Entry) → TablesFit (state_of self.old) (without_acts t event.now) → ends.now ≡ due t event.now → IsHeard t event.now answer.now heard.now
-            → TakenIn t event.now answer.now → r.items ≡ admits (kept_book self.old) (event_admission (kept_book self.old) t event.now answer.now)) }
+        ensures acts { IfOk result (λ r. (t : List Entry) → TablesFit (state_of self.old) (without_acts t event.now) → plan.now.ends.items ≡ due t event.now → IsHeard t event.now plan.now.answer heard.now
+            → TakenIn t event.now plan.now.answer → r.items ≡ admits (kept_book self.old) (event_admission (kept_book self.old) t event.now plan.now.answer)) }
         ensures writable { IfOk result (λ r. Writable (kept_book self.old) r.items) }
     {
         let Event::Item(conn, _) = event else {
             return Ok(Vec::new(self.alloc));
         };
-        if !ends.is_empty() {
+        if !plan.ends.is_empty() {
             return Ok(Vec::new(self.alloc));
         }
         let found = admission_for(
             &mut self.state,
             self.store.book(),
             *conn,
-            answer,
+            &plan.answer,
             &heard.part,
         )?;
         match found {
@@ -569,15 +438,16 @@ impl<T: Twin> Core<T> {
         }
     }
 
-    /// Answers an event that was handled, with these acts, and counts it.
+    /// Answers an event that was decided and heard so, with these acts, and counts it.
     pub(crate) fn answer(
         &mut self,
         event: Event,
-        ready: &mut Ready,
+        plan: &mut Plan,
+        heard: &mut Heard,
         row: Option<RowNumber>,
         acts: &[Act],
     ) -> Result<(), AllocError>
-        ensures tables { OnOk result ((t : List Entry) → IsReady (state_of self.old) t event ready.old → kept_book self.old ≡ book_in t → row ≡ row_found t → acts.now ≡ found_acts t
+        ensures tables { OnOk result ((t : List Entry) → IsReady (state_of self.old) t event plan.old heard.old → kept_book self.old ≡ book_in t → row ≡ row_found t → acts.now ≡ found_acts t
             → TablesFit (state_of self.new) (answered (id_of self.old) t (step_of event))) }
         ensures started { OnOk result (self.new.started ≡ true) }
         ensures counted { OnOk result (counts_of self.new ≡ with_event event (counts_of self.old)) }
@@ -595,7 +465,8 @@ impl<T: Twin> Core<T> {
             &self.id,
             self.store.book(),
             event,
-            ready,
+            plan,
+            heard,
             row,
             acts,
         )?;
@@ -758,36 +629,22 @@ pub(crate) fn acts_written(journal: &Written) -> &[Act]
     }
 }
 
-/// The reply to an event that was handled, by the book after its acts; then the rows that its attach takes up are bound, or joined to its link, and the
+/// The reply to an event that was heard, by the book after its acts; then the rows that its attach takes up are bound, or joined to its link, and the
 /// rows are settled that its acts forget; and last comes what follows.
 fn reply_to(
     state: &mut State,
     id: &RouterId,
     book: &Book,
     event: Event,
-    ready: &mut Ready,
+    plan: &mut Plan,
+    heard: &mut Heard,
     row: Option<RowNumber>,
     acts: &[Act],
 ) -> Result<(), AllocError>
-    ensures { OnOk result ((t : List Entry) → IsReady state.old t event ready.old → book.now ≡ book_in t → row ≡ row_found t → acts.now ≡ found_acts t → TablesFit state.new (answered id.now t (step_of event))) }
+    ensures { OnOk result ((t : List Entry) → IsReady state.old t event plan.old heard.old → book.now ≡ book_in t → row ≡ row_found t → acts.now ≡ found_acts t → TablesFit state.new (answered id.now t (step_of event))) }
 {
-    let mut resumption = mem::replace(&mut ready.resumption, None);
-    let ours = told_map(state.alloc(), &mut resumption);
-    let Ok(()) = reply(
-        state,
-        id,
-        book,
-        &ready.ends,
-        event,
-        &ready.answer,
-        row,
-        ours,
-        &mut ready.heard,
-    ) else {
-        drop(resumption);
-        return Err(AllocError);
-    };
-    take_up(state, book, resumption)?;
+    reply(state, id, book, event, plan, row, heard)?;
+    take_up(state, book, plan.resumption.take())?;
     free_rows(state, acts)?;
     after(state)
 }

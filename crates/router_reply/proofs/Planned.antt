@@ -1,12 +1,18 @@
--- What an item's plan is made of, by what was found before it.
-use Rattle.std.proofs.Common.{◌≡◌, ◌∙◌, ◌++◌, ap, refl, ℕ, Bool, true, false, List, []}
-use Rattle.std.specs.Prelude.{Option, Some, None, map}
+-- What is decided of an event, by what was found before it.
+use Rattle.std.proofs.Common.{◌≡◌, ◌∙◌, ◌++◌, ap, refl, sym, subst, ℕ, Bool, true, false, List, [], ◌∷◌}
+use Rattle.std.specs.Prelude.{Option, Some, None, map, option_map}
 use Rattle.amqp_conn.specs.declared.conn.Conn.{Conn}
 use Rattle.amqp_model.specs.declared.item.Item.{Item}
 use Rattle.amqp_model.specs.declared.item.Item.TheVariants as item
 use Rattle.amqp_model.specs.declared.perf.Perf.{Perf}
 use Rattle.amqp_model.specs.declared.perf.Perf.TheVariants as perf
+use Rattle.book_model.specs.declared.act.Act.{Act}
+use Rattle.book_model.specs.declared.act.Decision.{Decision}
+use Rattle.book_model.specs.declared.row.RowNumber.{RowNumber}
 use Rattle.book_model.specs.Book.{BookView}
+use Rattle.journal_store.specs.Acting.{event_acts as settled_acts}
+use Rattle.journal_store.specs.Lost.{start_acts}
+use Rattle.journal_store.specs.declared.acting.TerminusAct.{TerminusAct}
 use Rattle.router_trace.specs.Trace.{Entry}
 use Rattle.router_trace.specs.Connection.{due, phase_found}
 use Rattle.router_trace.specs.Deliveries.{none_if_ended}
@@ -14,8 +20,6 @@ use Rattle.router_trace.specs.Sessions.{session_on}
 use Rattle.router_trace.specs.declared.event.ConnectionId.{ConnectionId}
 use Rattle.router_trace.specs.declared.event.Event.{Event}
 use Rattle.router_trace.specs.declared.event.Event.TheVariants as event
-use Rattle.router_state.specs.declared.tables.State.{State}
-use Rattle.router_state.specs.Tables.{TablesAt, TablesFind, at_finds}
 use Rattle.router_state.specs.Finding.{IsFound}
 use Rattle.router_state.specs.declared.finding.Found.{Found}
 use Rattle.state_links.specs.declared.found.FoundLink.{FoundLink}
@@ -27,13 +31,13 @@ use Rattle.state_deliveries.specs.Deciding.{decided_rows}
 use Rattle.state_deliveries.specs.Hearing.{heard_change}
 use Rattle.state_deliveries.specs.declared.change.Change.{Change}
 use Rattle.state_links.specs.Fits.{channel_of}
-use Rattle.router_reply.specs.Acts.{event_answer, live_answer}
+use Rattle.router_reply.specs.Acts.{answer_acts, event_answer, live_answer, planned_acts}
 use Rattle.router_reply.specs.Deciding.{as_kept, listed, lost, ended_by, session_found, event_changes, decided}
 use Rattle.router_reply.specs.Deciding.{forgotten, terminus_of_event}
-use Rattle.router_reply.specs.Heard.{IsSession, IsChange}
-use Rattle.router_reply.specs.Resuming.{Resumes, key_resumed, key_held, map_resumed, rows_resumed}
-use Rattle.router_reply.specs.declared.planning.Findings.{Findings}
-use Rattle.router_reply.specs.declared.planning.Plan.{Plan}
+use Rattle.router_reply.specs.Planning.{IsChange, IsPlanAs, IsSession, NoItem}
+use Rattle.router_reply.specs.Resuming.{Resumes}
+use Rattle.router_reply.specs.declared.plan.Plan.{Plan}
+use Rattle.router_reply.specs.declared.resuming.Resumption.{Resumption}
 
 -- the session of an item, by the connections that its event ends first
 pub found_as : (t : List Entry) (d : ConnectionId) (i : Item) (own : Option ℕ) (ends : List ℕ)
@@ -70,84 +74,81 @@ pub live_takes : (full : Bool) (b : BookView) (t : List Entry) (c : ℕ) (i : It
 live_takes full b t c i None f found = nothing_taken t c i f.link
 live_takes full b t c i (Some p) f found = takes_found full b t c p i f found
 
--- What the plan of an event promises, one clause of `make_plan` each.
-abbrev pub PlanFor : State → List ℕ → Option Conn → (List Entry → Event → Type 0) → Event → Type 0
-PlanFor s ends phase says e = (t : List Entry) → TablesAt s t e ends → phase ≡ phase_found t e → says t e
+-- of an event that is no start, the acts are those of its answer
+planned_is : (full : Bool) (b : BookView) (t : List Entry) (e : Event) → (e ≡ event.Start → ⊥) → answer_acts b t e (event_answer full b t e) ≡ planned_acts full b t e
+planned_is full b t event.Start other = absurd (other refl)
+planned_is full b t (event.Up c p) other = refl
+planned_is full b t (event.Item c i) other = refl
+planned_is full b t (event.Down c) other = refl
+planned_is full b t (event.Tick ms) other = refl
 
-abbrev pub Answers : Bool → BookView → Plan → List Entry → Event → Type 0
-Answers full b p t e = p.answer ≡ event_answer full b t e
+acts_told : (full : Bool) (b given : BookView) (t : List Entry) (e : Event) (acts : List Act) (ds : List Decision) (ns : List RowNumber) (x : Option TerminusAct)
+    → given ≡ b → (e ≡ event.Start → ⊥) → acts ≡ settled_acts b ds ns x → ds ≡ decided given t e (event_answer full given t e) → ns ≡ forgotten given t e (event_answer full given t e)
+    → x ≡ terminus_of_event given t e (event_answer full given t e) → acts ≡ planned_acts full b t e
+acts_told full b given t e acts ds ns x same other are ds_are ns_are x_is =
+    are ∙ ap (λ (v : List Decision). settled_acts b v ns x) ds_are
+    ∙ ap (λ (v : List RowNumber). settled_acts b (decided given t e (event_answer full given t e)) v x) ns_are
+    ∙ ap (λ (v : Option TerminusAct). settled_acts b (decided given t e (event_answer full given t e)) (forgotten given t e (event_answer full given t e)) v) x_is
+    ∙ ap (λ (g : BookView). settled_acts b (decided g t e (event_answer full g t e)) (forgotten g t e (event_answer full g t e)) (terminus_of_event g t e (event_answer full g t e))) same
+    ∙ planned_is full b t e other
 
-abbrev pub Decides : Bool → BookView → Plan → List Entry → Event → Type 0
-Decides full b p t e = p.decided.items ≡ decided b t e (event_answer full b t e)
+-- What is decided of an item, by the book that is given, which is the store's.
+pub item_planned : (full : Bool) (ends : List ℕ) (b given : BookView) (t : List Entry) (d : ConnectionId) (i : Item) (p : Plan) (ds : List Decision) (ns : List RowNumber) (x : Option TerminusAct)
+    → given ≡ b → p.full ≡ full → p.phase ≡ phase_found t (event.Item d i) → p.answer ≡ event_answer full given t (event.Item d i)
+    → p.acts.items ≡ settled_acts b ds ns x → ds ≡ decided given t (event.Item d i) p.answer → ns ≡ forgotten given t (event.Item d i) p.answer
+    → x ≡ terminus_of_event given t (event.Item d i) p.answer → Resumes given t (event.Item d i) p.answer p.resumption
+    → IsSession t (event.Item d i) p.own → IsChange ends (event.Item d i) p.own p.change → IsPlanAs full ends b t (event.Item d i) p
+item_planned full ends b given t d i p ds ns x same is_full phase answer acts ds_are ns_are x_is resumed session change = record {
+  full = is_full;
+  phase = phase;
+  answer = answer ∙ ap (λ (g : BookView). event_answer full g t (event.Item d i)) same;
+  acts = acts_told full b given t (event.Item d i) p.acts.items ds ns x same (λ is. absurd cc) acts
+      (ds_are ∙ ap (decided given t (event.Item d i)) answer) (ns_are ∙ ap (forgotten given t (event.Item d i)) answer)
+      (x_is ∙ ap (terminus_of_event given t (event.Item d i)) answer);
+  resumed = subst (λ (g : BookView). Resumes g t (event.Item d i) p.answer p.resumption) same resumed;
+  session = session;
+  change = change;
+}
 
-abbrev pub Forgets : Bool → BookView → Plan → List Entry → Event → Type 0
-Forgets full b p t e = p.forgotten.items ≡ forgotten b t e (event_answer full b t e)
-
-abbrev pub Ends : Bool → BookView → Plan → List Entry → Event → Type 0
-Ends full b p t e = p.terminus ≡ terminus_of_event b t e (event_answer full b t e)
-
-abbrev pub Resuming : Bool → BookView → Plan → List Entry → Event → Type 0
-Resuming full b p t e = Resumes b t e (event_answer full b t e) p.resumption
-
--- an event that is neither an item nor the loss of a connection
-abbrev pub NoItem : Event → Type 0
-NoItem e = (d : ConnectionId) (i : Item) → e ≡ event.Item d i → ⊥
-
-abbrev pub NoLoss : Event → Type 0
-NoLoss e = (d : ConnectionId) → e ≡ event.Down d → ⊥
-
-pub other_answers : (s : State) (full : Bool) (b : BookView) (ends : List ℕ) (phase : Option Conn) (p : Plan)
-    (e : Event) → NoItem e → NoLoss e
-    → p.answer ≡ Nothing → PlanFor s ends phase (Answers full b p) e
-other_answers s full b ends phase p (event.Item d i) item loss is = absurd (item d i refl)
-other_answers s full b ends phase p (event.Down d) item loss is = absurd (loss d refl)
-other_answers s full b ends phase p _ item loss is = λ t at found. is
-
-pub other_decides : (s : State) (full : Bool) (b : BookView) (ends : List ℕ) (phase : Option Conn) (p : Plan)
-    (e : Event) → NoItem e → NoLoss e
-    → ((t : List Entry) → TablesFind s t → p.decided.items ≡ map as_kept (decided_rows t (map lost ends)) ++ [])
-    → PlanFor s ends phase (Decides full b p) e
-other_decides s full b ends phase p (event.Item d i) item loss is = absurd (item d i refl)
-other_decides s full b ends phase p (event.Down d) item loss is = absurd (loss d refl)
-other_decides s full b ends phase p _ item loss is = λ t at found. is t (at_finds at)
-    ∙ ap (λ (es : List ℕ). map as_kept (decided_rows t (map lost es)) ++ []) at.are_due
-
-pub other_forgets : (s : State) (full : Bool) (b : BookView) (ends : List ℕ) (phase : Option Conn) (p : Plan)
-    (e : Event) → NoItem e → NoLoss e
-    → p.forgotten.items ≡ [] → PlanFor s ends phase (Forgets full b p) e
-other_forgets s full b ends phase p (event.Item d i) item loss is = absurd (item d i refl)
-other_forgets s full b ends phase p (event.Down d) item loss is = absurd (loss d refl)
-other_forgets s full b ends phase p _ item loss is = λ t at found. is
-
-pub other_ends : (s : State) (full : Bool) (b : BookView) (ends : List ℕ) (phase : Option Conn) (p : Plan) (e : Event)
-    → NoItem e → NoLoss e
-    → p.terminus ≡ None → PlanFor s ends phase (Ends full b p) e
-other_ends s full b ends phase p (event.Item d i) item loss is = absurd (item d i refl)
-other_ends s full b ends phase p (event.Down d) item loss is = absurd (loss d refl)
-other_ends s full b ends phase p _ item loss is = λ t at found. is
-
-pub other_resumes : (s : State) (full : Bool) (b : BookView) (ends : List ℕ) (phase : Option Conn) (p : Plan)
-    (e : Event) → NoItem e → NoLoss e
-    → p.resumption ≡ None → PlanFor s ends phase (Resuming full b p) e
-other_resumes s full b ends phase p (event.Item d i) item loss is = absurd (item d i refl)
-other_resumes s full b ends phase p (event.Down d) item loss is = absurd (loss d refl)
-other_resumes s full b ends phase p _ item loss is =
-    λ t at found. record {
-      key = ap key_resumed is;
-      held = ap key_held is;
-      map = ap map_resumed is;
-      rows
-          = ap rows_resumed is;
+pub itemless_planned : (full : Bool) (ends : List ℕ) (b : BookView) (t : List Entry) (e : Event) (p : Plan) → NoItem e → p.full ≡ full → p.phase ≡ phase_found t e → p.answer ≡ Nothing
+    → p.acts.items ≡ planned_acts full b t e → p.resumption ≡ None → IsPlanAs full ends b t e p
+itemless_planned full ends b t e p none is_full phase answer acts resumption = by e none phase acts
+  where
+    at : (e : Event) → event_answer full b t e ≡ Nothing → Resumes b t e Nothing None → IsSession t e p.own → IsChange ends e p.own p.change
+        → p.phase ≡ phase_found t e → p.acts.items ≡ planned_acts full b t e → IsPlanAs full ends b t e p
+    at e nothing resumed session change phase acts = record {
+      full = is_full;
+      phase = phase;
+      answer = answer ∙ sym nothing;
+      acts = acts;
+      resumed = subst (λ (x : Option Resumption). Resumes b t e p.answer x) (sym resumption) (subst (λ (a : Answer). Resumes b t e a None) (sym answer) resumed);
+      session = session;
+      change = change;
     }
 
--- what it found of its item
-abbrev pub FindsFor : State → List ℕ → Plan → Event → Type 0
-FindsFor s ends p e = (t : List Entry) → TablesAt s t e ends → IsSession t e p.found.own
+    by : (e : Event) → NoItem e → p.phase ≡ phase_found t e → p.acts.items ≡ planned_acts full b t e → IsPlanAs full ends b t e p
+    by (event.Item d i) none phase acts = absurd (none d i refl)
+    by (event.Up c x) none phase acts = at (event.Up c x) refl (record { key = refl; held = refl; map = refl; rows = refl }) tt tt phase acts
+    by (event.Down c) none phase acts = at (event.Down c) refl (record { key = refl; held = refl; map = refl; rows = refl }) tt tt phase acts
+    by (event.Tick ms) none phase acts = at (event.Tick ms) refl (record { key = refl; held = refl; map = refl; rows = refl }) tt tt phase acts
+    by event.Start none phase acts = at event.Start refl (record { key = refl; held = refl; map = refl; rows = refl }) tt tt phase acts
 
-pub other_session : (t : List Entry) (e : Event) (own : Option ℕ) → NoItem e → IsSession t e own
-other_session t (event.Item d i) own item = absurd (item d i refl)
-other_session t _ own item = tt
+-- the acts of the loss of a connection, and of an event that is neither an item, nor a loss, nor a start
+pub lost_planned : (full : Bool) (b : BookView) (t : List Entry) (c : ConnectionId) (e : Event) (ends : List ℕ) (acts : List Act) → e ≡ event.Down c → ends ≡ due t e
+    → acts ≡ settled_acts b (map as_kept (decided_rows t (listed (option_map lost (Some c.0)) ++ map lost ends)) ++ []) [] None → acts ≡ planned_acts full b t e
+lost_planned full b t c e ends acts down are is = is
+    ∙ ap (λ (es : List ℕ). settled_acts b (map as_kept (decided_rows t (lost c.0 ∷ map lost es)) ++ []) [] None) (are ∙ ap (due t) down)
+    ∙ ap (planned_acts full b t) (sym down)
 
-pub other_change : (ends : List ℕ) (e : Event) (f : Findings) → NoItem e → IsChange ends e f
-other_change ends (event.Item d i) f item = absurd (item d i refl)
-other_change ends _ f item = tt
+pub other_planned : (full : Bool) (b : BookView) (t : List Entry) (e : Event) (ends : List ℕ) (acts : List Act) → NoItem e → ((c : ConnectionId) → e ≡ event.Down c → ⊥) → (e ≡ event.Start → ⊥)
+    → ends ≡ due t e → acts ≡ settled_acts b (map as_kept (decided_rows t (listed (option_map lost None) ++ map lost ends)) ++ []) [] None → acts ≡ planned_acts full b t e
+other_planned full b t (event.Item d i) ends acts item loss start are is = absurd (item d i refl)
+other_planned full b t (event.Down c) ends acts item loss start are is = absurd (loss c refl)
+other_planned full b t event.Start ends acts item loss start are is = absurd (start refl)
+other_planned full b t (event.Up c x) ends acts item loss start are is = is
+    ∙ ap (λ (es : List ℕ). settled_acts b (map as_kept (decided_rows t (map lost es)) ++ []) [] None) are
+other_planned full b t (event.Tick ms) ends acts item loss start are is = is
+    ∙ ap (λ (es : List ℕ). settled_acts b (map as_kept (decided_rows t (map lost es)) ++ []) [] None) are
+
+pub start_planned : (full : Bool) (b : BookView) (t : List Entry) (e : Event) (acts : List Act) → e ≡ event.Start → acts ≡ start_acts b → acts ≡ planned_acts full b t e
+start_planned full b t e acts is are = are ∙ ap (planned_acts full b t) (sym is)

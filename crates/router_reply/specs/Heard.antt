@@ -6,18 +6,15 @@ use Rattle.router_trace.specs.declared.event.Event.{Event}
 use Rattle.router_trace.specs.declared.event.Event.TheVariants as event
 use Rattle.router_trace.specs.declared.event.ConnectionId.{ConnectionId}
 use Rattle.router_trace.specs.Trace.{Trace, puts_of}
-use Rattle.router_trace.specs.Connection.{standing, found}
-use Rattle.router_trace.specs.Deliveries.{last_of, none_if_ended}
+use Rattle.router_trace.specs.Deliveries.{last_of}
 use Rattle.router_trace.specs.Links.{link_place}
-use Rattle.router_trace.specs.Sessions.{theirs, maps, session_on}
+use Rattle.router_trace.specs.Sessions.{theirs, maps}
 use Rattle.router_trace.specs.Settling.{open_ids, part_of}
-use Rattle.state_deliveries.specs.Hearing.{heard_change}
 use Rattle.state_links.specs.Fits.{channel_of}
 use Rattle.reply_rows.specs.declared.answer.Answer.{Answer}
 use Rattle.reply_rows.specs.declared.answer.Answer.TheVariants.{Settle}
 use Rattle.router_state.specs.Tables.{beats}
 use Rattle.router_reply.specs.declared.heard.Heard.{Heard}
-use Rattle.router_reply.specs.declared.planning.Findings.{Findings}
 use Rattle.reply_transfers.specs.Transfers.{disposition_in}
 
 -- the deliveries that a disposition decides without settling them
@@ -29,9 +26,8 @@ abbrev pub ids_found : Trace → ℕ → Item → Answer → List ℕ → Type 0
 ids_found t c i (Settle own) ids = ids_named t c own (disposition_in i) ids
 ids_found t c i _ ids = Unit {0}
 
--- the phase of its connection as the event finds it, what a transfer makes of its delivery, and these deliveries
+-- what a transfer makes of its delivery, and these deliveries
 pub record ItemHeard (t : Trace) (d : ConnectionId) (i : Item) (answer : Answer) (h : Heard) : Type 0 where
-  pub phase : h.phase ≡ standing (found t (event.Item d i) d.0)
   pub part : (own : ℕ) → maps (theirs t d.0 (channel_of i)) own ≡ true → h.part ≡ part_of i (link_place t d.0 own)
   pub ids : ids_found t d.0 i answer h.ids.items
 
@@ -40,13 +36,3 @@ abbrev pub IsHeard : Trace → Event → Answer → Heard → Type 0
 IsHeard t (event.Item d i) answer h = ItemHeard t d i answer h
 IsHeard t (event.Tick ms) answer h = puts_of h.beats.items ≡ beats t (event.Tick ms) ms
 IsHeard t _ answer h = Unit {0}
-
--- What the plan of an event found, that its handling goes on with: the session of its item, and what the item changes of deliveries at once, by an event
--- that ends these connections first.
-abbrev pub IsSession : Trace → Event → Option ℕ → Type 0
-IsSession t (event.Item d i) own = own ≡ session_on t d.0 (channel_of i)
-IsSession t _ own = Unit {0}
-
-abbrev pub IsChange : List ℕ → Event → Findings → Type 0
-IsChange ends (event.Item d i) f = f.change ≡ heard_change d.0 (none_if_ended ends d.0 f.own) i
-IsChange ends _ f = Unit {0}

@@ -6,6 +6,7 @@ pub mod Doing
 pub mod Heard
 pub mod Holding
 pub mod Joining
+pub mod Planning
 pub mod Replies
 pub mod Resuming
 pub use Rattle.router_trace.specs.Trace

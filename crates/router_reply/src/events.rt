@@ -1,7 +1,7 @@
 //! The reply to an event that was handled: the closes because of full outboxes, then the event's own row.
 ghost use Rattle.std.specs.Prelude.{◌≡◌, ◌∷◌, ℕ, List, OnOk, true, false};
 ghost use Rattle.router_trace.specs.Trace.{Entry, did, step_of, goes, puts_of};
-ghost use Rattle.router_trace.specs.Connection.{due, standing, found};
+ghost use Rattle.router_trace.specs.Connection.{due, found, phase_found, standing};
 ghost use Rattle.router_trace.specs.Sessions.{theirs, maps};
 ghost use Rattle.router_trace.specs.Links.{link_place};
 ghost use Rattle.router_trace.specs.Settling.{part_of};
@@ -9,7 +9,8 @@ ghost use Rattle.state_links.specs.Fits.{channel_of};
 ghost use Rattle.router_state.specs.Tables.{TablesFit, beats};
 ghost use Rattle.router_reply.specs.Acts.{answer_of, answer_to_event, book_in};
 ghost use Rattle.router_reply.specs.Heard.{ids_named, ItemHeard, IsHeard};
-ghost use Rattle.router_reply.specs.Resuming.{told_map};
+ghost use Rattle.router_reply.specs.Planning.{HasTold};
+ghost use Rattle.router_reply.specs.Resuming.{map_resumed, told_map};
 ghost use Rattle.reply_transfers.specs.Transfers.{given_after, disposition_in};
 ghost use Rattle.router_reply.specs.Replies.{replied, replied_after, after_answer, attach_put, settled_put, row_found};
 ghost use Rattle.router_trace.specs.declared.event.Event.TheVariants as event;
@@ -17,8 +18,10 @@ ghost use Rattle.router_trace.specs.declared.event.Event.TheVariants as event;
 use crate::attaching::answer_item;
 use crate::closing::{close_all, say};
 use crate::heard::Heard;
+use crate::plan::Plan;
+use crate::resuming::told_map;
 use amqp_conn::Conn;
-use amqp_model::{Item, UnsettledDelivery};
+use amqp_model::Item;
 use book_core::Book;
 use book_model::RowNumber;
 use reply_rows::Answer;
@@ -76,33 +79,43 @@ fn begin_item(
     }
 }
 
-/// An item that has this answer, after the closes.
+/// An item of an event that was decided so, after the closes.
 fn on_item(
     state: &mut State,
     id: &RouterId,
     book: &Book,
     conn: ConnectionId,
     item: Item,
-    answer: &Answer,
+    plan: &mut Plan,
     row: Option<RowNumber>,
-    ours: Vec<UnsettledDelivery>,
     heard: &mut Heard,
 ) -> Result<(), AllocError>
-    ensures { OnOk result ((t after : List Entry) → TablesFit state.old after → answer.now ≡ answer_to_event t (event.Item conn item)
-        → book.now ≡ book_in t → row ≡ row_found t
-        → ours.items ≡ told_map t (event.Item conn item) answer.now → ItemHeard t conn item answer.now heard.old → TablesFit state.new (replied_after id.now t after (event.Item conn item))) }
+    ensures plan { HasTold plan.old plan.new }
+    ensures fits { OnOk result ((t after : List Entry) → TablesFit state.old after → plan.old.phase ≡ standing (found t (event.Item conn item) conn.0)
+        → plan.old.answer ≡ answer_to_event t (event.Item conn item) → book.now ≡ book_in t → row ≡ row_found t
+        → map_resumed plan.old.resumption ≡ told_map t (event.Item conn item) plan.old.answer
+        → ItemHeard t conn item plan.old.answer heard.old → TablesFit state.new (replied_after id.now t after (event.Item conn item))) }
 {
-    let Some(phase) = heard.phase else {
+    let Some(phase) = plan.phase else {
         drop(item);
-        drop(ours);
         return Ok(());
     };
-    let Ok(()) = begin_item(state, id, book, conn, phase, &item, answer, row, heard) else {
+    let Ok(()) = begin_item(
+        state,
+        id,
+        book,
+        conn,
+        phase,
+        &item,
+        &plan.answer,
+        row,
+        heard,
+    ) else {
         drop(item);
-        drop(ours);
         return Err(AllocError);
     };
-    answer_item(state, id, conn.0, item, answer, ours)
+    let ours = told_map(state.alloc(), &mut plan.resumption);
+    answer_item(state, id, conn.0, item, &plan.answer, ours)
 }
 
 /// The heartbeats that a tick made due.
@@ -120,39 +133,29 @@ fn own_row(
     id: &RouterId,
     book: &Book,
     event: Event,
-    answer: &Answer,
+    plan: &mut Plan,
     row: Option<RowNumber>,
-    ours: Vec<UnsettledDelivery>,
     heard: &mut Heard,
 ) -> Result<(), AllocError>
-    ensures { OnOk result ((t after : List Entry) → TablesFit state.old after → answer.now ≡ answer_to_event t event → book.now ≡ book_in t → row ≡ row_found t
-        → ours.items ≡ told_map t event answer.now → IsHeard t event answer.now heard.old → TablesFit state.new (replied_after id.now t after event)) }
+    ensures plan { HasTold plan.old plan.new }
+    ensures fits { OnOk result ((t after : List Entry) → TablesFit state.old after → plan.old.phase ≡ phase_found t event → plan.old.answer ≡ answer_to_event t event
+        → book.now ≡ book_in t → row ≡ row_found t → map_resumed plan.old.resumption ≡ told_map t event plan.old.answer
+        → IsHeard t event plan.old.answer heard.old → TablesFit state.new (replied_after id.now t after event)) }
 {
     match event {
+        Event::Item(conn, item) => on_item(state, id, book, conn, item, plan, row, heard),
+        Event::Tick(_) => on_tick(state, heard),
         Event::Up(_, peer) => {
             drop(peer);
-            drop(ours);
             Ok(())
         }
-        Event::Item(conn, item) => on_item(state, id, book, conn, item, answer, row, ours, heard),
-        Event::Down(_) => {
-            drop(ours);
-            Ok(())
-        }
-        Event::Tick(_) => {
-            drop(ours);
-            on_tick(state, heard)
-        }
-        Event::Start => {
-            drop(ours);
-            Ok(())
-        }
+        Event::Down(_) => Ok(()),
+        Event::Start => Ok(()),
     }
 }
 
-/// Replies to an event that was handled (`hear`) with the answer that was planned, the book after its acts, the row that
-/// these admit, and `ours`, the router's map in the answer to an attach (`told_map`): the closes of these connections,
-/// whose outboxes were full, then the event's own row.
+/// Replies to an event that was decided and heard so, by the book after its acts and the row that these admit: the closes of the connections whose
+/// outboxes were full, then the event's own row. What the plan has of the router's map is told, and is no longer in it.
 ///
 /// # Errors
 ///
@@ -161,21 +164,19 @@ pub fn reply(
     state: &mut State,
     id: &RouterId,
     book: &Book,
-    ends: &[u64],
     event: Event,
-    answer: &Answer,
+    plan: &mut Plan,
     row: Option<RowNumber>,
-    ours: Vec<UnsettledDelivery>,
     heard: &mut Heard,
 ) -> Result<(), AllocError>
-    ensures { OnOk result ((t : List Entry) → TablesFit state.old (did event ∷ t) → ends.now ≡ due t event
-        → answer.now ≡ answer_to_event t event → book.now ≡ book_in t → row ≡ row_found t → ours.items ≡ told_map t event answer.now → IsHeard t event answer.now heard.old
-        → TablesFit state.new (replied id.now t (step_of event))) }
+    ensures plan { HasTold plan.old plan.new }
+    ensures fits { OnOk result ((t : List Entry) → TablesFit state.old (did event ∷ t) → plan.old.ends.items ≡ due t event → plan.old.phase ≡ phase_found t event
+        → plan.old.answer ≡ answer_to_event t event → book.now ≡ book_in t → row ≡ row_found t → map_resumed plan.old.resumption ≡ told_map t event plan.old.answer
+        → IsHeard t event plan.old.answer heard.old → TablesFit state.new (replied id.now t (step_of event))) }
 {
-    let Ok(()) = close_all(state, id, ends) else {
+    let Ok(()) = close_all(state, id, &plan.ends) else {
         drop(event);
-        drop(ours);
         return Err(AllocError);
     };
-    own_row(state, id, book, event, answer, row, ours, heard)
+    own_row(state, id, book, event, plan, row, heard)
 }

@@ -8,6 +8,7 @@ mod deciding;
 mod events;
 mod heard;
 mod holding;
+mod plan;
 mod planning;
 mod resuming;
 
@@ -15,5 +16,6 @@ pub use admitting::{admission_for, row_in};
 pub use events::reply;
 pub use heard::{Heard, hear};
 pub use holding::free_rows;
-pub use planning::{Findings, Plan, make_plan};
-pub use resuming::{ConsumerResumption, ProducerResumption, Resumption, take_up, told_map};
+pub use plan::Plan;
+pub use planning::decide;
+pub use resuming::{ConsumerResumption, ProducerResumption, Resumption, take_up};

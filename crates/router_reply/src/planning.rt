@@ -1,21 +1,23 @@
-//! What an event is answered with and what it does to the book of durable deliveries, before any of it is done. A frame
-//! is taken apart here, once: what the router does with a performative stands in the module of that name.
-ghost use Rattle.std.specs.Prelude.{◌≡◌, ◌++◌, ℕ, [], List, Some, None, map, option_map, IfOk};
+//! An event is decided: what it is answered with and what it does to the book of durable deliveries, before any of it is
+//! done. A frame is taken apart here, once: what the router does with a performative stands in the module of that name.
+ghost use Rattle.std.specs.Prelude.{◌≡◌, ◌++◌, ℕ, Bool, [], List, None, map, option_map, IfOk, OnOk};
 ghost use Rattle.amqp_model.specs.Parts.{attach_of};
 ghost use Rattle.reply_rows.specs.declared.answer.Answer.TheVariants as reply;
 ghost use Rattle.router_trace.specs.Trace.{Entry};
-ghost use Rattle.router_trace.specs.Connection.{phase_found};
+ghost use Rattle.router_trace.specs.Connection.{due, phase_found};
 ghost use Rattle.router_trace.specs.declared.event.Event.TheVariants as event;
 ghost use Rattle.router_state.specs.Finding.{IsFound};
 ghost use Rattle.router_state.specs.Tables.{TablesFind, TablesAt};
 ghost use Rattle.reply_rows.specs.Booking.{TakesFound, TakesIn};
 ghost use Rattle.state_deliveries.specs.Deciding.{decided_rows};
-ghost use Rattle.router_reply.specs.Acts.{live_answer, event_answer};
+ghost use Rattle.journal_store.specs.Acting.{event_acts};
+ghost use Rattle.journal_store.specs.Store.{IsSuited, Writable, book_of};
+ghost use Rattle.router_reply.specs.Acts.{live_answer, planned_acts};
 ghost use Rattle.router_reply.specs.Deciding.{as_kept, listed, lost, stolen_from, stolen_for, stolen_in, decided};
 ghost use Rattle.router_reply.specs.Deciding.{forgotten, forgotten_by, forgotten_in, terminus_by, terminus_in};
 ghost use Rattle.router_reply.specs.Deciding.{terminus_of_event};
 ghost use Rattle.router_reply.specs.Doing.{TakesUp};
-ghost use Rattle.router_reply.specs.Heard.{IsSession, IsChange};
+ghost use Rattle.router_reply.specs.Planning.{IsChange, IsPlan, IsPlanAs, IsSession, NoItem};
 ghost use Rattle.router_reply.specs.Resuming.{Resumes, attach_within, key_by, key_in};
 
 mod attach;
@@ -25,60 +27,21 @@ mod doings;
 mod transfer;
 
 use crate::deciding::{changed_rows, changes_lost, decided, ended_by, joined};
+use crate::plan::Plan;
 use crate::planning::doings::Doings;
 use crate::resuming::{Resumption, planned_decisions, planned_forgotten};
 use amqp_conn::Conn;
 use amqp_model::{Item, Perf};
 use book_core::Book;
-use book_model::{Decision, RowNumber};
-use journal_store::TerminusAct;
+use book_model::{Act, Decision, RowNumber};
+use disk_core::Twin;
+use journal_store::{Store, TerminusAct};
 use reply_rows::{Answer, item_answer};
 use router_state::{Found, State, none_if_ended};
 use router_trace::{ConnectionId, Event};
 use state_deliveries::Change;
 use state_links::FoundLink;
 use std::alloc::AllocError;
-
-/// What the plan of an item found, that its handling goes on with.
-#[derive(Drop)]
-pub struct Findings {
-    /// The router's channel of its session, if its channel has one.
-    pub own: Option<u16>,
-    /// What it changes of deliveries at once, unless the event ends its connection first.
-    pub change: Option<Change>,
-}
-
-impl Findings {
-    /// Those of an event that is no item.
-    pub fn none() -> Findings
-        ensures own { result.own ≡ None }
-        ensures change { result.change ≡ None }
-    {
-        Findings {
-            own: None,
-            change: None,
-        }
-    }
-}
-
-/// What an event is answered with, and what it does to the book but for an admission.
-#[derive(Drop)]
-pub struct Plan {
-    /// The answer to its item; `Nothing` if the item's connection isn't live as the event finds it, and for any other
-    /// event.
-    pub answer: Answer,
-    /// The rows that it decides, each with its outcome.
-    pub decided: Vec<Decision>,
-    /// The rows that it forgets.
-    pub forgotten: Vec<RowNumber>,
-    /// The terminus that it makes or drops.
-    pub terminus: Option<TerminusAct>,
-    /// What it takes up again; what the map of its attach decides and forgets is among the rows that it decides and
-    /// forgets.
-    pub resumption: Option<Resumption>,
-    /// What was found of its item.
-    pub found: Findings,
-}
 
 /// What a performative with this answer does, on its session, but for a SASL frame; it finds this link on its handle.
 fn done_by(
@@ -141,9 +104,9 @@ fn done_in(
     }
 }
 
-/// The plan of an item with this answer, by an event that ends these connections first; the item finds this link on its
+/// All that an item with this answer does, by an event that ends these connections first; the item finds this link on its
 /// handle, and its channel stands for the router's channel `own`.
-fn planned(
+fn done_at(
     state: &State,
     book: &Book,
     ends: &[u64],
@@ -151,45 +114,37 @@ fn planned(
     own: Option<u16>,
     link: &FoundLink<'_>,
     item: &Item,
-    answer: Answer,
-) -> Result<Plan, AllocError>
-    ensures answer { IfOk result (λ plan. plan.answer ≡ answer) }
-    ensures decided { IfOk result (λ plan. (t : List Entry) → TablesAt state.now t (event.Item conn item.now) ends.now
+    answer: &Answer,
+) -> Result<Doings, AllocError>
+    ensures decided { IfOk result (λ does. (t : List Entry) → TablesAt state.now t (event.Item conn item.now) ends.now
         → IsSession t (event.Item conn item.now) own
-        → plan.decided.items ≡ decided book.now t (event.Item conn item.now) answer) }
-    ensures forgotten { IfOk result (λ plan. (t : List Entry)
+        → does.decided.items ≡ decided book.now t (event.Item conn item.now) answer.now) }
+    ensures forgotten { IfOk result (λ does. (t : List Entry)
         → TablesAt state.now t (event.Item conn item.now) ends.now
-        → IsSession t (event.Item conn item.now) own → TakesFound t conn.0 item.now link.now answer
-        → plan.forgotten.items ≡ forgotten book.now t (event.Item conn item.now) answer) }
-    ensures terminus { IfOk result (λ plan. (t : List Entry) → TablesAt state.now t (event.Item conn item.now) ends.now
-        → plan.terminus ≡ terminus_of_event book.now t (event.Item conn item.now) answer) }
-    ensures resumed { IfOk result (λ plan. (t : List Entry) → TablesAt state.now t (event.Item conn item.now) ends.now
-        → Resumes book.now t (event.Item conn item.now) answer plan.resumption) }
-    ensures session { IfOk result (λ plan. plan.found.own ≡ own) }
-    ensures change { IfOk result (λ plan. IsChange ends.now (event.Item conn item.now) plan.found) }
+        → IsSession t (event.Item conn item.now) own → TakesFound t conn.0 item.now link.now answer.now
+        → does.forgotten.items ≡ forgotten book.now t (event.Item conn item.now) answer.now) }
+    ensures terminus { IfOk result (λ does. (t : List Entry) → TablesAt state.now t (event.Item conn item.now) ends.now
+        → does.terminus ≡ terminus_of_event book.now t (event.Item conn item.now) answer.now) }
+    ensures resumed { IfOk result (λ does. (t : List Entry) → TablesAt state.now t (event.Item conn item.now) ends.now
+        → Resumes book.now t (event.Item conn item.now) answer.now does.resumption) }
+    ensures change { IfOk result (λ does. IsChange ends.now (event.Item conn item.now) own does.change) }
 {
     let here = none_if_ended(ends, conn.0, own);
-    let does = done_in(state, book, conn.0, here, link, item, &answer)?;
+    let does = done_in(state, book, conn.0, here, link, item, answer)?;
     let change = Change::of_item(conn.0, here, item)?;
-    let ended = ended_by(conn.0, &answer, does.stolen);
-    let Doings {
-        stolen: _stolen,
-        forgotten,
-        terminus,
-        resumption,
-    } = does;
-    let mut resumption = resumption;
+    let ended = ended_by(conn.0, answer, does.stolen);
+    let mut resumption = does.resumption;
     let by_map = planned_decisions(state.alloc(), &mut resumption);
     let (decided, change) = decided(state, change, ends, ended, by_map)?;
     let lacking = planned_forgotten(state.alloc(), &mut resumption);
-    let forgotten = joined(forgotten, lacking)?;
-    Ok(Plan {
-        answer,
+    let forgotten = joined(does.forgotten, lacking)?;
+    Ok(Doings {
+        stolen: does.stolen,
+        change,
         decided,
         forgotten,
-        terminus,
+        terminus: does.terminus,
         resumption,
-        found: Findings { own, change },
     })
 }
 
@@ -213,113 +168,129 @@ fn answered(
     }
 }
 
-/// Plans an item.
-fn item_plan(
+/// Decides an item of an event that ends these connections first.
+fn decide_item<T: Twin>(
     state: &State,
-    book: &Book,
+    store: &Store<T>,
     full: bool,
-    ends: &[u64],
-    phase: Option<Conn>,
     conn: ConnectionId,
     item: &Item,
-) -> Result<Plan, AllocError>
-    ensures answer { IfOk result (λ plan. (t : List Entry) → TablesAt state.now t (event.Item conn item.now) ends.now
-        → phase ≡ phase_found t (event.Item conn item.now)
-        → plan.answer ≡ event_answer full book.now t (event.Item conn item.now)) }
-    ensures decided { IfOk result (λ plan. (t : List Entry) → TablesAt state.now t (event.Item conn item.now) ends.now
-        → phase ≡ phase_found t (event.Item conn item.now)
-        → plan.decided.items
-        ≡ decided book.now t (event.Item conn item.now) (event_answer full book.now t (event.Item conn item.now))) }
-    ensures forgotten { IfOk result (λ plan. (t : List Entry)
-        → TablesAt state.now t (event.Item conn item.now) ends.now → phase ≡ phase_found t (event.Item conn item.now)
-        → plan.forgotten.items
-        ≡ forgotten book.now t (event.Item conn item.now) (event_answer full book.now t (event.Item conn item.now))) }
-    ensures terminus { IfOk result (λ plan. (t : List Entry) → TablesAt state.now t (event.Item conn item.now) ends.now
-        → phase ≡ phase_found t (event.Item conn item.now)
-        → plan.terminus
-        ≡ terminus_of_event book.now t (event.Item conn item.now) (event_answer full book.now t (event.Item conn item.now))) }
-    ensures resumed { IfOk result (λ plan. (t : List Entry) → TablesAt state.now t (event.Item conn item.now) ends.now
-        → phase ≡ phase_found t (event.Item conn item.now)
-        → Resumes book.now t (event.Item conn item.now) (event_answer full book.now t (event.Item conn item.now)) plan.resumption) }
-    ensures session { IfOk result (λ plan. (t : List Entry) → TablesAt state.now t (event.Item conn item.now) ends.now
-        → IsSession t (event.Item conn item.now) plan.found.own) }
-    ensures change { IfOk result (λ plan. IsChange ends.now (event.Item conn item.now) plan.found) }
+    plan: &mut Plan,
+) -> Result<(), AllocError>
+    ensures ends { plan.new.ends ≡ plan.old.ends }
+    ensures plan { OnOk result ((t : List Entry) → TablesAt state.now t (event.Item conn item.now) plan.old.ends.items
+        → plan.old.phase ≡ phase_found t (event.Item conn item.now)
+        → IsPlanAs full plan.old.ends.items (book_of store.now) t (event.Item conn item.now) plan.new) }
+    ensures phase { plan.new.phase ≡ plan.old.phase }
+    ensures writable { OnOk result (Writable (book_of store.now) plan.new.acts.items) }
 {
+    let book = store.book();
     let found = state.find(conn.0, item);
-    let answer = answered(state, book, full, phase, conn.0, &found, item)?;
-    planned(
+    let answer = answered(state, book, full, plan.phase, conn.0, &found, item)?;
+    let does = done_at(
         state,
         book,
-        ends,
+        &plan.ends,
         conn,
         found.own,
         &found.link,
         item,
-        answer,
-    )
+        &answer,
+    )?;
+    plan.full = full;
+    plan.own = found.own;
+    plan.answer = answer;
+    plan.change = does.change;
+    plan.resumption = does.resumption;
+    plan.acts = store.event_acts(state.alloc(), does.decided, does.forgotten, does.terminus)?;
+    Ok(())
 }
 
-/// Plans an event that is no item: it loses a connection, if it is the loss of one, and those that it ends first.
-fn lost_plan(state: &State, down: Option<u64>, ends: &[u64]) -> Result<Plan, AllocError>
-    ensures answer { IfOk result (λ plan. plan.answer ≡ reply.Nothing) }
-    ensures decided { IfOk result (λ plan. (t : List Entry) → TablesFind state.now t
-        → plan.decided.items
-        ≡ map as_kept (decided_rows t (listed (option_map lost down) ++ map lost ends.now)) ++ []) }
-    ensures forgotten { IfOk result (λ plan. plan.forgotten.items ≡ []) }
-    ensures terminus { IfOk result (λ plan. plan.terminus ≡ None) }
-    ensures resumption { IfOk result (λ plan. plan.resumption ≡ None) }
+/// The acts of an event that is no item: it loses a connection, if it is the loss of one, and those that it ends first.
+fn lost_acts<T: Twin>(
+    state: &State,
+    store: &Store<T>,
+    down: Option<u64>,
+    ends: &[u64],
+) -> Result<Vec<Act>, AllocError>
+    ensures acts { IfOk result (λ acts. (t : List Entry) → TablesFind state.now t
+        → acts.items ≡ event_acts (book_of store.now) (map as_kept (decided_rows t (listed (option_map lost down) ++ map lost ends.now)) ++ []) [] None) }
+    ensures writable { IfOk result (λ acts. Writable (book_of store.now) acts.items) }
 {
     let changes = changes_lost(state.alloc(), down, ends)?;
     let rows = changed_rows(state, &changes)?;
     let decided = joined(rows, Vec::new(state.alloc()))?;
-    Ok(Plan {
-        answer: Answer::Nothing,
-        decided,
-        forgotten: Vec::new(state.alloc()),
-        terminus: None,
-        resumption: None,
-        found: Findings::none(),
-    })
+    store.event_acts(state.alloc(), decided, Vec::new(state.alloc()), None)
 }
 
-/// Plans an event that isn't refused, after the turn that ended these connections because their outboxes were full
-/// (`State::turn`): what its item is answered with, by the tables as the event finds them and by the book, what the
-/// event decides, forgets, makes or drops, and what it takes up again. `full` says that the journal has no room for the
-/// acts that the event would have else; `phase` is the phase of the item's connection as the event finds it
-/// (`state_connections::phase_found`).
+/// The acts of an event that ends these connections first, if it is no item; a start decides the rows whose consumers are lost.
+fn acts_without_item<T: Twin>(
+    state: &State,
+    store: &Store<T>,
+    event: &Event,
+    ends: &[u64],
+) -> Result<Vec<Act>, AllocError>
+    ensures acts { IfOk result (λ acts. (t : List Entry) (full : Bool) → TablesFind state.now t → ends.now ≡ due t event.now
+        → NoItem event.now → acts.items ≡ planned_acts full (book_of store.now) t event.now) }
+    ensures writable { IfOk result (λ acts. Writable (book_of store.now) acts.items) }
+{
+    match event {
+        Event::Start => store.start_acts(state.alloc()),
+        Event::Down(conn) => lost_acts(state, store, Some(conn.0), ends),
+        _ => lost_acts(state, store, None, ends),
+    }
+}
+
+/// Decides an event that finds the journal full, or one that finds room.
+fn decide_as<T: Twin>(
+    state: &State,
+    store: &Store<T>,
+    full: bool,
+    event: &Event,
+    plan: &mut Plan,
+) -> Result<(), AllocError>
+    ensures ends { plan.new.ends ≡ plan.old.ends }
+    ensures phase { plan.new.phase ≡ plan.old.phase }
+    ensures plan { OnOk result ((t : List Entry) → TablesAt state.now t event.now plan.old.ends.items
+        → plan.old.phase ≡ phase_found t event.now → IsPlanAs full plan.old.ends.items (book_of store.now) t event.now plan.new) }
+    ensures writable { OnOk result (Writable (book_of store.now) plan.new.acts.items) }
+{
+    if let Event::Item(conn, item) = event {
+        return decide_item(state, store, full, *conn, item, plan);
+    }
+    plan.full = full;
+    plan.own = None;
+    plan.answer = Answer::Nothing;
+    plan.change = None;
+    plan.resumption = None;
+    plan.acts = acts_without_item(state, store, event, &plan.ends)?;
+    Ok(())
+}
+
+/// Decides an event that isn't refused: what its item is answered with, by the tables as the event finds them and by the
+/// book, what the event does to the book but for an admission, and what it takes up again. If there is no room for what it
+/// would do then, the event finds the journal full, and what it does to a full one is decided. The plan has the
+/// connections that the event's turn ended because their outboxes were full (`State::turn`), and the phase of its item's
+/// connection as the event finds it (`state_connections::phase_found`); all else is filled in.
 ///
 /// # Errors
 ///
-/// `AllocError` if memory was refused. Nothing is changed in any case.
-pub fn make_plan(
+/// `AllocError` if memory was refused. What is filled in is unspecified then.
+pub fn decide<T: Twin>(
     state: &State,
-    book: &Book,
-    full: bool,
-    ends: &[u64],
-    phase: Option<Conn>,
+    store: &Store<T>,
     event: &Event,
-) -> Result<Plan, AllocError>
-    ensures answer { IfOk result (λ plan. (t : List Entry) → TablesAt state.now t event.now ends.now
-        → phase ≡ phase_found t event.now → plan.answer ≡ event_answer full book.now t event.now) }
-    ensures decided { IfOk result (λ plan. (t : List Entry) → TablesAt state.now t event.now ends.now
-        → phase ≡ phase_found t event.now
-        → plan.decided.items ≡ decided book.now t event.now (event_answer full book.now t event.now)) }
-    ensures forgotten { IfOk result (λ plan. (t : List Entry) → TablesAt state.now t event.now ends.now
-        → phase ≡ phase_found t event.now
-        → plan.forgotten.items ≡ forgotten book.now t event.now (event_answer full book.now t event.now)) }
-    ensures terminus { IfOk result (λ plan. (t : List Entry) → TablesAt state.now t event.now ends.now
-        → phase ≡ phase_found t event.now
-        → plan.terminus ≡ terminus_of_event book.now t event.now (event_answer full book.now t event.now)) }
-    ensures resumed { IfOk result (λ plan. (t : List Entry) → TablesAt state.now t event.now ends.now
-        → phase ≡ phase_found t event.now
-        → Resumes book.now t event.now (event_answer full book.now t event.now) plan.resumption) }
-    ensures session { IfOk result (λ plan. (t : List Entry) → TablesAt state.now t event.now ends.now
-        → IsSession t event.now plan.found.own) }
-    ensures change { IfOk result (λ plan. IsChange ends.now event.now plan.found) }
+    plan: &mut Plan,
+) -> Result<(), AllocError>
+    ensures ends { plan.new.ends ≡ plan.old.ends }
+    ensures phase { plan.new.phase ≡ plan.old.phase }
+    ensures plan { OnOk result ((t : List Entry) → TablesAt state.now t event.now plan.old.ends.items
+        → plan.old.phase ≡ phase_found t event.now → IsSuited store.now → IsPlan (book_of store.now) t event.now plan.new) }
+    ensures writable { OnOk result (Writable (book_of store.now) plan.new.acts.items) }
 {
-    match event {
-        Event::Item(conn, item) => item_plan(state, book, full, ends, phase, *conn, item),
-        Event::Down(conn) => lost_plan(state, Some(conn.0), ends),
-        _ => lost_plan(state, None, ends),
+    decide_as(state, store, false, event, plan)?;
+    if !store.exceeds(&plan.acts)? {
+        return Ok(());
     }
+    decide_as(state, store, true, event, plan)
 }

@@ -74,9 +74,9 @@ fn durable(
     let resumption = resumption_by(alloc, book, attach, key)?;
     Ok(Doings {
         stolen,
-        forgotten: Vec::new(alloc),
         terminus: Some(TerminusAct::Make(terminus)),
         resumption: Some(resumption),
+        ..Doings::nothing(alloc)
     })
 }
 
@@ -89,9 +89,7 @@ fn volatile(alloc: Global, stolen: Option<Attachment>) -> Doings
 {
     Doings {
         stolen,
-        forgotten: Vec::new(alloc),
-        terminus: None,
-        resumption: None,
+        ..Doings::nothing(alloc)
     }
 }
 

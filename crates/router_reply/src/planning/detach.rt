@@ -109,9 +109,7 @@ pub(crate) fn does(
     let closed = closed_terminus(state, book, conn, answer);
     let rows = sent_from(state.alloc(), book, closed)?;
     Ok(Doings {
-        stolen: None,
-        forgotten: rows,
         terminus: dropped(closed),
-        resumption: None,
+        ..Doings::forgetting(state.alloc(), rows)
     })
 }

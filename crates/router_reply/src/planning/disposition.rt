@@ -79,5 +79,5 @@ pub(crate) fn does(
     ensures resumption { IfOk result (λ does. does.resumption ≡ None) }
 {
     let rows = settled_on(state, book, conn, own, disposition)?;
-    Ok(Doings::forgetting(rows))
+    Ok(Doings::forgetting(state.alloc(), rows))
 }

@@ -1,18 +1,24 @@
-//! What a frame does to the book of durable deliveries, but for what follows from its answer alone.
+//! What an item does to deliveries and to the book, but for an admission.
 ghost use Rattle.std.specs.Prelude.{◌≡◌, [], None};
 
 use crate::resuming::Resumption;
-use book_model::RowNumber;
+use book_model::{Decision, RowNumber};
 use journal_store::TerminusAct;
 use router_trace::Attachment;
+use state_deliveries::Change;
 use std::alloc::Global;
 
-/// What a frame does, by its performative.
+/// What a frame does besides being answered. The module of its performative has `stolen`, `terminus`, what its rows forget and what it takes up;
+/// what follows from these and from its answer is added to them.
 #[derive(Drop)]
 pub(crate) struct Doings {
     /// The older link with the key of one that is taken, which it ends.
     pub(crate) stolen: Option<Attachment>,
-    /// The rows that it forgets, but for those that the map of its attach lacks.
+    /// What it changes of deliveries at once, unless its event ends its connection first.
+    pub(crate) change: Option<Change>,
+    /// The rows that its event decides, each with its outcome.
+    pub(crate) decided: Vec<Decision>,
+    /// The rows that it forgets.
     pub(crate) forgotten: Vec<RowNumber>,
     /// The terminus that it makes or drops.
     pub(crate) terminus: Option<TerminusAct>,
@@ -28,11 +34,11 @@ impl Doings {
         ensures terminus { result.terminus ≡ None }
         ensures resumption { result.resumption ≡ None }
     {
-        Doings::forgetting(Vec::new(alloc))
+        Doings::forgetting(alloc, Vec::new(alloc))
     }
 
     /// These rows are forgotten, and nothing else is done.
-    pub(crate) fn forgetting(rows: Vec<RowNumber>) -> Doings
+    pub(crate) fn forgetting(alloc: Global, rows: Vec<RowNumber>) -> Doings
         ensures stolen { result.stolen ≡ None }
         ensures forgotten { result.forgotten ≡ rows }
         ensures terminus { result.terminus ≡ None }
@@ -40,6 +46,8 @@ impl Doings {
     {
         Doings {
             stolen: None,
+            change: None,
+            decided: Vec::new(alloc),
             forgotten: rows,
             terminus: None,
             resumption: None,

@@ -127,5 +127,5 @@ pub(crate) fn does(
     ensures resumption { IfOk result (λ does. does.resumption ≡ None) }
 {
     let rows = settled_by_transfer(alloc, book, link, transfer, answer)?;
-    Ok(Doings::forgetting(rows))
+    Ok(Doings::forgetting(alloc, rows))
 }

@@ -1,4 +1,5 @@
-use Rattle.std.proofs.Common.{◌≡◌, ◌∙◌, refl, sym, ap, subst, List, []}
+use Rattle.std.proofs.Common.{◌≡◌, ◌∙◌, refl, sym, ap, subst, ℕ, List, []}
+use Rattle.std.specs.Prelude.{◌==◌}
 use Rattle.std.proofs.lemmas.Result.{IfOk-weaker}
 use Rattle.book_model.specs.declared.act.Act.{Act}
 use Rattle.journal_store.specs.Store.{Writable}
@@ -12,7 +13,7 @@ pub returns-in_default : goal.returns-in_default
 returns-in_default g c = record {
   rest = refl;
   tables = λ t f. f;
-  acts = λ t f are heard here. c.new.ensures.items ∙ sym (itemless_admits (kept_book c.args.self.now) t c.args.event.now c.args.answer.now c.in_default.not-Item);
+  acts = λ t f are heard here. c.new.ensures.items ∙ sym (itemless_admits (kept_book c.args.self.now) t c.args.event.now c.args.plan.now.answer c.in_default.not-Item);
   writable = subst (λ (xs : List Act). Writable (kept_book c.args.self.now) xs) (sym c.new.ensures.items) (none_writable (kept_book c.args.self.now));
 }
 
@@ -22,9 +23,9 @@ returns-then-not-is_empty-clause-writable g c =
 
 pub returns-in-None-clause-acts : goal.returns-in-None-clause-acts
 returns-in-None-clause-acts g c = λ t f are heard here.
-    let none : c.args.ends.now ≡ [] = none_ended c.args.ends.now (sym c.if-not-is_empty.ensures) in
+    let none : c.args.plan.now.ends.items ≡ [] = none_ended c.args.plan.now.ends.items (ap (λ (n : ℕ). n == 0) (sym c.args.plan.now.ends.ok.0) ∙ sym c.if-not-is_empty.ensures) in
     c.new-in-None.ensures.items ∙ ap (admits (kept_book c.args.self.now)) (sym c.in-None.is)
-    ∙ item_admits (kept_book c.args.self.now) c.book.result.now t c.args.event.now c.in-Item.conn _ c.args.answer.now c.args.heard.now c.args.ends.now _ c.book.ensures c.in-Item.is are none heard here
+    ∙ item_admits (kept_book c.args.self.now) c.book.result.now t c.args.event.now c.in-Item.conn _ c.args.plan.now.answer c.args.heard.now c.args.plan.now.ends.items _ c.book.ensures c.in-Item.is are none heard here
     (c.in_ok-found.ensures.admission _ f)
 
 pub returns-in-None-clause-writable : goal.returns-in-None-clause-writable
@@ -34,8 +35,8 @@ returns-in-None-clause-writable g c =
 pub returns-in-Some-clause-acts : goal.returns-in-Some-clause-acts
 returns-in-Some-clause-acts g c = IfOk-weaker c.admission_acts.result _ _
     (λ r is t f are heard here.
-    let none : c.args.ends.now ≡ [] = none_ended c.args.ends.now (sym c.if-not-is_empty.ensures) in
+    let none : c.args.plan.now.ends.items ≡ [] = none_ended c.args.plan.now.ends.items (ap (λ (n : ℕ). n == 0) (sym c.args.plan.now.ends.ok.0) ∙ sym c.if-not-is_empty.ensures) in
     is ∙ ap (admits (kept_book c.args.self.now)) (sym c.in-Some.is)
-    ∙ item_admits (kept_book c.args.self.now) c.book.result.now t c.args.event.now c.in-Item.conn _ c.args.answer.now c.args.heard.now c.args.ends.now _ c.book.ensures c.in-Item.is are none heard here
+    ∙ item_admits (kept_book c.args.self.now) c.book.result.now t c.args.event.now c.in-Item.conn _ c.args.plan.now.answer c.args.heard.now c.args.plan.now.ends.items _ c.book.ensures c.in-Item.is are none heard here
     (c.in_ok-found.ensures.admission _ f))
     c.admission_acts.ensures.acts

@@ -10,7 +10,7 @@ use Rattle.state_deliveries.specs.Hearing.{heard_change}
 use Rattle.state_deliveries.specs.declared.change.Change.{Change}
 use Rattle.router_reply.specs.Deciding.{as_kept, event_changes, forgotten_in, session_found}
 use Rattle.router_reply.proofs.Planned.{found_as, changed_as}
-use Rattle.router_reply.proofs.planning.planned.Goals as goal
+use Rattle.router_reply.proofs.planning.done_at.Goals as goal
 
 pub returns-clause-decided : goal.returns-clause-decided
 returns-clause-decided c = λ t at finds.
@@ -21,10 +21,10 @@ returns-clause-decided c = λ t at finds.
     (c.none_if_ended-here.ensures ∙ ap (λ (o : Option ℕ). none_if_ended c.args.ends.now conn.0 o) finds) at.are_due in
     c.in_ok-decided.ensures.rows t (at_finds at)
     ∙ ap (λ (cs : List Change). map as_kept (decided_rows t cs) ++ c.planned_decisions-by_map.result.items)
-    (changed_as t conn item c.args.answer own c.args.ends.now c.in_ok-change.change
+    (changed_as t conn item c.args.answer.now own c.args.ends.now c.in_ok-change.change
     c.ended_by-ended.result found at.are_due c.in_ok-change.ensures
     (c.ended_by-ended.ensures t item (λ on is. c.in_ok-does.ensures.stolen t on (at_finds at) is)))
-    ∙ ap (λ (ds : List Decision). map as_kept (decided_rows t (event_changes t (event.Item conn item) c.args.answer))
+    ∙ ap (λ (ds : List Decision). map as_kept (decided_rows t (event_changes t (event.Item conn item) c.args.answer.now))
     ++ ds)
     (c.planned_decisions-by_map.ensures.decisions ∙ (c.in_ok-does.ensures.resumed t (at_finds at)).decisions)
 
@@ -38,8 +38,8 @@ returns-clause-forgotten c = λ t at finds takes.
     c.in_ok-forgotten.ensures
     ∙ ap (λ (ns : List RowNumber). ns ++ c.planned_forgotten-lacking.result.items)
     (c.in_ok-does.ensures.forgotten t (at_finds at) takes
-    ∙ ap (λ (o : Option ℕ). forgotten_in c.args.book.now t conn.0 o item c.args.answer) found)
-    ∙ ap (λ (ns : List RowNumber). forgotten_in c.args.book.now t conn.0 (session_found t conn item) item c.args.answer
+    ∙ ap (λ (o : Option ℕ). forgotten_in c.args.book.now t conn.0 o item c.args.answer.now) found)
+    ∙ ap (λ (ns : List RowNumber). forgotten_in c.args.book.now t conn.0 (session_found t conn item) item c.args.answer.now
     ++ ns)
     (c.planned_forgotten-lacking.ensures.forgotten ∙ c.planned_decisions-by_map.ensures.forgotten
     ∙ (c.in_ok-does.ensures.resumed t (at_finds at)).forgotten)
