@@ -1,5 +1,5 @@
 """Rows of durable links for tests/server/clients: limits of the book and of the journal, each over a journal that comes near it, and deliveries that end early.
-Wanted answers are those of docs/durable.md, docs/book.md and docs/journal.md."""
+Wanted answers are those of docs/design/durable.md, docs/design/book.md and docs/design/journal.md."""
 import tempfile
 
 import journals

@@ -1,5 +1,5 @@
 """Rows of durable links for tests/server/clients: Qpid Proton's engine as producers and consumers whose termini keep their unsettled deliveries. Wanted answers are
-those of the AMQP standard (part 2, sections 2.6 and 2.7; part 3, sections 3.4 and 3.5) and of docs/durable.md; the journal's acts are read by journals.py.
+those of the AMQP standard (part 2, sections 2.6 and 2.7; part 3, sections 3.4 and 3.5) and of docs/design/durable.md; the journal's acts are read by journals.py.
 """
 import subprocess
 import tempfile

@@ -1,4 +1,4 @@
-"""Journals as bytes, for checks that begin with one: the format of docs/two_files.md, without a client library.
+"""Journals as bytes, for checks that begin with one: the format of docs/design/two_files.md, without a client library.
 
   tests/server/journal_bytes.py      the bytes of the journals that the cases of case_program begin with, as their lines have them
 """

@@ -1,4 +1,4 @@
-"""Reads a journal for tests, and keeps the book of its acts: the bytes of docs/two_files.md and the conditions of docs/book.md, by code that shares nothing
+"""Reads a journal for tests, and keeps the book of its acts: the bytes of docs/design/two_files.md and the conditions of docs/design/book.md, by code that shares nothing
 with the program's."""
 import os
 from collections import defaultdict, namedtuple

@@ -1,5 +1,5 @@
 """Rows of messages for tests/server/clients: Qpid Proton's engine as producers and consumers. Wanted answers are those of the AMQP
-standard (part 2, sections 2.5 to 2.7; part 3, section 3.4) and of Proton's documents; where both leave a choice, docs/credit.md."""
+standard (part 2, sections 2.5 to 2.7; part 3, section 3.4) and of Proton's documents; where both leave a choice, docs/design/credit.md."""
 import threading
 import time
 
@@ -60,7 +60,7 @@ def rejected(served):
 
     sent = decided(served, "m.rejected", why, Delivery.REJECTED)
     expect(outcome(sent), "rejected")
-    # the description is not passed on (docs/claims.md): texts may be long
+    # the description is not passed on (docs/proof/claims.md): texts may be long
     expect((sent.remote.condition.name, sent.remote.condition.info), ("app:bad", {symbol("field"): 7}))
 
 
@@ -366,7 +366,7 @@ def balanced(served):
 
 
 def closest(served):
-    """Distribution closest: in turn, in order of attach (docs/credit.md)."""
+    """Distribution closest: in turn, in order of attach (docs/design/credit.md)."""
     first, _, producer, sender = pair(served, "turn.a", credit=6)
     others = [Peer(served, it) for it in ("d", "e")]
     for it in others:
@@ -541,7 +541,7 @@ def sixty_four():
 
 
 def refused_links(served):
-    """A target without an address is no relay here, and an empty address is none (docs/DECISIONS.md): each is answered by an attach with no
+    """A target without an address is no relay here, and an empty address is none (docs/design/DECISIONS.md): each is answered by an attach with no
     terminus and a detach with the reason (part 2, section 2.6.3), and the session's other links stay attached."""
     peer = Peer(served, "refused")
     good = peer.sender("q.a")
