@@ -541,7 +541,7 @@ def sixty_four():
 
 
 def refused_links(served):
-    """A target without an address is no relay here, and an empty address is none (docs/design/DECISIONS.md): each is answered by an attach with no
+    """A target without an address is no relay here, and an empty address is none (docs/rows.md): each is answered by an attach with no
     terminus and a detach with the reason (part 2, section 2.6.3), and the session's other links stay attached."""
     peer = Peer(served, "refused")
     good = peer.sender("q.a")
