@@ -3,3 +3,4 @@ pub mod Mapped
 pub mod Taken
 pub mod Transfers
 pub mod Landing
+mod Planned

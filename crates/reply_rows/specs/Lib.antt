@@ -2,6 +2,14 @@ pub mod LinkRows
 pub mod Rows
 pub mod Finding
 pub mod Booking
+pub mod Acts
+pub mod Admitting
+pub mod Asking
+pub mod Deciding
+pub mod Doing
+pub mod Joining
+pub mod Planning
+pub mod Resuming
 pub use Rattle.router_trace.specs.Trace
 pub use Rattle.router_trace.specs.Connection
 pub use Rattle.router_trace.specs.Refusing

@@ -13,6 +13,8 @@ ghost use Rattle.reply_rows.specs.LinkRows.{attach_fresh, session_attach_reply};
 mod durable;
 mod multicast;
 mod refusal;
+mod resuming;
+mod taking;
 
 use crate::answer::Answer;
 use crate::attach::durable::booked_attach;
@@ -23,10 +25,12 @@ use amqp_model::Attach;
 use book_core::Book;
 pub use durable::{wanted_address, wanted_key, wants_durable};
 pub use refusal::LINK_TEXT;
+pub use resuming::{ConsumerResumption, ProducerResumption, Resumption, told_map};
 use router_state::{Found, State};
 use router_trace::{Condition, HANDLE_MAX, LinkAt};
 use state_sessions::Place;
 use std::alloc::AllocError;
+pub(crate) use taking::does;
 
 /// The answer to an attach on a handle of the peer that stands for nothing.
 fn attach_fresh(own: u16, free: Option<u32>, multicast: bool, attach: &Attach) -> Answer

@@ -7,9 +7,12 @@ ghost use Rattle.router_state.specs.Finding.{IsFoundBy};
 ghost use Rattle.reply_rows.specs.Rows.{detach_reply};
 ghost use Rattle.reply_rows.specs.LinkRows.{session_detach_reply};
 
+mod closing;
+
 use crate::answer::Answer;
 use crate::frame::{end_unattached, no_session_reply};
 use amqp_model::Detach;
+pub(crate) use closing::does;
 use router_state::Found;
 use router_trace::LinkAt;
 use state_sessions::Place;

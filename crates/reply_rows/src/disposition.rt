@@ -6,9 +6,12 @@ ghost use Rattle.router_trace.specs.Deliveries.{terminal};
 ghost use Rattle.state_sessions.specs.Fits.{found_of};
 ghost use Rattle.reply_rows.specs.Rows.{disposition_reply};
 
+mod settling;
+
 use crate::answer::Answer;
 use crate::frame::no_session_reply;
 use amqp_model::{DeliveryState, Disposition, Role};
+pub(crate) use settling::does;
 use state_sessions::Place;
 
 /// Whether a state is an outcome.

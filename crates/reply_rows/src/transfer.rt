@@ -13,17 +13,21 @@ ghost use Rattle.reply_rows.specs.Rows.{transfer_reply};
 ghost use Rattle.reply_rows.specs.LinkRows.{is_among, session_transfer_reply, is_serial, start_on, is_same_id, is_same_tag, continue_on, delivery_on};
 ghost use Rattle.amqp_link.specs.Receiving.{Received, unused as unused_of};
 
+mod admitting;
 mod repeated;
+mod settling;
 
 use crate::answer::Answer;
 use crate::frame::{detach_for, end_not_allowed, end_unattached, no_session_reply};
 use crate::transfer::repeated::booked_transfer;
+pub use admitting::{Admittable, admission_for, row_in};
 use amqp_link::Delivery;
 use amqp_model::{DeliveryTag, Transfer};
 use amqp_session::Window;
 use book_core::Book;
 use router_state::{Found, State};
 use router_trace::{Condition, LinkAt};
+pub(crate) use settling::does;
 use state_links::FoundLink;
 use state_sessions::Place;
 

@@ -12,7 +12,7 @@ use Rattle.router_trace.specs.Trace.{Trace, Bound, puts}
 use Rattle.router_trace.specs.Links.{Link, link}
 use Rattle.router_trace.specs.Following.{link_of}
 use Rattle.router_trace.specs.declared.binding.Origin.{Origin}
-use Rattle.state_messages.specs.Messages.{consumer_of, binding_to, binding_for, standing_at, with_bound}
+use Rattle.state_messages.specs.Messages.{IsChosen, consumer_of, binding_to, binding_for, standing_at, with_bound}
 use Rattle.router_state.specs.declared.tables.State.{State}
 use Rattle.router_state.specs.Tables.{TablesFit}
 use Rattle.reply_transfers.specs.Joining.{row_under}
@@ -21,6 +21,16 @@ use Rattle.reply_transfers.specs.Transfers.{claimed_id, from_link, fresh_bound, 
 -- what is put and bound for a delivery that isn't resumed, by whether it may be bound
 abbrev fresh_put : Trace → ℕ → ℕ → ℕ → Told → Bool → List Item
 fresh_put t c own handle d may = unbound_put t c own handle (claimed_id t c own handle d.id) (if may then consumer_of t (link t c own handle) else None)
+
+-- a consumer that was chosen for the link on a handle was chosen for its attachment
+pub known_from : (t : Trace) (c own handle : ℕ) (from : Attachment) (known : Option Attachment) (l : Option Link) → l ≡ link t c own handle → Some from ≡ option_map (standing_at c own handle) l
+    → IsChosen t (link t c own handle) known → IsChosen t (link_of t from) known
+known_from t c own handle from known None here stands chosen = absurd cc
+known_from t c own handle from known (Some k) here stands chosen =
+    subst (λ (a : Attachment). IsChosen t (link_of t a) known) (sym (is stands)) chosen
+  where
+    is : Some from ≡ Some (from_link c own handle k) → from ≡ from_link c own handle k
+    is e = cc
 
 -- it may not be bound
 pub unfit_given : (s : State) (t : Trace) (c own handle : ℕ) (d : Told) (row : Option RowNumber) (payload : List ℕ) (claimed : Option ℕ)
@@ -145,6 +155,19 @@ anew_given s b t c own handle d row payload anew fit =
     else unbound_put t c own handle (claimed_id t c own handle d.id) (consumer_for t c own handle d row))
     (with_bound (if q then resumed_bound b t c own handle (claimed_id t c own handle d.id) (link t c own handle)
     else fresh_bound t c own handle d row payload (link t c own handle)) t))) (sym anew) fit
+
+-- one for which a consumer is chosen is bound, and nothing is put
+pub bound_given : (found : State) (t : Trace) (from : Attachment) (claimed : Option ℕ) (row : Option RowNumber) (format : ℕ) (payload : List ℕ) (origin : Option Origin)
+    → origin ≡ option_map (origin_of from) claimed → is_some (consumer_of t (link_of t from)) ≡ true → TablesFit found (with_bound (binding_for t from origin row format payload) t)
+    → TablesFit found (puts from.conn.0 (unbound_put t from.conn.0 from.channel from.handle claimed (consumer_of t (link_of t from)))
+    (with_bound (binding_for t from (option_map (origin_of from) claimed) row format payload) t))
+bound_given found t from claimed row format payload origin same some fit = by (consumer_of t (link_of t from)) some fit
+  where
+    by : (at : Option Attachment) → is_some at ≡ true → TablesFit found (with_bound (option_map (binding_to t origin row format payload) at) t)
+        → TablesFit found (puts from.conn.0 (unbound_put t from.conn.0 from.channel from.handle claimed at)
+        (with_bound (option_map (binding_to t (option_map (origin_of from) claimed) row format payload) at) t))
+    by None is fit = absurd cc
+    by (Some at) is fit = subst (λ (o : Option Origin). TablesFit found (Bound (binding_to t o row format payload at) ∷ t)) same fit
 
 -- one for which no consumer is chosen is released
 pub released_given : (found left : State) (t : Trace) (from : Attachment) (claimed : Option ℕ) (row : Option RowNumber) (format : ℕ) (payload : List ℕ) (origin : Option Origin)

@@ -6,7 +6,7 @@ ghost use Rattle.router_trace.specs.Links.{link};
 ghost use Rattle.router_trace.specs.Settling.{unbound};
 ghost use Rattle.router_trace.specs.Deliveries.{terminal, last_of};
 ghost use Rattle.router_trace.specs.DeliveryFrames.{outcome_item};
-ghost use Rattle.state_messages.specs.Messages.{with_bound, binding_for, consumer_of};
+ghost use Rattle.state_messages.specs.Messages.{IsChosen, with_bound, binding_for, consumer_of};
 ghost use Rattle.router_trace.specs.Following.{link_of};
 ghost use Rattle.router_state.specs.Tables.{TablesFit};
 ghost use Rattle.reply_transfers.specs.Transfers.{claimed_id, from_link, origin_of, may_pass, let_go, released_by, released, ignored_put, joined_on, resumed_put, resumed_bound, unbound_put, consumer_for, whole_put, whole_bound, fresh_bound, part_put, part_bound, settled_answers, disposition_in, disposition_of};
@@ -173,20 +173,23 @@ fn ignore(
     Ok(())
 }
 
-/// Binds a message of the link on this handle to a consumer of its address; if none is chosen, the delivery is released.
+/// Binds a message of the link on this handle to a consumer of its address: to `known`, if it was chosen before. If none is chosen, the delivery is
+/// released.
 fn bind(
     state: &mut State,
     id: &RouterId,
     from: Attachment,
+    known: Option<Attachment>,
     claimed: Option<u32>,
     row: Option<RowNumber>,
     format: u32,
     payload: Bytes,
 ) -> Result<(), AllocError>
-    ensures { OnOk result ((t : List Entry) → TablesFit state.old t → TablesFit state.new (puts from.conn.0 (unbound_put t from.conn.0 from.channel from.handle claimed (consumer_of t (link_of t from)))
+    ensures { OnOk result ((t : List Entry) → IsChosen t (link_of t from) known → TablesFit state.old t → TablesFit state.new (puts from.conn.0 (unbound_put t from.conn.0 from.channel from.handle claimed (consumer_of t (link_of t from)))
         (with_bound (binding_for t from (option_map (origin_of from) claimed) row format payload) t))) }
 {
-    let chosen = state.pass(from, origin_of(from, claimed), row, format, payload)?;
+    let origin = origin_of(from, claimed);
+    let chosen = state.pass(from, known, origin, row, format, payload)?;
     if chosen {
         return Ok(());
     }
@@ -201,9 +204,10 @@ fn pass_fresh(
     at: LinkPlace,
     delivery: &Delivery,
     row: Option<RowNumber>,
+    known: Option<Attachment>,
     payload: Bytes,
 ) -> Result<(), AllocError>
-    ensures { OnOk result ((t : List Entry) → TablesFit state.old t → TablesFit state.new (puts at.conn.0 (unbound_put t at.conn.0 at.own at.handle (claimed_id t at.conn.0 at.own at.handle delivery.now.id) (consumer_for t at.conn.0 at.own at.handle delivery.now row))
+    ensures { OnOk result ((t : List Entry) → IsChosen t (link t at.conn.0 at.own at.handle) known → TablesFit state.old t → TablesFit state.new (puts at.conn.0 (unbound_put t at.conn.0 at.own at.handle (claimed_id t at.conn.0 at.own at.handle delivery.now.id) (consumer_for t at.conn.0 at.own at.handle delivery.now row))
         (with_bound (fresh_bound t at.conn.0 at.own at.handle delivery.now row payload (link t at.conn.0 at.own at.handle)) t))) }
 {
     let claimed = claimed_id(state, at, delivery.id);
@@ -218,7 +222,7 @@ fn pass_fresh(
         return Ok(());
     };
     let format = delivery.format.unwrap_or(0);
-    bind(state, id, from, claimed, row, format, payload)?;
+    bind(state, id, from, known, claimed, row, format, payload)?;
     Ok(())
 }
 
@@ -263,9 +267,10 @@ fn pass_whole(
     at: LinkPlace,
     delivery: &Delivery,
     row: Option<RowNumber>,
+    known: Option<Attachment>,
     payload: Bytes,
 ) -> Result<(), AllocError>
-    ensures { OnOk result ((t : List Entry) → TablesFit state.old t → TablesFit state.new (puts at.conn.0 (whole_put book.now t at.conn.0 at.own at.handle delivery.now row)
+    ensures { OnOk result ((t : List Entry) → IsChosen t (link t at.conn.0 at.own at.handle) known → TablesFit state.old t → TablesFit state.new (puts at.conn.0 (whole_put book.now t at.conn.0 at.own at.handle delivery.now row)
         (with_bound (whole_bound book.now t at.conn.0 at.own at.handle delivery.now row payload) t))) }
 {
     if delivery.resume {
@@ -274,28 +279,29 @@ fn pass_whole(
         pass_resumed(state, id, book, at, claimed)?;
         return Ok(());
     }
-    pass_fresh(state, id, at, delivery, row, payload)?;
+    pass_fresh(state, id, at, delivery, row, known, payload)?;
     Ok(())
 }
 
 /// Handles what a transfer that is taken makes of its delivery, by the book after the event's acts: a whole delivery is bound to a consumer of its
 /// address, with its row if it has one, or released; one that is resumed joins its row, or is ignored; one that is too large detaches its link (AMQP
-/// 1.0 part 2, sections 2.6.12, 2.6.13, 2.7.3 and 2.7.5).
+/// 1.0 part 2, sections 2.6.12, 2.6.13, 2.7.3 and 2.7.5). If its consumer was chosen before (`State::consumer_for`), it is `known`.
 pub fn take_part(
     state: &mut State,
     id: &RouterId,
     book: &Book,
     at: LinkPlace,
     row: Option<RowNumber>,
+    known: Option<Attachment>,
     part: Option<Part>,
 ) -> Result<(), AllocError>
-    ensures { OnOk result ((t : List Entry) → TablesFit state.old t → TablesFit state.new (puts at.conn.0 (part_put book.now t at.conn.0 at.own at.handle row part)
+    ensures { OnOk result ((t : List Entry) → IsChosen t (link t at.conn.0 at.own at.handle) known → TablesFit state.old t → TablesFit state.new (puts at.conn.0 (part_put book.now t at.conn.0 at.own at.handle row part)
         (with_bound (part_bound book.now t at.conn.0 at.own at.handle row part) t))) }
 {
     match part {
         None => {}
         Some(Part::Whole(delivery, payload)) => {
-            pass_whole(state, id, book, at, &delivery, row, payload)?;
+            pass_whole(state, id, book, at, &delivery, row, known, payload)?;
         }
         Some(Part::TooLarge) => {
             let_go(state, id, at, Condition::MessageSizeExceeded)?;

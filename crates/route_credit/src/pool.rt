@@ -144,9 +144,18 @@ impl Pool {
     {
         let chosen = self.peek();
         if let Some(consumer) = chosen {
-            self.last = consumer.0;
+            self.note(consumer);
         }
         chosen
+    }
+
+    /// Notes that this consumer is chosen for the next delivery, as [`Pool::choose`] does with the one that it chooses: for a caller that asked
+    /// [`Pool::peek`] before.
+    #[inline]
+    pub fn note(&mut self, consumer: ConsumerId)
+        ensures { self.new ≡ chose self.old (Some consumer.0) }
+    {
+        self.last = consumer.0;
     }
 
     /// Gives credit to producers, one credit after another, while there is a producer that is next, and returns each

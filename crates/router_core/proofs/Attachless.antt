@@ -41,7 +41,7 @@ use Rattle.reply_rows.specs.declared.answer.Answer.TheVariants.{Nothing, Header,
 use Rattle.reply_rows.specs.Rows.{Finds, said, item_reply}
 use Rattle.reply_rows.specs.Finding.{finds}
 use Rattle.reply_rows.specs.Booking.{repeats, booked_transfer}
-use Rattle.router_reply.specs.Acts.{answer_of, book_in, found_journal}
+use Rattle.reply_rows.specs.Acts.{answer_of, book_in, found_journal}
 use Rattle.reply_transfers.specs.Transfers.{claimed_id, lasts_on, consumer_for, let_go, unless_many, ignored_put, row_resumed, unless_joined, resumed_put, released_by, unbound_put, part_put, settled_answers}
 use Rattle.router_reply.specs.Replies.{closing_of, row_found, links_put, item_row, own_row}
 use Rattle.router_core.specs.Attaches.{is_attach_in, is_attach, brings_attach}

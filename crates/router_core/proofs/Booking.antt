@@ -5,7 +5,7 @@ use Rattle.router_trace.specs.declared.event.Event.{Event}
 use Rattle.router_trace.specs.Trace.{Entry, Booked}
 use Rattle.router_trace.specs.Connection.{due, phase_found}
 use Rattle.router_trace.specs.Refusing.{refuses}
-use Rattle.router_reply.specs.Acts.{acts_of, booked}
+use Rattle.reply_rows.specs.Acts.{acts_of, booked}
 
 -- what acts keep, an event's acts keep
 pub booked_keeps : (P : List Entry → Type 0) (t : List Entry) (e : Event) → ((acts : List Act) → P t → P (Booked acts (due t e) ∷ t)) → P t → P (booked t e)

@@ -18,8 +18,8 @@ use Rattle.router_trace.specs.Sessions.{free_channel}
 use Rattle.router_trace.specs.Refusing.{refuses}
 use Rattle.router_trace.specs.declared.condition.Condition.TheVariants.{ResourceLimitExceeded}
 use Rattle.reply_rows.specs.Booking.{answer_at}
-use Rattle.router_reply.specs.Acts.{Journaled, live_answer, planned_acts, event_answer, finds_full, journaled, book_in, acts_of, booked, answer_by, answer_to_event}
-use Rattle.router_reply.specs.Admitting.{admits, event_admission}
+use Rattle.reply_rows.specs.Acts.{Journaled, live_answer, planned_acts, event_answer, finds_full, journaled, book_in, acts_of, booked, answer_by, answer_to_event}
+use Rattle.reply_rows.specs.Admitting.{admits, event_admission}
 use Rattle.router_reply.specs.Resuming.{resumed}
 use Rattle.router_reply.specs.Replies.{closing_of, ends, heard, bound_by, own_row, replied}
 use Rattle.state_messages.specs.Messages.{with_bound}

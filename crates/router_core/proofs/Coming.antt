@@ -8,7 +8,7 @@ use Rattle.router_trace.specs.Connection.{conn, due}
 use Rattle.router_trace.specs.declared.condition.Condition.TheVariants.{ResourceLimitExceeded}
 use Rattle.router_reply.specs.Replies.{closing_of, ends, heard, bound_by, own_row, replied}
 use Rattle.state_messages.specs.Messages.{with_bound}
-use Rattle.router_reply.specs.Acts.{booked}
+use Rattle.reply_rows.specs.Acts.{booked}
 use Rattle.router_reply.specs.Resuming.{resumed}
 use Rattle.router_core.specs.Replies.{answered, handled}
 use Rattle.router_core.specs.Moves.{with_came, ins}

@@ -19,8 +19,8 @@ use Rattle.reply_rows.specs.declared.answer.Answer.TheVariants.{Taken, Attach}
 use Rattle.reply_rows.specs.Booking.{attach_unless, booked_attach, booked as answer_booked}
 use Rattle.reply_rows.specs.Finding.{finds}
 use Rattle.reply_rows.specs.Rows.{item_reply}
-use Rattle.router_reply.specs.Acts.{event_answer, live_answer, answer_acts, planned_acts, admitted_acts, or_admits, event_acts}
-use Rattle.router_reply.specs.Admitting.{taken_admission, unless_ends, event_admission, admits, without_acts}
+use Rattle.reply_rows.specs.Acts.{event_answer, live_answer, answer_acts, planned_acts, admitted_acts, or_admits, event_acts}
+use Rattle.reply_rows.specs.Admitting.{taken_admission, unless_ends, event_admission, admits, without_acts}
 use Rattle.router_core.specs.Handling.{within, or_within, with_admission, or_exceeds, full_with}
 
 -- what holds of what is there, if it is

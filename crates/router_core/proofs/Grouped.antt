@@ -9,7 +9,7 @@ use Rattle.twin_journal.specs.Keeping.{held_opens, kept_is_held}
 use Rattle.journal_store.specs.Store.{Stands, StandsBehind, journal_of, twin_of}
 use Rattle.router_trace.specs.declared.event.Event.{Event}
 use Rattle.router_trace.specs.Trace.{Entry, step_of}
-use Rattle.router_reply.specs.Acts.{book_in}
+use Rattle.reply_rows.specs.Acts.{book_in}
 use Rattle.core_machine.specs.declared.answers.Done.{Done}
 use Rattle.core_machine.specs.declared.counts.Counts.{Counts}
 use Rattle.core_machine.specs.declared.fault.CoreFault.{CoreFault}

@@ -8,7 +8,7 @@ use Rattle.book_model.specs.declared.act.Act.{Act}
 use Rattle.router_trace.specs.declared.event.Event.{Event}
 use Rattle.router_trace.specs.Connection.{conn}
 use Rattle.router_trace.specs.Refusing.{refuses}
-use Rattle.router_reply.specs.Acts.{booked}
+use Rattle.reply_rows.specs.Acts.{booked}
 use Rattle.router_core.specs.Replies.{handled}
 use Rattle.core_machine.specs.Moves.{Taking, took_one}
 use Rattle.router_core.specs.Moves.{Goes, IsTrace}

@@ -10,7 +10,7 @@ use Rattle.journal_store.specs.Store.{Stands, StandsBehind, batches_after, count
 use Rattle.journal_store.specs.declared.store.Store.{Store}
 use Rattle.router_trace.specs.declared.event.Event.{Event}
 use Rattle.router_trace.specs.Trace.{Entry, step_of}
-use Rattle.router_reply.specs.Acts.{Journaled, acts_of, book_after_event, book_in, booked, journaled}
+use Rattle.reply_rows.specs.Acts.{Journaled, acts_of, book_after_event, book_in, booked, journaled}
 use Rattle.core_machine.specs.Meaning.{BookAt, EitherOf, KeptAt}
 use Rattle.router_core.specs.declared.router.Core.{Core}
 use Rattle.router_core.specs.Handling.{BeforeOrAfterEvent, Fits, kept_book, store_of}

@@ -12,7 +12,7 @@ use Rattle.journal_store.specs.Store.{OpensTo, Stands, StandsBehind, book_of, co
 use Rattle.journal_store.proofs.Moments.{still_held, unmoved}
 use Rattle.router_trace.specs.declared.event.Event.{Event}
 use Rattle.router_trace.specs.Trace.{Entry}
-use Rattle.router_reply.specs.Acts.{acts_of, book_in}
+use Rattle.reply_rows.specs.Acts.{acts_of, book_in}
 use Rattle.router_core.specs.declared.router.Core.{Core}
 use Rattle.router_core.specs.Handling.{Fits, BeforeOrAfterEvent, store_of, kept_book}
 use Rattle.router_core.proofs.Books.{before_or_after_event}

@@ -14,7 +14,7 @@ use Rattle.journal_store.specs.Store.{exceeds}
 use Rattle.router_trace.specs.declared.event.ConnectionId.{ConnectionId}
 use Rattle.router_trace.specs.declared.event.Event.{Event}
 use Rattle.router_trace.specs.declared.event.Event.TheVariants as event
-use Rattle.router_trace.specs.Trace.{Entry, Booked}
+use Rattle.router_trace.specs.Trace.{Entry, Booked, did}
 use Rattle.router_trace.specs.Connection.{due, standing, found}
 use Rattle.router_trace.specs.Deliveries.{giving, giving_of}
 use Rattle.router_trace.specs.Sessions.{theirs, maps}
@@ -24,14 +24,14 @@ use Rattle.reply_rows.specs.declared.answer.Answer.TheVariants.{Taken}
 use Rattle.reply_rows.specs.Booking.{answer_at}
 use Rattle.reply_rows.proofs.Mapped.{IsHere, answer_here}
 use Rattle.router_reply.specs.declared.heard.Heard.{Heard}
-use Rattle.router_reply.specs.Acts.{event_answer, live_answer, planned_acts, acts_of, book_found, finds_full, journaled}
-use Rattle.router_reply.specs.Admitting.{answer_admission, taken_admission, part_admission, unless_ends, event_admission, admits, without_acts}
+use Rattle.reply_rows.specs.Acts.{event_answer, live_answer, planned_acts, acts_of, book_found, finds_full, journaled}
+use Rattle.reply_rows.specs.Admitting.{answer_admission, taken_admission, part_admission, unless_ends, event_admission, admits, without_acts, ChoseUnlessEnds}
 use Rattle.router_reply.specs.Heard.{ItemHeard, IsHeard}
-use Rattle.router_reply.specs.Planning.{IsSession}
+use Rattle.reply_rows.specs.Planning.{IsSession}
 use Rattle.router_core.specs.declared.router.Core.{Core}
 use Rattle.router_state.specs.declared.tables.State.{State}
-use Rattle.router_reply.specs.declared.plan.Plan.{Plan}
-use Rattle.router_reply.specs.Resuming.{Resumes}
+use Rattle.reply_rows.specs.declared.plan.Plan.{Plan}
+use Rattle.reply_rows.specs.Resuming.{Resumes}
 use Rattle.router_core.specs.Handling.{IsReady, Journals, TakenHere, TakenIn, within, with_admission, full_with, kept_book}
 use Rattle.router_core.proofs.Books.{early_of, acts_are, full_is}
 use Rattle.router_core.proofs.Committing.{none_kept}
@@ -168,4 +168,5 @@ ready_without s t e p q h same ready = record {
   answer = ap (λ (x : Plan). x.answer) same ∙ ready.answer;
   heard = subst (λ (a : Answer). IsHeard t e a h) (sym (ap (λ (x : Plan). x.answer) same)) ready.heard;
   resumed = subst (λ (x : Plan). Resumes (book_found t) t e x.answer x.resumption) (sym same) ready.resumed;
+  chosen = subst (λ (x : Plan). ChoseUnlessEnds x.ends.items (did e ∷ t) e x.answer x.consumer) (sym same) ready.chosen;
 }

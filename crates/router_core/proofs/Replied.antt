@@ -25,7 +25,7 @@ use Rattle.router_state.specs.Tables.{beats}
 use Rattle.state_messages.specs.Messages.{with_bound}
 use Rattle.reply_rows.specs.declared.answer.Answer.{Answer}
 use Rattle.reply_rows.specs.Rows.{said}
-use Rattle.router_reply.specs.Acts.{answer_of, book_in}
+use Rattle.reply_rows.specs.Acts.{answer_of, book_in}
 use Rattle.reply_transfers.specs.Transfers.{part_put, settled_answers}
 use Rattle.router_reply.specs.Resuming.{resumed}
 use Rattle.router_reply.specs.Replies.{heard, taken, refused, bound_by, item_row, own_row, replied}

@@ -31,10 +31,12 @@ use Rattle.router_state.specs.Tables.{TablesFit}
 use Rattle.resume_core.specs.declared.consumer.Sending.{Sending}
 use Rattle.reply_rows.specs.declared.answer.Answer.{Answer}
 use Rattle.reply_rows.specs.declared.answer.Answer.TheVariants.{Attach}
-use Rattle.router_reply.specs.declared.resuming.Resumption.{Resumption}
-use Rattle.router_reply.specs.Acts.{acts_of, booked, book_found, book_in, found_acts, answer_to_event}
-use Rattle.router_reply.specs.Holding.{as_held, freed, freed_by, freed_from, held_if, held_key, held_to, if_sends, rows_held, with_held}
-use Rattle.router_reply.specs.Resuming.{Resumes, key_taken, key_by, key_in, taken_key, if_receives, resumed_key, attach_in, map_for, rows_for, rows_taken, key_held, key_resumed, rows_resumed, bound_to, bound_if, with_rows, attached_by, resumed_by, resumed}
+use Rattle.reply_rows.specs.declared.attach.resuming.Resumption.{Resumption}
+use Rattle.reply_rows.specs.Acts.{acts_of, booked, book_found, book_in, found_acts, answer_to_event}
+use Rattle.router_reply.specs.Holding.{as_held, freed, freed_by, freed_from, held_if, held_to, rows_held, with_held}
+use Rattle.reply_rows.specs.Asking.{held_key, if_sends}
+use Rattle.reply_rows.specs.Resuming.{Resumes, key_taken, key_by, key_in, taken_key, if_receives, resumed_key, attach_in, map_for, rows_for, key_held, key_resumed, rows_resumed}
+use Rattle.router_reply.specs.Resuming.{rows_taken, bound_to, bound_if, with_rows, attached_by, resumed_by, resumed}
 
 pub rows_keep : (P : List Entry → Type 0) → ((b : Binding) (t : List Entry) → P t → P (Bound b ∷ t)) → (at : Attachment) (rs : List Sending) (u : List Entry) → P u → P (bound_to at rs u)
 rows_keep P step at [] u was = was

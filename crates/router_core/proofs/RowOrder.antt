@@ -39,7 +39,7 @@ use Rattle.reply_rows.specs.Rows.{Finds, Links, said, header_reply, open_by, ope
 use Rattle.reply_rows.specs.LinkRows.{is_multicast_link, refusal, attach_or, attach_at, session_attach_reply, session_detach_reply, link_echo, is_reached, detach_for, link_flow_reply, is_anonymous, asks, is_among, start_on, delivery_by, delivery_on, link_transfer_reply, is_unattached, session_transfer_reply, flow_on as link_flow_on}
 use Rattle.reply_rows.specs.Finding.{finds}
 use Rattle.reply_rows.specs.Booking.{attach_unless, booked_attach, repeats, booked_transfer, booked_perf, booked, book_refusal}
-use Rattle.router_reply.specs.Acts.{found_journal, full_at, answer_of}
+use Rattle.reply_rows.specs.Acts.{found_journal, full_at, answer_of}
 use Rattle.amqp_link.specs.Receiving.{delivery_count, unused}
 use Rattle.router_trace.specs.Links.{link, link_place, durable_key, free_handle, LinkPlace, nowhere as no_link, detaching, on as on_link, Happened, sends, receives}
 

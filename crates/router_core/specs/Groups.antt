@@ -5,7 +5,7 @@ use Rattle.book_model.specs.Book.{BookView}
 use Rattle.journal_store.specs.Store.{OpensTo}
 use Rattle.router_trace.specs.declared.event.Event.{Event}
 use Rattle.router_trace.specs.Trace.{Trace, step_of}
-use Rattle.router_reply.specs.Acts.{acts_of, book_in, finds_full, journaled}
+use Rattle.reply_rows.specs.Acts.{acts_of, book_in, finds_full, journaled}
 use Rattle.core_machine.specs.declared.answers.Done.{Done}
 use Rattle.core_machine.specs.declared.counts.Counts.{Counts}
 use Rattle.core_machine.specs.Counting.{with_event}

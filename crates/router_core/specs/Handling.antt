@@ -18,12 +18,13 @@ use Rattle.router_trace.specs.Trace.{Trace, Booked, did}
 use Rattle.router_trace.specs.Connection.{due, phase_before, phase_found}
 use Rattle.router_state.specs.declared.tables.State.{State}
 use Rattle.router_state.specs.Tables.{TablesAt, TablesFit}
-use Rattle.router_reply.specs.Acts.{journaled, book_found, book_in, book_after_event, answer_to_event}
+use Rattle.reply_rows.specs.Acts.{journaled, book_found, book_in, book_after_event, answer_to_event}
+use Rattle.reply_rows.specs.Admitting.{ChoseUnlessEnds}
 use Rattle.router_reply.specs.Heard.{IsHeard}
-use Rattle.router_reply.specs.Resuming.{Resumes}
+use Rattle.reply_rows.specs.Resuming.{Resumes}
 use Rattle.router_reply.specs.declared.heard.Heard.{Heard}
-use Rattle.router_reply.specs.declared.plan.Plan.{Plan}
-use Rattle.router_reply.specs.Planning.{IsPlan}
+use Rattle.reply_rows.specs.declared.plan.Plan.{Plan}
+use Rattle.reply_rows.specs.Planning.{IsPlan}
 use Rattle.core_machine.specs.Turns.{is_started, declines}
 
 -- a router's journal agrees with the trace: its book, and how many batches it has; and it knows what the book needs
@@ -59,6 +60,7 @@ pub record IsReady (s : State) (t : Trace) (e : Event) (p : Plan) (h : Heard) : 
   pub answer : p.answer ≡ answer_to_event t e
   pub heard : IsHeard t e p.answer h
   pub resumed : Resumes (book_found t) t e p.answer p.resumption
+  pub chosen : ChoseUnlessEnds p.ends.items (did e ∷ t) e p.answer p.consumer
 
 -- a transfer that is taken is one on the session for which its channel stands
 abbrev pub TakenHere : (ℕ → Bool) → Answer → Type 0

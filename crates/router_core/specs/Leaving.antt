@@ -5,7 +5,7 @@ use Rattle.book_model.specs.Book.{BookView}
 use Rattle.journal_store.specs.Store.{OpensTo}
 use Rattle.router_trace.specs.declared.event.Event.{Event}
 use Rattle.router_trace.specs.Trace.{Trace}
-use Rattle.router_reply.specs.Acts.{book_in}
+use Rattle.reply_rows.specs.Acts.{book_in}
 use Rattle.router_core.specs.declared.driving.Sent.{Sent}
 use Rattle.router_core.specs.Runs.{MaySteps, Run}
 

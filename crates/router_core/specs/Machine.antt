@@ -11,7 +11,7 @@ use Rattle.journal_store.specs.declared.store.Store.{Store}
 use Rattle.route_table.specs.Places.{routing_of}
 use Rattle.route_table.specs.Settings.{Settings}
 use Rattle.router_trace.specs.Trace.{Beginning}
-use Rattle.router_reply.specs.Acts.{acts_of, book_in, book_after_event, finds_full, journaled}
+use Rattle.reply_rows.specs.Acts.{acts_of, book_in, book_after_event, finds_full, journaled}
 use Rattle.core_machine.specs.Meaning.{Meaning, Kept}
 use Rattle.router_core.specs.declared.router.Core.{Core}
 use Rattle.router_core.specs.Handling.{Fits, id_of, is_failed, counts_of, store_of, kept_book}

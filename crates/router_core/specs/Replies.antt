@@ -4,7 +4,7 @@ use Rattle.router_trace.specs.declared.event.Event.{Event}
 use Rattle.router_trace.specs.Trace.{Trace, Step, step_of}
 use Rattle.router_reply.specs.Replies.{replied}
 use Rattle.router_after.specs.After.{followed}
-use Rattle.router_reply.specs.Acts.{booked}
+use Rattle.reply_rows.specs.Acts.{booked}
 use Rattle.router_reply.specs.Resuming.{resumed}
 use Rattle.core_machine.specs.Turns.{declines}
 

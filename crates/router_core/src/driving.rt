@@ -6,7 +6,7 @@ ghost use Rattle.disk_core.specs.Disk.{LeavesOnly};
 ghost use Rattle.disk_core.specs.Twin.{Contents};
 ghost use Rattle.book_model.specs.Book.{BookView};
 ghost use Rattle.journal_store.specs.Store.{OpensTo, Stands, StandsBehind, twin_of};
-ghost use Rattle.router_reply.specs.Acts.{book_in};
+ghost use Rattle.reply_rows.specs.Acts.{book_in};
 ghost use Rattle.router_core.specs.Handling.{Fits, id_of, is_failed, store_of, kept_book};
 ghost use Rattle.router_core.specs.Leaving.{IsLeftAfter, LeftBy, LeftWithin};
 ghost use Rattle.router_core.specs.Runs.{Emptied, Steps, Run, MayStep, MaySteps, InTurn, Broken, Stopped, Waits, as_sent, events_of, sent};

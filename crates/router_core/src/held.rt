@@ -6,7 +6,7 @@ ghost use Rattle.twin_journal.specs.Held.{held_bytes};
 ghost use Rattle.twin_journal.specs.Journal.{batch_count};
 ghost use Rattle.journal_store.specs.Store.{OpensTo, Stands, StandsBehind, Writable, IsSuited, journal_of, twin_of, count_of, batches_after};
 ghost use Rattle.router_trace.specs.Trace.{Entry, step_of};
-ghost use Rattle.router_reply.specs.Acts.{acts_of, book_after_event, finds_full, journaled};
+ghost use Rattle.reply_rows.specs.Acts.{acts_of, book_after_event, finds_full, journaled};
 ghost use Rattle.core_machine.specs.Turns.{declines};
 ghost use Rattle.core_machine.specs.Counting.{with_event};
 ghost use Rattle.router_core.specs.Replies.{Replies, handled};
@@ -19,7 +19,8 @@ use amqp_conn::Conn;
 use book_model::Act;
 use core_machine::{CoreFault, Done};
 use disk_core::Twin;
-use router_reply::{Heard, Plan, row_in};
+use reply_rows::{Plan, row_in};
+use router_reply::Heard;
 use router_trace::Event;
 use twin_journal::JournalFault;
 

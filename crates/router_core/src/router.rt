@@ -12,8 +12,8 @@ ghost use Rattle.state_connections.specs.Fits.{IsLeast};
 ghost use Rattle.state_connections.specs.Waiting.{waiting_of};
 ghost use Rattle.book_model.specs.Book.{effects};
 ghost use Rattle.twin_journal.specs.Room.{room};
-ghost use Rattle.router_reply.specs.Acts.{acts_of, book_after_event, book_in, found_acts, booked, finds_full, journaled};
-ghost use Rattle.router_reply.specs.Admitting.{admits, event_admission, without_acts};
+ghost use Rattle.reply_rows.specs.Acts.{acts_of, book_after_event, book_in, found_acts, booked, finds_full, journaled};
+ghost use Rattle.reply_rows.specs.Admitting.{ChoseUnlessEnds, admits, event_admission, without_acts};
 ghost use Rattle.router_reply.specs.Heard.{IsHeard};
 ghost use Rattle.router_reply.specs.Replies.{row_found};
 ghost use Rattle.core_machine.specs.Turns.{declines};
@@ -34,9 +34,10 @@ use book_model::{Act, RowNumber};
 use core_machine::{Batch, CoreFault, Counts, Done, Taken};
 use disk_core::{CrashTwin, Twin};
 use journal_store::Store;
+use reply_rows::{Admittable, Plan, admission_for, decide, row_in};
 use route_table::{Config, Table};
 use router_after::after;
-use router_reply::{Heard, Plan, admission_for, decide, free_rows, hear, reply, row_in, take_up};
+use router_reply::{Heard, free_rows, hear, reply, take_up};
 use router_state::State;
 use router_trace::{ConnectionId, Event, RouterId};
 use state_connections::{Refused, phase_found};
@@ -355,7 +356,9 @@ impl<T: Twin> Core<T> {
     fn admit(&mut self, event: &Event, plan: &mut Plan, heard: &Heard) -> Result<(), AllocError>
         requires writable { Writable (kept_book self.old) plan.old.acts.items }
         ensures rest { self.new ≡ record self.old { state = state_of self.new } }
-        ensures plan { plan.new ≡ record plan.old { full = plan.new.full; acts = plan.new.acts } }
+        ensures plan { plan.new ≡ record plan.old { full = plan.new.full; acts = plan.new.acts; consumer = plan.new.consumer } }
+        ensures chosen { OnOk result ((t : List Entry) → TablesFit (state_of self.old) t → plan.old.consumer ≡ None
+            → ChoseUnlessEnds plan.old.ends.items t event.now plan.old.answer plan.new.consumer) }
         ensures tables { OnOk result ((t : List Entry) → TablesFit (state_of self.old) t → TablesFit (state_of self.new) t) }
         ensures acts { OnOk result ((t : List Entry) → (plan.old.acts.items ≡ [] → TablesFit (state_of self.old) (without_acts t event.now)) → plan.old.ends.items ≡ due t event.now
             → IsHeard t event.now plan.old.answer heard.now → TakenIn t event.now plan.old.answer → IsSuited (store_of self.old)
@@ -378,17 +381,21 @@ impl<T: Twin> Core<T> {
         Ok(())
     }
 
-    /// The acts that admit a message of an event that was heard; none if the event ends a connection for its full outbox.
+    /// The acts that admit a message of an event that was heard; none if the event ends a connection for its full outbox. The plan has the consumer
+    /// that is chosen for the message then.
     fn admission(
         &mut self,
         event: &Event,
-        plan: &Plan,
+        plan: &mut Plan,
         heard: &Heard,
     ) -> Result<Vec<Act>, AllocError>
         ensures rest { self.new ≡ record self.old { state = state_of self.new } }
+        ensures plan { plan.new ≡ record plan.old { consumer = plan.new.consumer } }
+        ensures chosen { OnOk result ((t : List Entry) → TablesFit (state_of self.old) t → plan.old.consumer ≡ None
+            → ChoseUnlessEnds plan.old.ends.items t event.now plan.old.answer plan.new.consumer) }
         ensures tables { OnOk result ((t : List Entry) → TablesFit (state_of self.old) t → TablesFit (state_of self.new) t) }
-        ensures acts { IfOk result (λ r. (t : List Entry) → TablesFit (state_of self.old) (without_acts t event.now) → plan.now.ends.items ≡ due t event.now → IsHeard t event.now plan.now.answer heard.now
-            → TakenIn t event.now plan.now.answer → r.items ≡ admits (kept_book self.old) (event_admission (kept_book self.old) t event.now plan.now.answer)) }
+        ensures acts { IfOk result (λ r. (t : List Entry) → TablesFit (state_of self.old) (without_acts t event.now) → plan.old.ends.items ≡ due t event.now → IsHeard t event.now plan.old.answer heard.now
+            → TakenIn t event.now plan.old.answer → r.items ≡ admits (kept_book self.old) (event_admission (kept_book self.old) t event.now plan.old.answer)) }
         ensures writable { IfOk result (λ r. Writable (kept_book self.old) r.items) }
     {
         let Event::Item(conn, _) = event else {
@@ -406,7 +413,14 @@ impl<T: Twin> Core<T> {
         )?;
         match found {
             None => Ok(Vec::new(self.alloc)),
-            Some(admission) => self.store.admission_acts(self.alloc, admission),
+            Some(found) => {
+                let Admittable {
+                    admission,
+                    consumer,
+                } = found;
+                plan.consumer = Some(consumer);
+                self.store.admission_acts(self.alloc, admission)
+            }
         }
     }
 

@@ -18,7 +18,7 @@ use Rattle.state_messages.specs.Messages.{lent, grants_due, lowest_below}
 use Rattle.state_sessions.specs.Windows.{windows}
 use Rattle.router_after.specs.After.{sent, drained, granted, followed}
 use Rattle.router_core.specs.Replies.{handled}
-use Rattle.router_reply.specs.Acts.{Journaled, acts_of, admitted_acts, booked, book_in, finds_full, journaled, or_admits}
+use Rattle.reply_rows.specs.Acts.{Journaled, acts_of, admitted_acts, booked, book_in, finds_full, journaled, or_admits}
 use Rattle.router_reply.specs.Holding.{freed}
 use Rattle.router_reply.specs.Replies.{replied}
 use Rattle.router_reply.specs.Resuming.{resumed}

@@ -11,7 +11,7 @@ use Rattle.core_player.specs.declared.script.Step.{Step}
 use Rattle.core_player.specs.declared.script.Step.TheVariants as step
 use Rattle.router_trace.specs.Refusing.{rises}
 use Rattle.core_player.specs.Listening.{door_for}
-use Rattle.router_reply.specs.Acts.{Journaled, journaled}
+use Rattle.reply_rows.specs.Acts.{Journaled, journaled}
 use Rattle.router_play.specs.Script.{Scene, router_on, opening_on, book_line, say, refused, hand, made, lose, Takes, Flushes, Plays, PlaysAll}
 use Rattle.router_play.specs.Carrying.{after_up, role_in, door_in, bytes_of, bytes_in, door_says, passed, Carries, RunsCarry}
 use Rattle.state_connections.proofs.Lists.{by_test}

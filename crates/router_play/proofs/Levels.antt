@@ -31,7 +31,7 @@ use Rattle.reply_transfers.specs.Transfers.{part_put, settled_answers}
 use Rattle.router_reply.specs.Resuming.{resumed}
 use Rattle.router_reply.specs.Replies.{closing_of, ends, heard, stolen_by, refused, bound_by, item_row, own_row, replied}
 use Rattle.router_after.specs.After.{widened, followed}
-use Rattle.router_reply.specs.Acts.{answer_of, book_in, booked}
+use Rattle.reply_rows.specs.Acts.{answer_of, book_in, booked}
 use Rattle.router_core.specs.Replies.{answered, handled}
 use Rattle.core_machine.specs.Moves.{waiting_of}
 use Rattle.router_core.specs.Moves.{IsTrace, outs}

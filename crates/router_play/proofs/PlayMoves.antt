@@ -3,7 +3,7 @@ use Rattle.std.proofs.Common.{◌≡◌, ◌∙◌, sym, ap, refl, subst, ℕ, B
 use Rattle.std.specs.Prelude.{map, length, Option, Some, None, if◌then◌else◌}
 use Rattle.amqp_model.specs.declared.item.Item.{Item}
 use Rattle.router_play.specs.Script.{router_on}
-use Rattle.router_reply.specs.Acts.{Journaled}
+use Rattle.reply_rows.specs.Acts.{Journaled}
 use Rattle.router_trace.specs.Configuration.{beginning}
 use Rattle.router_trace.specs.declared.event.ConnectionId.{ConnectionId}
 use Rattle.router_trace.specs.declared.event.PeerRole.{PeerRole}

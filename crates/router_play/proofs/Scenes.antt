@@ -7,7 +7,7 @@ use Rattle.route_table.specs.Settings.{Settings}
 use Rattle.core_player.specs.declared.line.Line.{Line}
 use Rattle.core_player.specs.declared.script.Step.{Step}
 use Rattle.router_play.specs.declared.script.Run.{Run}
-use Rattle.router_reply.specs.Acts.{Journaled, journaled}
+use Rattle.reply_rows.specs.Acts.{Journaled, journaled}
 use Rattle.router_play.specs.Script.{Scene, opening_on, run_line, Plays, PlaysAll, no_book, book_line}
 pub use Rattle.core_player.proofs.Scenes.{back}
 

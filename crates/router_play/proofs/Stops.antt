@@ -17,7 +17,7 @@ use Rattle.route_table.specs.Settings.{Settings}
 use Rattle.router_trace.specs.declared.event.Event.{Event}
 use Rattle.router_trace.specs.Configuration.{opened}
 use Rattle.router_trace.specs.Trace.{Beginning, Entry, did}
-use Rattle.router_reply.specs.Acts.{Journaled, acts_of, book_in, booked, journaled}
+use Rattle.reply_rows.specs.Acts.{Journaled, acts_of, book_in, booked, journaled}
 use Rattle.core_machine.specs.Meaning.{Kept, KeptAt}
 use Rattle.core_machine.specs.Moves.{Move, GoesInTurnBy}
 use Rattle.core_machine.specs.Opened.{IsOpened}

@@ -7,7 +7,7 @@ use Rattle.core_player.specs.declared.line.Line.{Line}
 use Rattle.core_player.specs.declared.line.Line.TheVariants as line
 use Rattle.core_player.specs.Telling.{TellsOf}
 use Rattle.book_model.specs.Book.{BookView}
-use Rattle.router_reply.specs.Acts.{journaled}
+use Rattle.reply_rows.specs.Acts.{journaled}
 use Rattle.router_trace.specs.Trace.{Trace}
 use Rattle.router_core.specs.declared.router.Core.{Core}
 use Rattle.router_core.specs.Handling.{Fits}

@@ -17,7 +17,7 @@ use Rattle.core_player.specs.declared.script.Step.TheVariants as step
 use Rattle.router_trace.specs.Trace.{Trace, Did, Out, Took, Bound, Booked, Began}
 use Rattle.router_trace.specs.Connection.{conn, is_live}
 use Rattle.router_trace.specs.Refusing.{rises}
-use Rattle.router_reply.specs.Acts.{Journaled, journaled}
+use Rattle.reply_rows.specs.Acts.{Journaled, journaled}
 use Rattle.core_door.specs.Door.{Verdict, says, passes, ends, door, door_after}
 use Rattle.router_core.specs.Moves.{IsTrace, ins, outs}
 use Rattle.core_player.specs.Listening.{door_for}

@@ -4,7 +4,7 @@ use Rattle.disk_core.specs.Twin.{Contents}
 use Rattle.router_trace.specs.declared.event.Event.{Event}
 use Rattle.router_trace.specs.Trace.{Trace, did}
 use Rattle.router_trace.specs.Configuration.{opened}
-use Rattle.router_reply.specs.Acts.{acts_of, booked}
+use Rattle.reply_rows.specs.Acts.{acts_of, booked}
 use Rattle.core_machine.specs.Meaning.{Kept}
 use Rattle.core_machine.specs.Moves.{Move}
 use Rattle.core_player.specs.declared.entry.Entry.{Entry}

@@ -4,7 +4,7 @@ use Rattle.std.specs.Prelude.{◌≡◌, ℕ, false, List, [], ◌∷◌}
 use Rattle.router_trace.specs.declared.event.Event.{Event}
 use Rattle.router_trace.specs.Trace.{Trace, Beginning, did}
 use Rattle.router_trace.specs.Configuration.{opened}
-use Rattle.router_reply.specs.Acts.{book_in, booked}
+use Rattle.reply_rows.specs.Acts.{book_in, booked}
 use Rattle.core_machine.specs.Moves.{Move, GoesInTurnBy}
 use Rattle.core_machine.specs.Turns.{declines}
 use Rattle.router_core.specs.Replies.{handled}

@@ -9,7 +9,7 @@ use Rattle.router_trace.specs.declared.event.Event.{Event}
 use Rattle.router_trace.specs.declared.event.Event.TheVariants as event
 use Rattle.router_trace.specs.Configuration.{beginning}
 use Rattle.router_trace.specs.Trace.{Beginning, did}
-use Rattle.router_reply.specs.Acts.{Journaled, booked, journaled}
+use Rattle.reply_rows.specs.Acts.{Journaled, booked, journaled}
 use Rattle.router_core.specs.Replies.{handled}
 use Rattle.core_door.specs.declared.door.Door.{Door as DoorState}
 use Rattle.core_door.specs.Door.{Verdict}

@@ -5,7 +5,7 @@ use Rattle.book_model.specs.Book.{BookView}
 use Rattle.disk_core.specs.Twin.{Contents}
 use Rattle.journal_codec.specs.Batches.{book_after}
 use Rattle.twin_journal.specs.Holding.{TwinHolds, OpensTo}
-use Rattle.router_reply.specs.Acts.{Journaled, book_in}
+use Rattle.reply_rows.specs.Acts.{Journaled, book_in}
 use Rattle.router_trace.specs.Trace.{Trace}
 use Rattle.core_player.specs.declared.entry.Entry.{Entry}
 use Rattle.router_play.specs.Entries.{ShowsLives}

@@ -12,7 +12,7 @@ ghost use Rattle.router_play.specs.Ending.{IsSizeOf, TellsOf, size_line};
 ghost use Rattle.router_play.specs.Script.{Scene, opening_on, run_line, Plays, PlaysAll, no_book, book_line};
 ghost use Rattle.router_play.specs.Stopping.{EndsLives, HoldsJournal};
 ghost use Rattle.router_play.specs.Entries.{Survives};
-ghost use Rattle.router_reply.specs.Acts.{Journaled, book_in, journaled};
+ghost use Rattle.reply_rows.specs.Acts.{Journaled, book_in, journaled};
 ghost use Rattle.router_trace.specs.Trace.{Trace};
 
 use crate::finish::{Ended, Size, graver};

@@ -18,8 +18,8 @@ use Rattle.state_messages.specs.Messages.{with_bound}
 use Rattle.reply_rows.specs.declared.answer.Answer.{Answer}
 use Rattle.reply_rows.specs.declared.answer.Answer.TheVariants.{Attach, Refuse, Taken, Settle}
 use Rattle.reply_rows.specs.Rows.{said}
-use Rattle.router_reply.specs.Acts.{answer_of, book_found, book_in}
-use Rattle.router_reply.specs.Resuming.{key_in, attach_within, map_for}
+use Rattle.reply_rows.specs.Acts.{answer_of, book_found, book_in}
+use Rattle.reply_rows.specs.Resuming.{key_in, attach_within, map_for}
 use Rattle.reply_transfers.specs.Transfers.{part_put, part_bound, disposition_in, given_after}
 use Rattle.router_reply.specs.Replies.{item_row, item_bound, item_put, links_put, put_for_transfer, put_for_disposition, bound_for, settled_put, put_for_attach, put_if_attach, attach_put, row_found, after_answer}
 use Rattle.router_reply.proofs.Puts.{goes_both}

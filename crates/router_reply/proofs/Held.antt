@@ -14,7 +14,7 @@ use Rattle.router_trace.specs.Trace.{Entry}
 use Rattle.router_state.specs.declared.tables.State.{State}
 use Rattle.router_state.specs.Tables.{TablesFit}
 use Rattle.state_connections.proofs.Lists.{by_test}
-use Rattle.router_reply.specs.Asking.{all_rows}
+use Rattle.reply_rows.specs.Asking.{all_rows}
 use Rattle.router_reply.specs.Holding.{held_to, held_if, rows_held, with_held, freed_by}
 
 -- one, and then the others

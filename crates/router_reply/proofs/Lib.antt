@@ -1,6 +1,6 @@
 pub mod Puts
 pub mod After
 mod Answering
-mod Planned
+pub mod Chosen
 mod Refused
 pub mod Held

@@ -1,7 +1,6 @@
 -- What a producer's durable link has from its attach on (AMQP 1.0 part 2, section 2.6.13): the rows of its terminus that are in the book after the attach,
 -- until its producer resumes or settles them; those that it has settled, until they are decided.
 use Rattle.std.specs.Prelude.{Bool, true, false, if◌then◌else◌, List, [], ◌∷◌, Option, Some, None}
-use Rattle.amqp_model.specs.declared.perf.Attach.{Attach as AnAttach}
 use Rattle.book_model.specs.Book.{BookView, terminus_of}
 use Rattle.book_model.specs.declared.act.Act.{Act}
 use Rattle.book_model.specs.declared.act.Act.TheVariants.{Make, Admit, Decide, Forget, Drop}
@@ -12,21 +11,11 @@ use Rattle.router_trace.specs.declared.binding.DeliveryName.TheVariants as name
 use Rattle.router_trace.specs.declared.binding.Holding.{Holding}
 use Rattle.router_trace.specs.declared.binding.Holding.TheVariants as holding
 use Rattle.router_trace.specs.declared.binding.Origin.{Origin}
-use Rattle.router_trace.specs.declared.event.Event.{Event}
 use Rattle.router_trace.specs.declared.handle.Attachment.{Attachment}
 use Rattle.router_trace.specs.Trace.{Trace, Bound}
 use Rattle.router_trace.specs.Deliveries.{called, joined_by, owned_in}
 use Rattle.router_trace.specs.Links.{holder}
-use Rattle.reply_rows.specs.declared.answer.Answer.{Answer}
-use Rattle.router_reply.specs.Asking.{all_rows, attach_in, receives, taken_key}
-
--- the key of the producer's durable link which an event's attach asks for, if its answer takes it
-abbrev pub if_sends : Option AnAttach → Option LinkKey → Option LinkKey
-if_sends None key = None
-if_sends (Some a) key = if receives a.role then None else key
-
-abbrev pub held_key : Trace → Event → Answer → Option LinkKey
-held_key t e answer = if_sends (attach_in e) (taken_key t e answer)
+use Rattle.reply_rows.specs.Asking.{all_rows}
 
 -- Its rows are joined to the link, one after another, if it is attached.
 abbrev pub as_held : Attachment → Row → Holding

@@ -1,12 +1,5 @@
-pub mod Acts
-pub mod Admitting
-pub mod Asking
-pub mod Deciding
-pub mod Doing
 pub mod Heard
 pub mod Holding
-pub mod Joining
-pub mod Planning
 pub mod Replies
 pub mod Resuming
 pub use Rattle.router_trace.specs.Trace

@@ -31,10 +31,10 @@ use Rattle.reply_rows.specs.declared.answer.Answer.{Answer}
 use Rattle.reply_rows.specs.declared.answer.Answer.TheVariants.{Attach, Refuse, Taken, Settle}
 use Rattle.reply_rows.specs.Rows.{said, down_reply}
 use Rattle.reply_transfers.specs.Transfers.{settled_answers, part_put, part_bound}
-use Rattle.router_reply.specs.Acts.{answer_of, book_found, book_in, found_acts}
-use Rattle.router_reply.specs.Admitting.{row_in}
-use Rattle.router_reply.specs.Asking.{key_taken}
-use Rattle.router_reply.specs.Resuming.{map_for}
+use Rattle.reply_rows.specs.Acts.{answer_of, book_found, book_in, found_acts}
+use Rattle.reply_rows.specs.Admitting.{row_in}
+use Rattle.reply_rows.specs.Asking.{key_taken}
+use Rattle.reply_rows.specs.Resuming.{map_for}
 
 -- a connection is closed with an error: its open comes before the close if it isn't written yet
 abbrev pub closing_of : List ℕ → Option Connection → Condition → List Item

@@ -7,10 +7,11 @@ ghost use Rattle.router_trace.specs.Links.{link_place};
 ghost use Rattle.router_trace.specs.Settling.{part_of};
 ghost use Rattle.state_links.specs.Fits.{channel_of};
 ghost use Rattle.router_state.specs.Tables.{TablesFit, beats};
-ghost use Rattle.router_reply.specs.Acts.{answer_of, answer_to_event, book_in};
+ghost use Rattle.reply_rows.specs.Acts.{answer_of, answer_to_event, book_in};
+ghost use Rattle.reply_rows.specs.Admitting.{ChosenFor, ChoseUnlessEnds, EventChose};
 ghost use Rattle.router_reply.specs.Heard.{ids_named, ItemHeard, IsHeard};
-ghost use Rattle.router_reply.specs.Planning.{HasTold};
-ghost use Rattle.router_reply.specs.Resuming.{map_resumed, told_map};
+ghost use Rattle.reply_rows.specs.Planning.{HasTold};
+ghost use Rattle.reply_rows.specs.Resuming.{map_resumed, told_map};
 ghost use Rattle.reply_transfers.specs.Transfers.{given_after, disposition_in};
 ghost use Rattle.router_reply.specs.Replies.{replied, replied_after, after_answer, attach_put, settled_put, row_found};
 ghost use Rattle.router_trace.specs.declared.event.Event.TheVariants as event;
@@ -18,16 +19,14 @@ ghost use Rattle.router_trace.specs.declared.event.Event.TheVariants as event;
 use crate::attaching::answer_item;
 use crate::closing::{close_all, say};
 use crate::heard::Heard;
-use crate::plan::Plan;
-use crate::resuming::told_map;
 use amqp_conn::Conn;
 use amqp_model::Item;
 use book_core::Book;
 use book_model::RowNumber;
-use reply_rows::Answer;
+use reply_rows::{Answer, Plan, told_map};
 use reply_transfers::{disposition_in, settle, take_part};
 use router_state::{LinkPlace, State};
-use router_trace::{ConnectionId, Event, RouterId};
+use router_trace::{Attachment, ConnectionId, Event, RouterId};
 use std::alloc::AllocError;
 use std::mem;
 
@@ -59,9 +58,11 @@ fn begin_item(
     item: &Item,
     answer: &Answer,
     row: Option<RowNumber>,
+    consumer: Option<Attachment>,
     heard: &mut Heard,
 ) -> Result<(), AllocError>
-    ensures { OnOk result ((t after : List Entry) → TablesFit state.old after → ItemHeard t conn item.now answer.now heard.old → answer.now ≡ answer_of t conn.0 phase item.now
+    ensures { OnOk result ((t after : List Entry) → TablesFit state.old after → ItemHeard t conn item.now answer.now heard.old → ChosenFor after conn.0 answer.now consumer
+        → answer.now ≡ answer_of t conn.0 phase item.now
         → book.now ≡ book_in t → row ≡ row_found t → (u : List Entry) × TablesFit state.new u
         × (goes (attach_put u conn.0 (told_map t (event.Item conn item.now) answer.now) item.now answer.now) u ≡ after_answer id.now t after conn.0 phase item.now answer.now)) }
 {
@@ -72,7 +73,7 @@ fn begin_item(
                 own: *own,
                 handle: *handle,
             };
-            take_part(state, id, book, at, row, heard.part.take())
+            take_part(state, id, book, at, row, consumer, heard.part.take())
         }
         Answer::Settle { own } => on_settle(state, id, conn, *own, item, &heard.ids),
         _ => say(state, id, conn.0, phase, answer),
@@ -94,7 +95,8 @@ fn on_item(
     ensures fits { OnOk result ((t after : List Entry) → TablesFit state.old after → plan.old.phase ≡ standing (found t (event.Item conn item) conn.0)
         → plan.old.answer ≡ answer_to_event t (event.Item conn item) → book.now ≡ book_in t → row ≡ row_found t
         → map_resumed plan.old.resumption ≡ told_map t (event.Item conn item) plan.old.answer
-        → ItemHeard t conn item plan.old.answer heard.old → TablesFit state.new (replied_after id.now t after (event.Item conn item))) }
+        → ItemHeard t conn item plan.old.answer heard.old → ChosenFor after conn.0 plan.old.answer plan.old.consumer
+        → TablesFit state.new (replied_after id.now t after (event.Item conn item))) }
 {
     let Some(phase) = plan.phase else {
         drop(item);
@@ -109,6 +111,7 @@ fn on_item(
         &item,
         &plan.answer,
         row,
+        plan.consumer,
         heard,
     ) else {
         drop(item);
@@ -140,7 +143,8 @@ fn own_row(
     ensures plan { HasTold plan.old plan.new }
     ensures fits { OnOk result ((t after : List Entry) → TablesFit state.old after → plan.old.phase ≡ phase_found t event → plan.old.answer ≡ answer_to_event t event
         → book.now ≡ book_in t → row ≡ row_found t → map_resumed plan.old.resumption ≡ told_map t event plan.old.answer
-        → IsHeard t event plan.old.answer heard.old → TablesFit state.new (replied_after id.now t after event)) }
+        → IsHeard t event plan.old.answer heard.old → EventChose after event plan.old.answer plan.old.consumer
+        → TablesFit state.new (replied_after id.now t after event)) }
 {
     match event {
         Event::Item(conn, item) => on_item(state, id, book, conn, item, plan, row, heard),
@@ -155,7 +159,8 @@ fn own_row(
 }
 
 /// Replies to an event that was decided and heard so, by the book after its acts and the row that these admit: the closes of the connections whose
-/// outboxes were full, then the event's own row. What the plan has of the router's map is told, and is no longer in it.
+/// outboxes were full, then the event's own row. A message is bound to the consumer in the plan, if one was chosen. What the plan has of the router's
+/// map is told, and is no longer in it.
 ///
 /// # Errors
 ///
@@ -172,7 +177,8 @@ pub fn reply(
     ensures plan { HasTold plan.old plan.new }
     ensures fits { OnOk result ((t : List Entry) → TablesFit state.old (did event ∷ t) → plan.old.ends.items ≡ due t event → plan.old.phase ≡ phase_found t event
         → plan.old.answer ≡ answer_to_event t event → book.now ≡ book_in t → row ≡ row_found t → map_resumed plan.old.resumption ≡ told_map t event plan.old.answer
-        → IsHeard t event plan.old.answer heard.old → TablesFit state.new (replied id.now t (step_of event))) }
+        → IsHeard t event plan.old.answer heard.old → ChoseUnlessEnds plan.old.ends.items (did event ∷ t) event plan.old.answer plan.old.consumer
+        → TablesFit state.new (replied id.now t (step_of event))) }
 {
     let Ok(()) = close_all(state, id, &plan.ends) else {
         drop(event);

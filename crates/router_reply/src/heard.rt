@@ -6,12 +6,11 @@ ghost use Rattle.router_trace.specs.Refusing.{refuses};
 ghost use Rattle.router_trace.specs.declared.event.Event.TheVariants as event;
 ghost use Rattle.router_state.specs.Tables.{TablesFit, TablesAt, TablesFind, beats};
 ghost use Rattle.router_reply.specs.Heard.{ids_found, ItemHeard, IsHeard};
-ghost use Rattle.router_reply.specs.Planning.{IsChange, IsSession};
+ghost use Rattle.reply_rows.specs.Planning.{IsChange, IsSession};
 
-use crate::plan::Plan;
 use amqp_link::Part;
 use amqp_model::Item;
-use reply_rows::Answer;
+use reply_rows::{Answer, Plan};
 use reply_transfers::{disposition_in, last_of};
 use router_state::State;
 use router_trace::{ConnectionId, Event, Outgoing};

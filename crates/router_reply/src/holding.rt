@@ -9,7 +9,7 @@ ghost use Rattle.reply_rows.specs.Booking.{sent_rows};
 ghost use Rattle.router_trace.specs.Deliveries.{joined_by};
 ghost use Rattle.router_trace.specs.Trace.{Bound, Entry};
 ghost use Rattle.router_state.specs.Tables.{TablesFit};
-ghost use Rattle.router_reply.specs.Asking.{all_rows};
+ghost use Rattle.reply_rows.specs.Asking.{all_rows};
 ghost use Rattle.router_reply.specs.Holding.{as_held, held_to, held_if, with_held, freed_by, freed_from, freed};
 
 use book_core::{Book, Rows};

@@ -15,7 +15,7 @@ ghost use Rattle.router_trace.specs.Following.{link_of, is_unsent_on, is_wide, i
 ghost use Rattle.state_deliveries.specs.Calling.{Knows};
 ghost use Rattle.state_deliveries.specs.Hearing.{heard_change};
 ghost use Rattle.state_deliveries.specs.Finding.{IsFirst, IsFirstBy, is_above, is_beyond};
-ghost use Rattle.state_messages.specs.Messages.{attachment_at, consumer_of, binding_for, taken_up_by, with_bound, grants_due, grant_flow};
+ghost use Rattle.state_messages.specs.Messages.{IsChosen, attachment_at, consumer_of, binding_for, taken_up_by, with_bound, grants_due, grant_flow};
 ghost use Rattle.state_messages.specs.Asking.{consumer_with, has_unsent, goes_on, owes_drain, drained_state};
 ghost use Rattle.router_trace.specs.Trace.{Bound as BoundTo, Entry, Out, Took, did, newest, goes, puts_of};
 ghost use Rattle.router_trace.specs.Sessions.{free_channel};
@@ -421,20 +421,23 @@ impl State {
             .attachment(at.conn.0, at.own, at.handle)
     }
 
-    /// Binds a message of a producer's link to the chosen consumer of its address; returns whether there is one. A durable message comes with
-    /// the number of its row.
+    /// Binds a message of a producer's link to the chosen consumer of its address; returns whether there is one. If [`State::consumer_for`] was
+    /// asked for this message, `known` is what it answered, and none is chosen again. A durable message comes with the number of its row.
     pub fn pass(
         &mut self,
         from: Attachment,
+        known: Option<Attachment>,
         origin: Option<Origin>,
         row: Option<RowNumber>,
         format: u32,
         payload: Bytes,
     ) -> Result<bool, AllocError>
-        ensures chosen { IfOk result (λ chosen. (t : List Entry) → TablesFit self.old t → chosen ≡ is_some (consumer_of t (link_of t from))) }
-        ensures bound { OnOk result ((t : List Entry) → TablesFit self.old t → TablesFit self.new (with_bound (binding_for t from origin row format payload) t)) }
+        ensures chosen { IfOk result (λ chosen. (t : List Entry) → IsChosen t (link_of t from) known → TablesFit self.old t → chosen ≡ is_some (consumer_of t (link_of t from))) }
+        ensures bound { OnOk result ((t : List Entry) → IsChosen t (link_of t from) known → TablesFit self.old t → TablesFit self.new (with_bound (binding_for t from origin row format payload) t)) }
     {
-        let chosen = self.messages.pass(from, origin, row, format, payload)?;
+        let chosen = self
+            .messages
+            .pass(from, known, origin, row, format, payload)?;
         Ok(chosen)
     }
 

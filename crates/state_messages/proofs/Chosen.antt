@@ -98,6 +98,19 @@ chosen_last t address id v c is a =
     ∙ ap (λ b. if b && bytes_eq c.link.address a then id else last_chosen t a) c.number
     ∙ ap (λ b. if bytes_eq b a then id else last_chosen t a) c.same
 
+-- so does one that was chosen before
+pub known_last : (t : Trace) (address : List ℕ) (consumer : Attachment) → option_and_then (numbered t) (choice_of t address) ≡ Some consumer
+    → (a : List ℕ) → last_after t (Some consumer) a ≡ chosen_at address (Some consumer.number) (last_chosen t) a
+unfolding choice_of
+known_last t address consumer is a = by (choice (pool_of t address)) refl is
+  where
+    by : (v : Option ℕ) → choice (pool_of t address) ≡ v → option_and_then (numbered t) v ≡ Some consumer
+        → last_after t (Some consumer) a ≡ chosen_at address (Some consumer.number) (last_chosen t) a
+    by None e is = absurd cc
+    by (Some id) e is =
+        chosen_last t address id (Some consumer) (chosen_stands t address id e) (sym is) a
+        ∙ ap (λ (k : ℕ). chosen_at address (Some k) (last_chosen t) a) (sym (number_is t id consumer is))
+
 -- if no consumer is chosen, nothing is noted
 pub none_last : (t : Trace) (address : List ℕ) (a : List ℕ) → last_after t None a ≡ chosen_at address None (last_chosen t) a
 none_last t address a = by_test (bytes_eq address a) (λ e. ap (λ b. if b then last_chosen t a else last_chosen t a) (sym e)) (λ e. ap (λ b. if b then last_chosen t a else last_chosen t a) (sym e))

@@ -1,5 +1,5 @@
 -- Messages that go from a producer to a consumer of its address, and the credit granted to producers.
-use Rattle.std.specs.Prelude.{ℕ, zero, suc, Bool, false, ◌+◌, ◌==◌, ◌&&◌, if◌then◌else◌, List, [], ◌∷◌, ◌++◌, bytes_eq, nat_lt, Option, Some, None, is_some, option_and_then, option_map}
+use Rattle.std.specs.Prelude.{◌≡◌, ℕ, zero, suc, Bool, false, ◌+◌, ◌==◌, ◌&&◌, if◌then◌else◌, List, [], ◌∷◌, ◌++◌, bytes_eq, nat_lt, Option, Some, None, is_some, option_and_then, option_map}
 use Rattle.std.specs.Cmp.Lexicographic.{slice_cmp}
 use Rattle.std.specs.Ordering.{nat_cmp}
 use Rattle.std.specs.declared.cmp.Ordering.{Ordering}
@@ -62,6 +62,11 @@ choice_of t address = choice (pool_of t address)
 abbrev pub consumer_of : Trace → Option Link → Option Attachment
 consumer_of t None = None
 consumer_of t (Some l) = option_and_then (numbered t) (choice_of t l.address)
+
+-- if this is a consumer, it is the one chosen for a message of a producer's link
+abbrev pub IsChosen : Trace → Option Link → Option Attachment → Type 0
+IsChosen t l None = Unit {0}
+IsChosen t l (Some consumer) = consumer_of t l ≡ Some consumer
 
 -- an attachment's link is durable
 abbrev pub lasts : Trace → Attachment → Bool

@@ -13,7 +13,7 @@ ghost use Rattle.state_pools.specs.Sharing.{address_in, Figure};
 ghost use Rattle.route_credit.specs.Pool.{by_id};
 ghost use Rattle.state_messages.specs.Figures.{figure};
 ghost use Rattle.state_messages.specs.Fits.{NotedFit, MessagesFit, Untouched};
-ghost use Rattle.state_messages.specs.Messages.{choice_of, consumer_of, grant_at, grant_by, grants, grants_on, lent, or_owed, owed, owes_some, last_after, last_chosen, binding_for, payload_as, taken_up_by, with_bound};
+ghost use Rattle.state_messages.specs.Messages.{IsChosen, choice_of, consumer_of, grant_at, grant_by, grants, grants_on, lent, or_owed, owed, owes_some, last_after, last_chosen, binding_for, payload_as, taken_up_by, with_bound};
 
 use crate::durable::lasts;
 use crate::figures::tell;
@@ -22,7 +22,7 @@ use crate::messages::Messages;
 use amqp_model::DeliveryState;
 use book_model::RowNumber;
 use bytes::Bytes;
-use route_credit::ProducerId;
+use route_credit::{ConsumerId, ProducerId};
 use router_trace::{
     Attachment, Binding, BindingKind, ConnectionId, DeliveryName, Holding, LinkState, Origin,
     Resumed, TakenUp,
@@ -69,21 +69,23 @@ impl Messages {
         Err(AllocError)
     }
 
-    /// Binds a message of a producer's link to the chosen consumer of its address; returns whether there is one. A durable message comes with the
-    /// number of its row. Fails if memory is refused, and if no binding number is left.
+    /// Binds a message of a producer's link to the chosen consumer of its address; returns whether there is one. If [`Messages::consumer_for`]
+    /// was asked for this message, `known` is what it answered, and none is chosen again. A durable message comes with the number of its row.
+    /// Fails if memory is refused, and if no binding number is left.
     pub fn pass(
         &mut self,
         from: Attachment,
+        known: Option<Attachment>,
         origin: Option<Origin>,
         row: Option<RowNumber>,
         format: u32,
         payload: Bytes,
     ) -> Result<bool, AllocError>
-        ensures chosen { IfOk result (λ chosen. (t : List Entry) → MessagesFit self.old t → chosen ≡ is_some (consumer_of t (link_of t from))) }
-        ensures fits { OnOk result ((t : List Entry) → MessagesFit self.old t → MessagesFit self.new (with_bound (binding_for t from origin row format payload) t)) }
+        ensures chosen { IfOk result (λ chosen. (t : List Entry) → IsChosen t (link_of t from) known → MessagesFit self.old t → chosen ≡ is_some (consumer_of t (link_of t from))) }
+        ensures fits { OnOk result ((t : List Entry) → IsChosen t (link_of t from) known → MessagesFit self.old t → MessagesFit self.new (with_bound (binding_for t from origin row format payload) t)) }
     {
         self.tell_all()?;
-        match self.choose(from) {
+        match self.choose(from, known) {
             None => {
                 drop(payload);
                 Ok(false)
@@ -184,14 +186,21 @@ impl Messages {
         }
     }
 
-    /// The consumer chosen for a message of a producer's link, after the pools were told of all links; it is noted as the last one.
-    fn choose(&mut self, from: Attachment) -> Option<Attachment>
-        ensures chosen { (t : List Entry) → Untouched self.old → MessagesFit self.old t → result ≡ consumer_of t (link_of t from) }
-        ensures fits { (t : List Entry) → Untouched self.old → MessagesFit self.old t → NotedFit self.new t (last_after t result) }
+    /// The consumer chosen for a message of a producer's link, after the pools were told of all links: `known`, if it was chosen before. It is
+    /// noted as the last one.
+    fn choose(&mut self, from: Attachment, known: Option<Attachment>) -> Option<Attachment>
+        ensures chosen { (t : List Entry) → IsChosen t (link_of t from) known → Untouched self.old → MessagesFit self.old t → result ≡ consumer_of t (link_of t from) }
+        ensures fits { (t : List Entry) → IsChosen t (link_of t from) known → Untouched self.old → MessagesFit self.old t → NotedFit self.new t (last_after t result) }
     {
-        match self.links.link(from) {
-            None => None,
-            Some(link) => choose_of(&mut self.pools, &self.links, link.number),
+        let Some(link) = self.links.link(from) else {
+            return None;
+        };
+        match known {
+            None => choose_of(&mut self.pools, &self.links, link.number),
+            Some(consumer) => {
+                self.pools.note(link.number, ConsumerId(consumer.number));
+                Some(consumer)
+            }
         }
     }
 

@@ -190,6 +190,17 @@ impl ByAddress {
         }
     }
 
+    /// Notes that this consumer is chosen for the next delivery of an address that has a pool.
+    #[inline]
+    pub(crate) fn note(&mut self, digest: u64, address: &[u8], consumer: ConsumerId)
+        requires { digest ≡ digest_of address.now }
+        ensures { is_some (in_row (row_of self.old address.now) address.now) ≡ true → (share : List ℕ → Distribution) (a : List ℕ) → pool_in share self.new a ≡ with_pool (pool_in share self.old) address.now (λ pool. chose pool (Some consumer.0)) a }
+    {
+        if let Some(row) = self.rows.get_mut(digest) {
+            row.note(address, consumer);
+        }
+    }
+
     /// The grants of an address.
     #[inline]
     pub(crate) fn grants(&mut self, address: &[u8]) -> Result<Vec<(ProducerId, u32)>, AllocError>

@@ -187,6 +187,20 @@ impl Pools {
         self.pools.choose(seat.digest, place)
     }
 
+    /// Notes that this consumer is chosen for the next delivery of the address that a link is at, as [`Pools::choose`] does with the one that it
+    /// chooses: for a caller that asked [`Pools::peek`] before.
+    #[inline]
+    pub fn note(&mut self, number: u64, consumer: ConsumerId)
+        ensures fits { (share : List ℕ → Distribution) (known : ℕ → Option Figure) (last : List ℕ → ℕ) (address : List ℕ) → PoolsFit self.old share known known last → NoneTouched self.old
+            → address_in (known number) ≡ Some address → PoolsFit self.new share known known (chosen_at address (Some consumer.0) last) }
+        ensures touched { (n : ℕ) → is_touched self.new n ≡ is_touched self.old n }
+    {
+        if let Some(seat) = self.seats.get(number) {
+            let place = seat.address.as_slice();
+            self.pools.note(seat.digest, place, consumer);
+        }
+    }
+
     /// The credit granted to the producers of the first address, in the order of bytes, that has grants, in order of
     /// attach; none if no address has any. The producers count as touched. If memory is refused, credit may be lent
     /// without any producer being told.

@@ -183,6 +183,16 @@ impl Row {
         }
     }
 
+    /// Notes that this consumer is chosen for the next delivery of an address that has a pool.
+    #[inline]
+    pub(crate) fn note(&mut self, address: &[u8], consumer: ConsumerId)
+        ensures { is_some (at self.old.pools address.now) ≡ true → (share : List ℕ → Distribution) (a : List ℕ) → pool_in_row share self.new a ≡ with_pool (pool_in_row share self.old) address.now (λ pool. chose pool (Some consumer.0)) a }
+    {
+        if let Some(pool) = self.pools.get_there_mut(address) {
+            pool.note(consumer);
+        }
+    }
+
     /// The grants of an address.
     #[inline]
     pub(crate) fn grants(&mut self, address: &[u8]) -> Result<Vec<(ProducerId, u32)>, AllocError>

@@ -33,7 +33,7 @@ use Rattle.router_trace.specs.Deliveries.{acts_found, outcome_among}
 use Rattle.router_trace.specs.Trace.{Trace, Beginning, Entry, Did, Out, Took, Bound, Booked, Began, Put, Step, did, goes, puts, each_to, step_of}
 use Rattle.state_messages.specs.Messages.{with_bound}
 use Rattle.resume_core.specs.Resuming.{entries_of, brief_outcome}
-use Rattle.router_reply.specs.Acts.{acts_of, book_in, booked}
+use Rattle.reply_rows.specs.Acts.{acts_of, book_in, booked}
 use Rattle.router_reply.specs.Replies.{closing_of, ends, heard, bound_by, own_row, replied}
 use Rattle.router_reply.specs.Resuming.{resumed}
 use Rattle.router_core.specs.Replies.{handled}

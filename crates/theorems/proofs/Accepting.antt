@@ -51,10 +51,10 @@ use Rattle.resume_core.specs.Resuming.{entries_of, told_of, outcome_told, outcom
 use Rattle.reply_rows.specs.declared.answer.Answer.{Answer}
 use Rattle.reply_rows.specs.declared.answer.Answer.TheVariants.{Close, CloseWith, End, Attach, Detach}
 use Rattle.reply_rows.specs.Booking.{wanted_key, wants_durable, rows_of, bound_rows, answer_at}
-use Rattle.router_reply.specs.Acts.{live_answer, event_answer, answer_acts, planned_acts, admitted_acts, or_admits, finds_full, journaled, book_in, acts_of}
-use Rattle.router_reply.specs.Admitting.{admits, event_admission}
-use Rattle.router_reply.specs.Asking.{asked_key, key_taken, attach_in, receives, resumed_key, rows_at, decided_for, map_decides}
-use Rattle.router_reply.specs.Deciding.{lost, listed, ended_by, stolen_from, stolen_in, stolen_for, session_found, event_changes, as_kept, decided, forgotten, terminus_of_event}
+use Rattle.reply_rows.specs.Acts.{live_answer, event_answer, answer_acts, planned_acts, admitted_acts, or_admits, finds_full, journaled, book_in, acts_of}
+use Rattle.reply_rows.specs.Admitting.{admits, event_admission}
+use Rattle.reply_rows.specs.Asking.{asked_key, key_taken, attach_in, receives, resumed_key, rows_at, decided_for, map_decides}
+use Rattle.reply_rows.specs.Deciding.{lost, listed, ended_by, stolen_from, stolen_in, stolen_for, session_found, event_changes, as_kept, decided, forgotten, terminus_of_event}
 use Rattle.theorems.specs.Accepting.{ByDisposition, ByMap, Accepts, by_disposition, by_map}
 use Rattle.theorems.proofs.Among.{Stands, stands_in_both, stands_in_filter, stands_in_gathered, stands_in_map, stands_in_filter_map, parts}
 use Rattle.theorems.proofs.Answering.{IfAttach, attach_answered}

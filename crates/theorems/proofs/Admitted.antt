@@ -40,11 +40,11 @@ use Rattle.state_messages.specs.Messages.{choice_of, consumer_of, binding_to, la
 use Rattle.reply_rows.specs.declared.answer.Answer.{Answer}
 use Rattle.reply_rows.specs.declared.answer.Answer.TheVariants.{Nothing, Taken}
 use Rattle.reply_rows.specs.Booking.{answer_at}
-use Rattle.router_reply.specs.Acts.{live_answer, event_answer, planned_acts, admitted_acts, or_admits, event_acts, finds_full, journaled, book_in, acts_of, booked, answer_of}
+use Rattle.reply_rows.specs.Acts.{live_answer, event_answer, planned_acts, admitted_acts, or_admits, event_acts, finds_full, journaled, book_in, acts_of, booked, answer_of}
 use Rattle.reply_transfers.specs.Transfers.{claimed_id, from_link, origin_of, lasts_on, may_pass, fresh_bound, join_from, joined_if, resumed_bound, whole_bound, part_bound}
 use Rattle.reply_transfers.specs.Joining.{row_under}
-use Rattle.router_reply.specs.Admitting.{terminus_for, admitted_to, whole_admission, part_admission, taken_admission, unless_ends, event_admission, admits, row_in, without_acts}
-use Rattle.router_reply.specs.Deciding.{decided, forgotten, terminus_of_event}
+use Rattle.reply_rows.specs.Admitting.{terminus_for, admitted_to, whole_admission, part_admission, taken_admission, unless_ends, event_admission, admits, row_in, without_acts}
+use Rattle.reply_rows.specs.Deciding.{decided, forgotten, terminus_of_event}
 use Rattle.router_reply.specs.Replies.{row_found, ends, heard, bound_for, item_bound, bound_by}
 use Rattle.theorems.specs.Admitted.{IsFromTerminus, IsAdmitted, IsAdmittedUnder}
 use Rattle.theorems.proofs.Arriving.{CameAt, came_whole, bound_on, bound_there}

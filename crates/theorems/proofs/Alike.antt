@@ -11,7 +11,7 @@ use Rattle.router_trace.specs.Connection.{Connection, conn, phase_after, with_it
 use Rattle.state_messages.specs.Messages.{with_bound}
 use Rattle.router_reply.specs.Resuming.{resumed}
 use Rattle.router_reply.specs.Replies.{closing_of, ends as ends_of, heard, bound_by, own_row, replied}
-use Rattle.router_reply.specs.Acts.{booked}
+use Rattle.reply_rows.specs.Acts.{booked}
 use Rattle.router_core.specs.Replies.{answered, handled}
 use Rattle.router_core.specs.Moves.{ins, with_came}
 use Rattle.state_connections.proofs.Lists.{by_test}

@@ -31,7 +31,7 @@ use Rattle.reply_rows.specs.declared.answer.Answer.{Answer}
 use Rattle.reply_rows.specs.declared.answer.Answer.TheVariants.{Attach, Refuse, Taken, Settle}
 use Rattle.reply_rows.specs.Rows.{said}
 use Rattle.router_reply.specs.Replies.{closing_of, ends, heard, refused, map_told, bound_for, item_put, after_answer, item_bound, item_row, bound_by, own_row, replied_after, replied}
-use Rattle.router_reply.specs.Acts.{found_journal, full_at, answer_of, booked}
+use Rattle.reply_rows.specs.Acts.{found_journal, full_at, answer_of, booked}
 use Rattle.router_reply.specs.Resuming.{resumed}
 use Rattle.router_core.specs.Replies.{answered, handled}
 use Rattle.core_machine.specs.Moves.{took_one}

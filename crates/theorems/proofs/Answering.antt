@@ -53,8 +53,8 @@ use Rattle.reply_rows.specs.Finding.{finds}
 use Rattle.reply_rows.specs.LinkRows.{refusal, attach_or, attach_fresh, attach_at, session_attach_reply, is_multicast_link}
 use Rattle.reply_rows.specs.Rows.{Finds, Links, attach_reply, out_of_turn, turn_by, item_reply}
 use Rattle.router_trace.specs.Sessions as sessions
-use Rattle.router_reply.specs.Acts.{book_in, booked}
-use Rattle.router_reply.specs.Admitting.{terminus_for}
+use Rattle.reply_rows.specs.Acts.{book_in, booked}
+use Rattle.reply_rows.specs.Admitting.{terminus_for}
 use Rattle.router_reply.specs.Replies.{closing_of, ends, heard, bound_by}
 use Rattle.state_connections.proofs.Lists.{by_test}
 use Rattle.router_core.proofs.Replied.{FoundLive, found_live}

@@ -22,7 +22,7 @@ use Rattle.reply_rows.specs.Finding.{finds}
 use Rattle.router_reply.specs.Resuming.{resumed}
 use Rattle.router_reply.specs.Replies.{heard, bound_by, own_row, replied}
 use Rattle.router_after.specs.After.{widened}
-use Rattle.router_reply.specs.Acts.{booked}
+use Rattle.reply_rows.specs.Acts.{booked}
 use Rattle.router_core.specs.Replies.{answered, handled}
 use Rattle.core_machine.specs.Moves.{Taking, took_one}
 use Rattle.router_core.specs.Moves.{Goes, outs}

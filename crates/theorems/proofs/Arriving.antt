@@ -32,7 +32,7 @@ use Rattle.router_trace.specs.Settling.{is_claimed_on, is_of_link, unbound, part
 use Rattle.state_messages.specs.Messages.{consumer_of, binding_to, with_bound}
 use Rattle.reply_transfers.specs.Transfers.{claimed_id, from_link, origin_of, lasts_on, may_pass, fresh_bound, join_from, resumed_bound, resumed_put, whole_put, whole_bound, part_put, part_bound, let_go, released_by, released, unbound_put, ignored_put}
 use Rattle.reply_transfers.specs.Joining.{row_under}
-use Rattle.router_reply.specs.Acts.{book_in}
+use Rattle.reply_rows.specs.Acts.{book_in}
 use Rattle.router_reply.specs.Replies.{row_found}
 use Rattle.theorems.specs.Came.{Handled, just_handled, bound_since, CameWhole, ComesFrom, HasRowOn, JoinsRow}
 use Rattle.theorems.specs.Told.{IsUnbound}

@@ -26,8 +26,8 @@ use Rattle.state_deliveries.specs.declared.change.Change.TheVariants as change
 use Rattle.state_deliveries.specs.declared.change.Gone.TheVariants as gone
 use Rattle.state_deliveries.specs.Stepping.{is_gone, changed}
 use Rattle.reply_rows.specs.Booking.{wanted_key}
-use Rattle.router_reply.specs.Acts.{book_in}
-use Rattle.router_reply.specs.Deciding.{stolen_from}
+use Rattle.reply_rows.specs.Acts.{book_in}
+use Rattle.reply_rows.specs.Deciding.{stolen_from}
 use Rattle.router_reply.specs.Replies.{stolen_by, with_map, attach_answer, taken_after, taken, refused}
 use Rattle.state_connections.proofs.Lists.{by_test}
 use Rattle.theorems.proofs.Changing.{Alike, leaves_changed, alike_ends}

@@ -33,8 +33,8 @@ use Rattle.router_trace.specs.declared.condition.Condition.TheVariants.{Resource
 use Rattle.router_trace.specs.declared.event.Event.{Event}
 use Rattle.router_trace.specs.declared.event.Event.TheVariants as event
 use Rattle.state_messages.specs.Messages.{lasts, with_bound}
-use Rattle.router_reply.specs.Acts.{event_answer, answer_acts, planned_acts, finds_full, journaled, book_found, book_in, acts_of, booked}
-use Rattle.router_reply.specs.Asking.{resumed_key}
+use Rattle.reply_rows.specs.Acts.{event_answer, answer_acts, planned_acts, finds_full, journaled, book_found, book_in, acts_of, booked}
+use Rattle.reply_rows.specs.Asking.{resumed_key}
 use Rattle.router_reply.specs.Replies.{closing_of, ends, heard, bound_by, own_row, replied}
 use Rattle.router_reply.specs.Resuming.{resumed}
 use Rattle.core_machine.specs.Moves.{Move, handles, takes, took_one}

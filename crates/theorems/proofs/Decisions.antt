@@ -26,7 +26,7 @@ use Rattle.state_deliveries.specs.Deciding.{gathered_below, changed_by, row_of, 
 use Rattle.state_deliveries.specs.Hearing.{disposed_change}
 use Rattle.state_deliveries.specs.Stepping.{comes_with_id, changed}
 use Rattle.state_deliveries.proofs.Called.{there_named}
-use Rattle.router_reply.specs.Deciding.{listed, as_kept}
+use Rattle.reply_rows.specs.Deciding.{listed, as_kept}
 use Rattle.theorems.proofs.Bindings.{there_bound}
 use Rattle.theorems.proofs.Changing.{leaves_by}
 use Rattle.theorems.proofs.Looking.{by_case, none_above}

@@ -12,7 +12,7 @@ use Rattle.router_trace.specs.Connection.{conn, due}
 use Rattle.router_trace.specs.Refusing.{refuses, rises}
 use Rattle.router_trace.specs.Trace.{Trace, Did, Out, Put, Step as AStep, step_of, goes, puts, each_to}
 use Rattle.state_messages.specs.Messages.{with_bound}
-use Rattle.router_reply.specs.Acts.{booked}
+use Rattle.reply_rows.specs.Acts.{booked}
 use Rattle.router_reply.specs.Replies.{closing_of, ends, heard, bound_by, own_row, replied}
 use Rattle.router_reply.specs.Resuming.{resumed}
 use Rattle.core_door.specs.declared.door.Door.{Door as DoorState}

@@ -26,7 +26,7 @@ use Rattle.state_deliveries.specs.Stepping.{is_gone, comes_with_id, is_decided_b
 use Rattle.reply_rows.specs.declared.answer.Answer.{Answer}
 use Rattle.reply_rows.specs.declared.answer.Answer.TheVariants.{Close, CloseWith, End, Attach, Detach}
 use Rattle.reply_rows.specs.Booking.{wanted_key}
-use Rattle.router_reply.specs.Deciding.{lost, listed, ended_by, stolen_from, stolen_in, stolen_for, session_found, event_changes}
+use Rattle.reply_rows.specs.Deciding.{lost, listed, ended_by, stolen_from, stolen_in, stolen_for, session_found, event_changes}
 
 -- an outcome, if there is one, is a terminal state
 abbrev pub IsEnded : Option DeliveryState → Type 0

@@ -27,8 +27,8 @@ use Rattle.state_links.specs.Fits.{channel_of}
 use Rattle.reply_rows.specs.declared.answer.Answer.{Answer}
 use Rattle.reply_rows.specs.declared.answer.Answer.TheVariants.{Nothing, Header, Open, Close, CloseWith, Begin, End, Flow, Attach, Refuse, Detach, LinkFlow, Taken, Settle}
 use Rattle.reply_rows.specs.Rows.{said}
-use Rattle.router_reply.specs.Acts.{acts_of, booked}
-use Rattle.router_reply.specs.Deciding.{lost, listed, stolen_for, ended_by, session_found, event_changes}
+use Rattle.reply_rows.specs.Acts.{acts_of, booked}
+use Rattle.reply_rows.specs.Deciding.{lost, listed, stolen_for, ended_by, session_found, event_changes}
 use Rattle.router_reply.specs.Replies.{closing_of, ends}
 use Rattle.state_connections.proofs.Lists.{by_test}
 use Rattle.theorems.proofs.Begun.{AreBegun, did_owned}

@@ -31,7 +31,7 @@ use Rattle.router_trace.specs.Following.{link_of}
 use Rattle.router_trace.specs.Links.{link, durable_key, ends_handle, ends_handle_in}
 use Rattle.state_deliveries.specs.declared.change.Change.{Change}
 use Rattle.state_deliveries.specs.Deciding.{changed_by}
-use Rattle.router_reply.specs.Acts.{book_in}
+use Rattle.reply_rows.specs.Acts.{book_in}
 use Rattle.theorems.proofs.Bindings.{of_what}
 use Rattle.theorems.proofs.Changing.{leaves_by, Alike}
 use Rattle.theorems.proofs.Claimed.{HasClaim}

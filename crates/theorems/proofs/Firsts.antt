@@ -38,8 +38,8 @@ use Rattle.reply_rows.specs.Rows.{in_turn, out_of_turn, transfer_reply, turn_by}
 use Rattle.reply_rows.specs.LinkRows.{is_serial, is_anonymous, is_among, delivery_by, delivery_on, session_transfer_reply, start_on}
 use Rattle.reply_rows.specs.Booking.{repeats, stands_from, booked_transfer, answer_at}
 use Rattle.reply_rows.specs.Finding.{finds}
-use Rattle.router_reply.specs.Acts.{book_in, booked, finds_full, journaled, live_answer}
-use Rattle.router_reply.specs.Deciding.{ended_by, lost}
+use Rattle.reply_rows.specs.Acts.{book_in, booked, finds_full, journaled, live_answer}
+use Rattle.reply_rows.specs.Deciding.{ended_by, lost}
 use Rattle.state_connections.proofs.Lists.{by_test}
 use Rattle.state_deliveries.specs.declared.change.Change.{Change}
 use Rattle.state_deliveries.specs.declared.change.Change.TheVariants as change

@@ -25,9 +25,9 @@ use Rattle.state_deliveries.specs.declared.change.Change.{Change}
 use Rattle.state_deliveries.specs.Deciding.{changed_by, decided_rows}
 use Rattle.resume_core.specs.Resuming.{entries_of, decided_by as map_gives, decision_of as map_decision}
 use Rattle.reply_rows.specs.declared.answer.Answer.{Answer}
-use Rattle.router_reply.specs.Acts.{event_answer, answer_acts, planned_acts, admitted_acts, or_admits, finds_full, journaled, book_in, acts_of}
-use Rattle.router_reply.specs.Asking.{attach_in, resumed_key, decided_for, map_decides, rows_with}
-use Rattle.router_reply.specs.Deciding.{event_changes, as_kept, decided, forgotten, terminus_of_event}
+use Rattle.reply_rows.specs.Acts.{event_answer, answer_acts, planned_acts, admitted_acts, or_admits, finds_full, journaled, book_in, acts_of}
+use Rattle.reply_rows.specs.Asking.{attach_in, resumed_key, decided_for, map_decides, rows_with}
+use Rattle.reply_rows.specs.Deciding.{event_changes, as_kept, decided, forgotten, terminus_of_event}
 use Rattle.theorems.specs.AsTold.{IsKeptAsTold}
 use Rattle.theorems.proofs.Accepting.{Asked, asked_act, OfDelivery, of_delivery, no_admitted}
 use Rattle.theorems.proofs.AcceptedFirst.{with_one}

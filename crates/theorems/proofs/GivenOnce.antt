@@ -15,7 +15,7 @@ use Rattle.journal_store.proofs.Sound.{sound_is_ordered}
 use Rattle.router_trace.specs.declared.event.Event.{Event}
 use Rattle.router_trace.specs.Configuration.{opened}
 use Rattle.router_trace.specs.Trace.{Trace, Beginning}
-use Rattle.router_reply.specs.Acts.{acts_of, book_in, booked}
+use Rattle.reply_rows.specs.Acts.{acts_of, book_in, booked}
 use Rattle.theorems.specs.Lives.{InLives}
 use Rattle.theorems.specs.OwnConsumer.{admits, makes, times_among, times_done, NumbersAreGivenOnce}
 use Rattle.theorems.proofs.AcceptedFirst.{moves_keep_all}

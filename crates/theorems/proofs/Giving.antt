@@ -28,9 +28,9 @@ use Rattle.router_trace.specs.Deliveries.{outcome_by, outcome_or, outcome_among,
 use Rattle.router_trace.specs.declared.event.Event.{Event}
 use Rattle.router_trace.specs.Trace.{Trace}
 use Rattle.resume_core.specs.Resuming.{entries_of, told_of, outcome_told, outcome_given, decided_by, decisions}
-use Rattle.router_reply.specs.Acts.{event_answer, planned_acts, admitted_acts, or_admits, event_acts}
-use Rattle.router_reply.specs.Admitting.{admits, event_admission}
-use Rattle.router_reply.specs.Asking.{rows_at, rows_with, decided_for}
+use Rattle.reply_rows.specs.Acts.{event_answer, planned_acts, admitted_acts, or_admits, event_acts}
+use Rattle.reply_rows.specs.Admitting.{admits, event_admission}
+use Rattle.reply_rows.specs.Asking.{rows_at, rows_with, decided_for}
 use Rattle.theorems.proofs.Ended.{IsEnded}
 use Rattle.theorems.proofs.KeptForm.{kept_form, kept_twice}
 use Rattle.theorems.proofs.Looking.{by_case, none_above}

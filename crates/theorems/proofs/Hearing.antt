@@ -25,7 +25,7 @@ use Rattle.state_deliveries.specs.Deciding.{changed_by}
 use Rattle.state_deliveries.specs.Hearing.{decided_by, disposed_change, heard_change}
 use Rattle.state_deliveries.specs.Stepping.{comes_with_id, is_in}
 use Rattle.state_links.specs.Fits.{channel_of}
-use Rattle.router_reply.specs.Deciding.{listed}
+use Rattle.reply_rows.specs.Deciding.{listed}
 use Rattle.theorems.proofs.Changing.{undecided_is}
 
 -- an id of the delivery names it, as long as it is undecided

@@ -19,7 +19,7 @@ use Rattle.router_trace.specs.declared.binding.Origin.{Origin}
 use Rattle.router_trace.specs.declared.handle.Attachment.{Attachment}
 use Rattle.router_trace.specs.Trace.{Trace}
 use Rattle.router_trace.specs.Deliveries.{Delivery, bound, called, either_origin, held_by, holds_standing, joined_to, joining, name_in, outcome_held, owned_in, rank_in, resumed_held}
-use Rattle.router_reply.specs.Acts.{book_in}
+use Rattle.reply_rows.specs.Acts.{book_in}
 use Rattle.router_reply.specs.Holding.{as_held}
 use Rattle.theorems.specs.Came.{HoldsRow, SettlesRow}
 use Rattle.theorems.proofs.Facts.{KeptAs, Agrees, RowFact, fact_moved}

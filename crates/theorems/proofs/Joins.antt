@@ -27,7 +27,7 @@ use Rattle.router_trace.specs.Following.{link_of}
 use Rattle.router_trace.specs.Links.{link, durable_key, has_number, is_attached}
 use Rattle.router_trace.specs.Deliveries.{Delivery, bound, called, is_undecided, joined_to, joining, name_in, source, with_origin, rank_in, holds_standing, held_by}
 use Rattle.state_connections.proofs.Lists.{by_test}
-use Rattle.router_reply.specs.Acts.{book_in}
+use Rattle.reply_rows.specs.Acts.{book_in}
 use Rattle.theorems.specs.Came.{JoinsRow}
 use Rattle.theorems.proofs.Claimed.{HasClaim}
 use Rattle.theorems.proofs.Middles.{said_of, whole_said}

@@ -47,8 +47,8 @@ use Rattle.reply_rows.specs.declared.answer.Answer.TheVariants.{Nothing, Header,
 use Rattle.reply_rows.specs.Booking.{wanted_key, wanted_address, wants_durable, new_terminus, has_room, durable_refusal, refuse_on, booked_attach, book_refusal, answer_at}
 use Rattle.reply_rows.specs.Finding.{finds}
 use Rattle.reply_rows.specs.Rows.{said, item_reply}
-use Rattle.router_reply.specs.Acts.{Journaled, live_answer, event_answer, answer_acts, admitted_acts, or_admits, finds_full, journaled, book_in, acts_of, book_after_event, booked, answer_of}
-use Rattle.router_reply.specs.Deciding.{decided, forgotten}
+use Rattle.reply_rows.specs.Acts.{Journaled, live_answer, event_answer, answer_acts, admitted_acts, or_admits, finds_full, journaled, book_in, acts_of, book_after_event, booked, answer_of}
+use Rattle.reply_rows.specs.Deciding.{decided, forgotten}
 use Rattle.router_reply.specs.Resuming.{resumed}
 use Rattle.router_reply.specs.Replies.{closing_of, ends, heard, stolen_by, with_map, map_told, attach_answer, taken_after, taken, refused, bound_by, item_put, item_row, own_row, replied}
 use Rattle.state_connections.proofs.Lists.{by_test}

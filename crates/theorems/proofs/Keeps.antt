@@ -33,7 +33,7 @@ use Rattle.state_deliveries.specs.declared.change.Change.{Change}
 use Rattle.state_deliveries.specs.Deciding.{changed_by}
 use Rattle.state_deliveries.specs.Stepping.{changed}
 use Rattle.state_messages.specs.Messages.{grants_due}
-use Rattle.router_reply.specs.Acts.{book_in}
+use Rattle.reply_rows.specs.Acts.{book_in}
 use Rattle.state_connections.proofs.Lists.{by_test}
 use Rattle.router_core.proofs.Due.{ranked_elim, goes_on_link, AllOnLinks, drains_on}
 use Rattle.router_core.proofs.Following.{Steps, passed_on, passed_keeps}

@@ -43,8 +43,8 @@ use Rattle.reply_rows.specs.declared.answer.Answer.{Answer}
 use Rattle.reply_rows.specs.declared.answer.Answer.TheVariants.{Attach, Refuse, Taken}
 use Rattle.reply_rows.specs.Booking.{answer_at}
 use Rattle.router_state.specs.Tables.{beat_if, beats_over}
-use Rattle.router_reply.specs.Acts.{live_answer, finds_full, journaled, book_in, acts_of, booked, answer_of}
-use Rattle.router_reply.specs.Deciding.{ended_by, lost}
+use Rattle.reply_rows.specs.Acts.{live_answer, finds_full, journaled, book_in, acts_of, booked, answer_of}
+use Rattle.reply_rows.specs.Deciding.{ended_by, lost}
 use Rattle.router_reply.specs.Resuming.{resumed}
 use Rattle.router_reply.specs.Replies.{closing_of, ends, heard, map_told, bound_for, item_put, item_bound, item_row, bound_by, own_row, replied_after, replied}
 use Rattle.router_core.specs.declared.driving.Sent.{Sent}

@@ -22,8 +22,8 @@ use Rattle.router_trace.specs.Links.{durable_key}
 use Rattle.router_trace.specs.Trace.{Trace, Did, Out, Bound, Step}
 use Rattle.router_trace.specs.Deliveries.{Delivery, bound, counters, holds_standing, has_row, name_in, name_of, delivery, rank_in}
 use Rattle.state_messages.specs.Messages.{lasts}
-use Rattle.router_reply.specs.Acts.{book_in, acts_of, booked}
-use Rattle.router_reply.specs.Admitting.{terminus_for}
+use Rattle.reply_rows.specs.Acts.{book_in, acts_of, booked}
+use Rattle.reply_rows.specs.Admitting.{terminus_for}
 use Rattle.theorems.specs.Admitted.{IsAdmitted}
 use Rattle.theorems.specs.Came.{TakesUp}
 use Rattle.theorems.proofs.Answering.{admitted_row}

@@ -4,7 +4,7 @@ use Rattle.book_model.specs.Book.{empty_book}
 use Rattle.router_trace.specs.declared.event.Event.{Event}
 use Rattle.router_trace.specs.Trace.{Trace, Beginning, did, step_of}
 use Rattle.router_trace.specs.Configuration.{opened}
-use Rattle.router_reply.specs.Acts.{book_in, booked}
+use Rattle.reply_rows.specs.Acts.{book_in, booked}
 use Rattle.core_machine.specs.Moves.{Move}
 use Rattle.router_core.proofs.Booking.{booked_keeps}
 use Rattle.theorems.specs.Carried.{HasSmallNumbers}

@@ -25,8 +25,8 @@ use Rattle.journal_store.specs.declared.acting.TerminusAct.TheVariants as termin
 use Rattle.reply_rows.specs.Booking.{new_terminus, has_room}
 use Rattle.router_trace.specs.declared.event.Event.{Event}
 use Rattle.router_trace.specs.Trace.{Trace}
-use Rattle.router_reply.specs.Acts.{event_answer, admitted_acts, or_admits}
-use Rattle.router_reply.specs.Admitting.{event_admission, admits}
+use Rattle.reply_rows.specs.Acts.{event_answer, admitted_acts, or_admits}
+use Rattle.reply_rows.specs.Admitting.{event_admission, admits}
 use Rattle.router_core.proofs.Due.{both_true}
 
 -- acts that change rows alone

@@ -52,10 +52,11 @@ use Rattle.reply_rows.specs.declared.answer.Answer.{Answer}
 use Rattle.reply_rows.specs.declared.answer.Answer.TheVariants.{Attach, Refuse}
 use Rattle.reply_rows.specs.Booking.{wanted_key, wanted_address, wants_durable, new_terminus, rows_of, sent_rows, bound_rows, answer_at}
 use Rattle.reply_rows.specs.Rows.{said}
-use Rattle.router_reply.specs.Acts.{Journaled, live_answer, event_answer, answer_acts, admitted_acts, or_admits, event_acts, finds_full, journaled, book_in, acts_of, book_after_event, booked, book_found, answer_of, answer_by, answer_to_event}
-use Rattle.router_reply.specs.Asking.{all_rows, rows_at, receives, resumed_key, forgotten_of, forgotten_for}
-use Rattle.router_reply.specs.Deciding.{decided as decided_in, forgotten as forgotten_at, item_forgets, terminus_of_event}
-use Rattle.router_reply.specs.Resuming.{map_of, map_for, resumed}
+use Rattle.reply_rows.specs.Acts.{Journaled, live_answer, event_answer, answer_acts, admitted_acts, or_admits, event_acts, finds_full, journaled, book_in, acts_of, book_after_event, booked, book_found, answer_of, answer_by, answer_to_event}
+use Rattle.reply_rows.specs.Asking.{all_rows, rows_at, receives, resumed_key, forgotten_of, forgotten_for}
+use Rattle.reply_rows.specs.Deciding.{decided as decided_in, forgotten as forgotten_at, item_forgets, terminus_of_event}
+use Rattle.reply_rows.specs.Resuming.{map_of, map_for}
+use Rattle.router_reply.specs.Resuming.{resumed}
 use Rattle.router_reply.specs.Replies.{closing_of, ends, heard, with_map, map_told, attach_answer, taken_after, taken, stolen_by, refused, bound_by, item_put, item_row, own_row, replied}
 use Rattle.router_core.specs.Attaches.{is_attach_in, is_attach}
 use Rattle.router_core.specs.Moves.{Goes, IsTrace}

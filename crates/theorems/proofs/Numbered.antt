@@ -14,8 +14,8 @@ use Rattle.router_trace.specs.declared.binding.Binding.{Binding}
 use Rattle.router_trace.specs.Deliveries.{is_message}
 use Rattle.router_trace.specs.declared.condition.Condition.TheVariants.{ResourceLimitExceeded}
 use Rattle.state_messages.specs.Messages.{with_bound}
-use Rattle.router_reply.specs.Acts.{book_in, acts_of, booked}
-use Rattle.router_reply.specs.Admitting.{row_in}
+use Rattle.reply_rows.specs.Acts.{book_in, acts_of, booked}
+use Rattle.reply_rows.specs.Admitting.{row_in}
 use Rattle.router_reply.specs.Replies.{closing_of, ends, heard, bound_by, own_row, replied}
 use Rattle.router_reply.specs.Resuming.{resumed}
 use Rattle.state_connections.proofs.Lists.{by_test}

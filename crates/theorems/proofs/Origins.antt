@@ -12,7 +12,7 @@ use Rattle.book_model.specs.declared.terminus.TerminusNumber.{TerminusNumber}
 use Rattle.book_model.specs.Book.{BookView, admitted, decided, forgotten, with_row, effect, effects}
 use Rattle.router_trace.specs.Configuration.{opened}
 use Rattle.router_trace.specs.Trace.{Trace, Entry, Did, Out, Took, Bound, Booked, Began}
-use Rattle.router_reply.specs.Acts.{book_in, booked}
+use Rattle.reply_rows.specs.Acts.{book_in, booked}
 use Rattle.theorems.specs.Lives.{InLives}
 use Rattle.theorems.specs.OwnConsumer.{WasDone}
 use Rattle.theorems.proofs.AcceptedFirst.{moves_keep_all}

@@ -30,8 +30,8 @@ use Rattle.router_trace.specs.Following.{is_sending, link_of}
 use Rattle.router_trace.specs.Links.{Link, attachments, durable_key, holder, last_of_key, link}
 use Rattle.router_trace.specs.Trace.{Trace, Did, Out, Took, Bound, Booked, Began, IsOneRun}
 use Rattle.state_messages.specs.Messages.{lasts}
-use Rattle.router_reply.specs.Acts.{before_acts, book_found, book_in}
-use Rattle.router_reply.specs.Admitting.{terminus_for}
+use Rattle.reply_rows.specs.Acts.{before_acts, book_found, book_in}
+use Rattle.reply_rows.specs.Admitting.{terminus_for}
 use Rattle.router_reply.specs.Holding.{as_held}
 use Rattle.theorems.specs.Admitted.{IsAdmitted, IsAdmittedIf, IsAdmittedUnder, RowIsAdmitted}
 use Rattle.theorems.specs.Came.{Handled, just_handled, last_found, BindsAs, BindsByKind, BindsMessage, HoldsRow, JoinsRow, SettlesRow, TakesUp}

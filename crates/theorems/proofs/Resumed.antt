@@ -47,11 +47,13 @@ use Rattle.state_deliveries.proofs.Called.{there_named, one_name}
 use Rattle.reply_rows.specs.Booking.{wanted_key, wants_durable}
 use Rattle.reply_rows.specs.declared.answer.Answer.{Answer}
 use Rattle.reply_rows.specs.declared.answer.Answer.TheVariants.{Attach}
-use Rattle.router_reply.specs.Acts.{journaled, book_found, book_in, found_acts, answer_to_event}
-use Rattle.router_reply.specs.Asking.{all_rows, asked_key, key_taken, receives}
-use Rattle.router_reply.specs.Holding.{as_held, freed, freed_by, freed_from, held_if, held_key, held_to, rows_held, with_held}
+use Rattle.reply_rows.specs.Acts.{journaled, book_found, book_in, found_acts, answer_to_event}
+use Rattle.reply_rows.specs.Asking.{all_rows, asked_key, key_taken, receives}
+use Rattle.router_reply.specs.Holding.{as_held, freed, freed_by, freed_from, held_if, held_to, rows_held, with_held}
+use Rattle.reply_rows.specs.Asking.{held_key}
 use Rattle.router_reply.specs.Replies.{closing_of, ends, heard, bound_by, own_row, replied}
-use Rattle.router_reply.specs.Resuming.{resumed_key, attach_in, rows_at, rows_for, rows_taken, bound_to, bound_if, with_rows, resumed}
+use Rattle.reply_rows.specs.Resuming.{resumed_key, attach_in, rows_at, rows_for}
+use Rattle.router_reply.specs.Resuming.{rows_taken, bound_to, bound_if, with_rows, resumed}
 use Rattle.router_core.proofs.Resuming.{with_held_keep, with_rows_keep}
 use Rattle.theorems.specs.Came.{last_found, HoldsRow, SettlesRow, TakesUp}
 use Rattle.theorems.proofs.Tests.{none_not_some, some_same}

@@ -35,9 +35,9 @@ use Rattle.state_messages.specs.Messages.{with_bound}
 use Rattle.reply_rows.specs.declared.answer.Answer.{Answer}
 use Rattle.reply_rows.specs.declared.answer.Answer.TheVariants.{Taken, Settle}
 use Rattle.reply_rows.specs.Rows.{said}
-use Rattle.router_reply.specs.Acts.{book_in}
+use Rattle.reply_rows.specs.Acts.{book_in}
 use Rattle.reply_transfers.specs.Transfers.{claimed_id, lasts_on, let_go, unless_many, ignored_put, row_resumed, unless_joined, resumed_put, released_by, released, unbound_put, consumer_for, whole_put, part_put, settled_answers}
-use Rattle.router_reply.specs.Deciding.{ended_by}
+use Rattle.reply_rows.specs.Deciding.{ended_by}
 use Rattle.router_reply.specs.Replies.{row_found, bound_for, links_put, item_put}
 use Rattle.theorems.specs.Came.{TakesUp, BindsMessage, ComesFrom}
 use Rattle.theorems.proofs.Consuming.{consumer_sends}

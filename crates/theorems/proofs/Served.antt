@@ -30,9 +30,9 @@ use Rattle.resume_core.specs.Resuming.{entries_of, told_of, outcome_given, decid
 use Rattle.reply_rows.specs.declared.answer.Answer.{Answer}
 use Rattle.reply_rows.specs.declared.answer.Answer.TheVariants.{Attach}
 use Rattle.reply_rows.specs.Booking.{wanted_key}
-use Rattle.router_reply.specs.Acts.{live_answer, finds_full, journaled, book_in, acts_of, booked, answer_by, answer_to_event}
-use Rattle.router_reply.specs.Asking.{attach_in, receives, if_receives, resumed_key, key_taken, decided_for, map_decides}
-use Rattle.router_reply.specs.Deciding.{as_kept, lost, stolen_from, event_changes, forgotten as forgotten_in, terminus_of_event}
+use Rattle.reply_rows.specs.Acts.{live_answer, finds_full, journaled, book_in, acts_of, booked, answer_by, answer_to_event}
+use Rattle.reply_rows.specs.Asking.{attach_in, receives, if_receives, resumed_key, key_taken, decided_for, map_decides}
+use Rattle.reply_rows.specs.Deciding.{as_kept, lost, stolen_from, event_changes, forgotten as forgotten_in, terminus_of_event}
 use Rattle.theorems.proofs.Admitted.{answer_after}
 use Rattle.theorems.proofs.Booked.{answer_for}
 use Rattle.theorems.proofs.Changing.{undecided_is}

@@ -8,7 +8,7 @@ use Rattle.journal_store.proofs.Moments.{left_opens}
 use Rattle.router_trace.specs.declared.event.Event.{Event}
 use Rattle.router_trace.specs.Configuration.{opened}
 use Rattle.router_trace.specs.Trace.{Trace}
-use Rattle.router_reply.specs.Acts.{book_in}
+use Rattle.reply_rows.specs.Acts.{book_in}
 use Rattle.core_machine.specs.declared.fault.CoreFault.{CoreFault}
 use Rattle.core_machine.specs.Moves.{Move}
 use Rattle.router_core.specs.declared.driving.Driven.{Driven}

@@ -18,9 +18,11 @@ use Rattle.reply_rows.specs.declared.answer.Answer.TheVariants.{Nothing}
 use Rattle.reply_rows.specs.Rows.{down_reply}
 use Rattle.router_reply.specs.Replies.{ends, row_found, item_put, item_row, own_row, bound_for, item_bound, bound_by, replied_after}
 use Rattle.router_after.specs.After.{widened, followed}
-use Rattle.router_reply.specs.Acts.{journaled, book_in, booked, found_acts, found_journal, full_at, answer_by, answer_to_event}
-use Rattle.router_reply.specs.Holding.{freed, held_key, with_held}
-use Rattle.router_reply.specs.Resuming.{attached_by, resumed_key, attach_in, rows_for, rows_taken, with_rows, resumed_by, resumed}
+use Rattle.reply_rows.specs.Acts.{journaled, book_in, booked, found_acts, found_journal, full_at, answer_by, answer_to_event}
+use Rattle.router_reply.specs.Holding.{freed, with_held}
+use Rattle.reply_rows.specs.Asking.{held_key}
+use Rattle.router_reply.specs.Resuming.{attached_by, rows_taken, with_rows, resumed_by, resumed}
+use Rattle.reply_rows.specs.Resuming.{resumed_key, attach_in, rows_for}
 use Rattle.router_core.specs.Replies.{answered, handled}
 use Rattle.core_machine.specs.Moves.{took_one}
 use Rattle.router_core.specs.Moves.{Goes, outs}

@@ -32,8 +32,8 @@ use Rattle.state_connections.proofs.Lists.{by_test}
 use Rattle.reply_rows.specs.declared.answer.Answer.{Answer}
 use Rattle.reply_rows.specs.declared.answer.Answer.TheVariants.{Attach}
 use Rattle.reply_rows.specs.Booking.{wanted_key, wants_durable}
-use Rattle.router_reply.specs.Acts.{booked, answer_of, answer_by, answer_to_event}
-use Rattle.router_reply.specs.Asking.{receives, if_receives, key_taken, resumed_key}
+use Rattle.reply_rows.specs.Acts.{booked, answer_of, answer_by, answer_to_event}
+use Rattle.reply_rows.specs.Asking.{receives, if_receives, key_taken, resumed_key}
 use Rattle.router_reply.specs.Replies.{ends, with_map, map_told, attach_answer, taken_after, taken, stolen_by, bound_for, item_put, item_bound, item_row, replied_after, replied}
 use Rattle.theorems.proofs.Answering.{attach_finds}
 use Rattle.theorems.proofs.Attaching.{AttachAt, attached_link, held_is, held_where, numbered_link, detached_none}

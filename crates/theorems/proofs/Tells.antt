@@ -11,7 +11,7 @@ use Rattle.router_trace.specs.Trace.{Entry, Did, Out, Took, Bound, Booked, Began
 use Rattle.router_trace.specs.Deliveries.{Delivery, has_row, bindings, counters, name_of, is_message, origin_of, either_origin, joins_standing, presettles, delivery, rank_at}
 use Rattle.router_trace.specs.Following.{is_to_be_told, outcome_to, tell, tells_of, tells}
 use Rattle.router_core.proofs.Due.{ranked_elim}
-use Rattle.router_reply.specs.Acts.{book_in}
+use Rattle.reply_rows.specs.Acts.{book_in}
 use Rattle.theorems.specs.Admitted.{IsFromTerminus, IsAdmittedUnder, IsAdmittedIf, RowIsAdmitted}
 use Rattle.theorems.specs.Each.{EachBound}
 use Rattle.theorems.specs.OneConsumer.{IsOrNone, IsOfMessage, is_row_of, joined_in}

@@ -31,8 +31,8 @@ use Rattle.router_trace.specs.DeliveryFrames.{kept_outcome}
 use Rattle.router_trace.specs.Trace.{Beginning, Entry, Trace, Did, Out, Took, Bound, Booked, Began, Put, Step, step_of, goes, puts, each_to}
 use Rattle.state_messages.specs.Messages.{with_bound}
 use Rattle.resume_core.specs.Resuming.{entries_of, told_in, told_of, outcome_told, outcome_given, either_outcome, row_tag}
-use Rattle.router_reply.specs.Acts.{acts_of, book_found, book_in, booked}
-use Rattle.router_reply.specs.Asking.{attach_in}
+use Rattle.reply_rows.specs.Acts.{acts_of, book_found, book_in, booked}
+use Rattle.reply_rows.specs.Asking.{attach_in}
 use Rattle.router_reply.specs.Replies.{closing_of, ends, heard, bound_by, own_row, replied}
 use Rattle.router_reply.specs.Resuming.{resumed}
 use Rattle.core_machine.specs.Moves.{Move, handles, takes, took_one}

@@ -4,7 +4,7 @@ use Rattle.route_table.specs.Settings.{Settings}
 use Rattle.router_trace.specs.declared.event.Event.TheVariants as event
 use Rattle.router_trace.specs.Configuration.{opened}
 use Rattle.router_trace.specs.Trace.{Beginning, Trace, step_of}
-use Rattle.router_reply.specs.Acts.{journaled}
+use Rattle.reply_rows.specs.Acts.{journaled}
 use Rattle.core_machine.specs.Moves.{handles}
 use Rattle.core_player.specs.declared.script.Step.{Step}
 use Rattle.router_core.proofs.Books.{started_handled}

@@ -34,8 +34,8 @@ use Rattle.reply_rows.specs.Rows.{out_of_turn, transfer_reply, turn_by}
 use Rattle.reply_rows.specs.LinkRows.{is_anonymous, is_among, is_same_id, is_same_tag, continue_on, delivery_by, delivery_on, session_transfer_reply, start_on}
 use Rattle.reply_rows.specs.Booking.{repeats, stands_from, booked_transfer, answer_at}
 use Rattle.reply_rows.specs.Finding.{finds}
-use Rattle.router_reply.specs.Acts.{event_answer, live_answer}
-use Rattle.router_reply.specs.Joining.{settled_whole}
+use Rattle.reply_rows.specs.Acts.{event_answer, live_answer}
+use Rattle.reply_rows.specs.Joining.{settled_whole}
 use Rattle.state_connections.proofs.Lists.{by_test}
 use Rattle.state_deliveries.proofs.Unsent.{first_there}
 use Rattle.theorems.proofs.Claimed.{HasClaim}

@@ -11,7 +11,7 @@ use Rattle.router_trace.specs.Sessions.{unless_close, offered, offered_at, answe
 use Rattle.state_sessions.specs.Windows.{flows_below, windows_over}
 use Rattle.router_state.specs.Tables.{beat_if, beats_over}
 use Rattle.reply_rows.specs.Finding.{free_for}
-use Rattle.router_reply.specs.Acts.{Journaled, with_acts, journaled}
+use Rattle.reply_rows.specs.Acts.{Journaled, with_acts, journaled}
 use Rattle.router_core.specs.Moves.{outs}
 use Rattle.theorems.specs.Takes.{untaken}
 

@@ -43,12 +43,12 @@ use Rattle.state_messages.specs.Messages.{consumer_of}
 use Rattle.reply_rows.specs.declared.answer.Answer.{Answer}
 use Rattle.reply_rows.specs.declared.answer.Answer.TheVariants.{Nothing, Attach, Detach, Taken}
 use Rattle.reply_rows.specs.Booking.{answer_at}
-use Rattle.router_reply.specs.Admitting.{without_acts, terminus_for, admission_of, admitted_to, whole_admission, part_admission, taken_admission, unless_ends, event_admission, admits}
-use Rattle.router_reply.specs.Asking.{attach_in, decided_for, map_decides, forgotten_for, map_forgets}
-use Rattle.router_reply.specs.Deciding.{lost, stolen_from, stolen_for, ended_by, listed, event_changes, as_kept, decided, settled_on, sent_from, closed_terminus, forgotten_by, forgotten_in, item_forgets, forgotten, made_for, terminus_by, terminus_in, terminus_of_event}
-use Rattle.router_reply.specs.Joining.{settled_whole, row_alone, settled_by_transfer, rows_claimed}
+use Rattle.reply_rows.specs.Admitting.{without_acts, terminus_for, admission_of, admitted_to, whole_admission, part_admission, taken_admission, unless_ends, event_admission, admits}
+use Rattle.reply_rows.specs.Asking.{attach_in, decided_for, map_decides, forgotten_for, map_forgets}
+use Rattle.reply_rows.specs.Deciding.{lost, stolen_from, stolen_for, ended_by, listed, event_changes, as_kept, decided, settled_on, sent_from, closed_terminus, forgotten_by, forgotten_in, item_forgets, forgotten, made_for, terminus_by, terminus_in, terminus_of_event}
+use Rattle.reply_rows.specs.Joining.{settled_whole, row_alone, settled_by_transfer, rows_claimed}
 use Rattle.reply_transfers.specs.Joining.{row_joined}
-use Rattle.router_reply.specs.Acts.{Journaled, live_answer, event_answer, answer_acts, planned_acts, admitted_acts, or_admits, event_acts, finds_full, journaled, book_in, acts_of, before_acts, found_journal, full_at, answer_of}
+use Rattle.reply_rows.specs.Acts.{Journaled, live_answer, event_answer, answer_acts, planned_acts, admitted_acts, or_admits, event_acts, finds_full, journaled, book_in, acts_of, before_acts, found_journal, full_at, answer_of}
 use Rattle.theorems.specs.Takes.{untaken}
 use Rattle.theorems.proofs.Plain.{plain, Calm, stood_found}
 use Rattle.theorems.proofs.Untaken.{same_theirs, same_journaled}

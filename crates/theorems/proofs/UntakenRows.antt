@@ -46,9 +46,9 @@ use Rattle.reply_rows.specs.Finding.{finds}
 use Rattle.reply_rows.specs.Booking.{wants_durable, wanted_address, new_terminus, has_room, durable_refusal, book_refusal, booked_attach, stands_from, repeats, booked_transfer, booked, answer_at}
 use Rattle.reply_transfers.specs.Transfers.{claimed_id, settled_answers, from_link, origin_of, lasts_on, may_pass, consumer_for, fresh_bound, row_resumed, join_from, joined_on, joined_if, resumed_bound, unless_joined, resumed_put, whole_bound, let_go, unless_many, ignored_put, released_by, released, unbound_put, whole_put, part_put, part_bound}
 use Rattle.reply_transfers.specs.Joining.{row_joined, row_claimed, row_under}
-use Rattle.router_reply.specs.Acts.{book_in, found_journal}
-use Rattle.router_reply.specs.Holding.{held_key, if_sends}
-use Rattle.router_reply.specs.Resuming.{asked_key, key_taken, key_by, key_in, taken_key, attach_in, if_receives, resumed_key, map_for}
+use Rattle.reply_rows.specs.Acts.{book_in, found_journal}
+use Rattle.reply_rows.specs.Asking.{held_key, if_sends}
+use Rattle.reply_rows.specs.Resuming.{asked_key, key_taken, key_by, key_in, taken_key, attach_in, if_receives, resumed_key, map_for}
 use Rattle.router_reply.specs.Replies.{map_told, stolen_by, attach_answer, taken_after, taken, refused, row_found, bound_for, links_put, item_put}
 use Rattle.theorems.specs.Takes.{untaken}
 use Rattle.theorems.proofs.Untaken.{untaken_goes, same_place, same_free, same_journaled}

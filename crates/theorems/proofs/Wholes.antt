@@ -29,7 +29,7 @@ use Rattle.router_trace.specs.Links.{Link, LinkPlace, nowhere, detaching, on, Ha
 use Rattle.router_trace.specs.Sessions.{maps, theirs}
 use Rattle.router_trace.specs.Settling.{is_of_link}
 use Rattle.router_trace.specs.Frames.{open_item, close_item, closing}
-use Rattle.router_reply.specs.Deciding.{lost}
+use Rattle.reply_rows.specs.Deciding.{lost}
 use Rattle.router_reply.specs.Replies.{closing_of, ends}
 use Rattle.state_connections.proofs.Lists.{by_test}
 use Rattle.state_deliveries.specs.declared.change.Change.{Change}

@@ -49,7 +49,7 @@ use Rattle.reply_rows.specs.Rows.{said}
 use Rattle.reply_transfers.specs.Transfers.{claimed_id, lasts_on, consumer_for, let_go, unless_many, ignored_put, row_resumed, unless_joined, resumed_put, released_by, unbound_put, whole_put, part_put, settled_answers}
 use Rattle.router_reply.specs.Resuming.{resumed}
 use Rattle.router_reply.specs.Replies.{closing_of, ends, heard, stolen_by, with_map, attach_answer, refused, bound_by, item_row, own_row, replied}
-use Rattle.router_reply.specs.Acts.{answer_of, book_in, booked}
+use Rattle.reply_rows.specs.Acts.{answer_of, book_in, booked}
 use Rattle.router_core.specs.Replies.{answered, handled}
 use Rattle.router_core.proofs.Booking.{booked_keeps}
 use Rattle.core_machine.specs.Moves.{took_one}

@@ -27,7 +27,7 @@ use Rattle.router_trace.specs.Deliveries.{Delivery, delivery, last_of}
 use Rattle.router_trace.specs.Sessions.{session_on}
 use Rattle.resume_core.specs.Resuming.{entries_of, told_of}
 use Rattle.reply_rows.specs.Booking.{wanted_key, wants_durable}
-use Rattle.router_reply.specs.Acts.{acts_of, book_in, booked}
+use Rattle.reply_rows.specs.Acts.{acts_of, book_in, booked}
 use Rattle.theorems.specs.Told.{TellsOutcome}
 
 -- By a disposition: one comes, as a receiver's, whose state is accepted; the row's delivery is undecided, stands on the session on which it comes, and has an id

@@ -13,8 +13,8 @@ use Rattle.router_trace.specs.Deliveries.{origin_of, is_message}
 use Rattle.router_trace.specs.Following.{link_of}
 use Rattle.router_trace.specs.Links.{durable_key}
 use Rattle.router_trace.specs.Trace.{Trace, Beginning, Did, Out, Took, Bound, Booked, Began}
-use Rattle.router_reply.specs.Acts.{book_in}
-use Rattle.router_reply.specs.Admitting.{terminus_for}
+use Rattle.reply_rows.specs.Acts.{book_in}
+use Rattle.reply_rows.specs.Admitting.{terminus_for}
 use Rattle.theorems.specs.Came.{CameWhole}
 
 -- the terminus of the link of an unsettled delivery's producer

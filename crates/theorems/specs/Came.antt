@@ -38,7 +38,7 @@ use Rattle.router_trace.specs.Settling.{is_claimed_on}
 use Rattle.state_messages.specs.Asking.{consumer_with}
 use Rattle.state_messages.specs.Messages.{consumer_of, lasts, payload_as}
 use Rattle.reply_transfers.specs.Transfers.{claimed_id, from_link, lasts_on}
-use Rattle.router_reply.specs.Acts.{book_found, book_in, found_acts}
+use Rattle.reply_rows.specs.Acts.{book_found, book_in, found_acts}
 use Rattle.router_reply.specs.Holding.{as_held}
 use Rattle.router_reply.specs.Replies.{row_found}
 use Rattle.theorems.specs.OneConsumer.{IsOfMessage}

@@ -9,7 +9,7 @@ use Rattle.book_model.specs.declared.terminus.Terminus.{Terminus}
 use Rattle.router_trace.specs.Trace.{Trace}
 use Rattle.router_trace.specs.Durable.{is_durable}
 use Rattle.router_trace.specs.Links.{address_by, key_at}
-use Rattle.router_reply.specs.Acts.{book_in}
+use Rattle.reply_rows.specs.Acts.{book_in}
 
 -- a terminus that is there, with this address
 abbrev pub HasAddress : Option Terminus → List ℕ → Type 0

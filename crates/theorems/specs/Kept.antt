@@ -18,7 +18,7 @@ use Rattle.router_trace.specs.declared.binding.DeliveryName.{DeliveryName}
 use Rattle.router_trace.specs.declared.binding.DeliveryName.TheVariants.{Row, Counter}
 use Rattle.router_trace.specs.Trace.{Trace, Beginning, Did, Out, Took, Bound, Booked, Began}
 use Rattle.router_trace.specs.DeliveryFrames.{kept_outcome}
-use Rattle.router_reply.specs.Acts.{book_in}
+use Rattle.reply_rows.specs.Acts.{book_in}
 use Rattle.theorems.specs.Each.{EachOut}
 use Rattle.theorems.specs.Carried.{HasSmallNumbers}
 use Rattle.theorems.specs.Told.{TellsOutcome}

@@ -4,7 +4,7 @@ use Rattle.std.specs.Prelude.{◌≡◌, ℕ, List, []}
 use Rattle.disk_core.specs.Twin.{Contents}
 use Rattle.router_trace.specs.Trace.{Beginning, Trace}
 use Rattle.router_core.specs.declared.router.Core.{Core}
-use Rattle.router_reply.specs.Acts.{book_in}
+use Rattle.reply_rows.specs.Acts.{book_in}
 use Rattle.router_core.specs.Handling.{id_of}
 use Rattle.router_core.specs.Machine.{core_meaning}
 use Rattle.core_machine.specs.History.{HasHistory}

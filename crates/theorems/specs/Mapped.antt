@@ -21,7 +21,7 @@ use Rattle.router_trace.specs.Deliveries.{acts_found, outcome_among, tag_of}
 use Rattle.router_trace.specs.declared.binding.DeliveryName.TheVariants.{Row}
 use Rattle.router_trace.specs.Links.{key_at}
 use Rattle.resume_core.specs.Resuming.{entries_of, brief_outcome}
-use Rattle.router_reply.specs.Acts.{book_found, book_in}
+use Rattle.reply_rows.specs.Acts.{book_found, book_in}
 use Rattle.theorems.specs.Accepting.{WasAccepted}
 use Rattle.theorems.specs.Came.{last_found, IsOutcomeThen}
 

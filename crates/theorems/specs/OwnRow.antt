@@ -17,7 +17,7 @@ use Rattle.router_trace.specs.declared.binding.DeliveryName.TheVariants.{Row}
 use Rattle.router_trace.specs.Claims.{Claim, claims}
 use Rattle.router_trace.specs.Links.{durable_key, link}
 use Rattle.router_trace.specs.Trace.{Trace}
-use Rattle.router_reply.specs.Acts.{book_in}
+use Rattle.reply_rows.specs.Acts.{book_in}
 use Rattle.theorems.specs.Told.{TellsOutcome}
 
 -- The book has the row, unforgotten, from the terminus of the durable link with this handle; and the link claims this delivery-id, under the row's tag.

@@ -4,7 +4,7 @@ use Rattle.route_table.specs.Settings.{Settings}
 use Rattle.router_trace.specs.declared.event.Event.TheVariants as event
 use Rattle.router_trace.specs.Configuration.{opened}
 use Rattle.router_trace.specs.Trace.{Trace, step_of}
-use Rattle.router_reply.specs.Acts.{journaled}
+use Rattle.reply_rows.specs.Acts.{journaled}
 use Rattle.router_core.specs.Replies.{handled}
 use Rattle.core_player.specs.declared.script.Step.{Step}
 use Rattle.core_player.specs.declared.script.Step.TheVariants as step

@@ -8,7 +8,7 @@ use Rattle.journal_store.specs.Store.{OpensTo, Stands, twin_of}
 use Rattle.router_trace.specs.declared.event.Event.{Event}
 use Rattle.router_trace.specs.Trace.{Trace, Beginning}
 use Rattle.router_trace.specs.Configuration.{opened}
-use Rattle.router_reply.specs.Acts.{book_in}
+use Rattle.reply_rows.specs.Acts.{book_in}
 use Rattle.core_machine.specs.Moves.{Move}
 use Rattle.router_core.specs.declared.driving.Driven.{Driven}
 use Rattle.router_core.specs.declared.driving.Sent.{Sent}

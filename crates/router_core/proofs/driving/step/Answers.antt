@@ -4,7 +4,7 @@ use Rattle.std.proofs.lemmas.Result.{on_err_weaker, on_ok_weaker}
 use Rattle.disk_core.specs.Twin.{Contents}
 use Rattle.journal_store.specs.Store.{OpensTo, Stands, twin_of}
 use Rattle.router_trace.specs.Trace.{Entry}
-use Rattle.router_reply.specs.Acts.{book_in}
+use Rattle.reply_rows.specs.Acts.{book_in}
 use Rattle.router_core.specs.declared.driving.Sent.{Sent as ASent}
 use Rattle.router_core.specs.Handling.{Fits, id_of, store_of}
 use Rattle.router_core.specs.Runs.{Broken, MaySteps}

@@ -1,7 +1,7 @@
 use Rattle.std.proofs.Common.{◌∙◌, ap, subst, sym, List, ◌++◌, ◌∷◌, [], append_assoc}
 use Rattle.std.specs.Prelude.{Option}
 use Rattle.router_trace.specs.Trace.{Beginning}
-use Rattle.router_reply.specs.Acts.{book_in}
+use Rattle.reply_rows.specs.Acts.{book_in}
 use Rattle.router_core.specs.Handling.{kept_book}
 use Rattle.core_machine.specs.declared.fault.CoreFault.{CoreFault}
 use Rattle.core_machine.specs.Opened.{IsOpened}

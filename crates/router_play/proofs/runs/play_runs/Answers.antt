@@ -9,7 +9,7 @@ use Rattle.router_play.proofs.Carried.{runs_carry}
 use Rattle.router_play.proofs.Scenes.{runs_done, runs_more, steps_of}
 use Rattle.router_play.proofs.Stops.{one_more_ends}
 use Rattle.router_play.proofs.Telling.{graver_none, graver_tells}
-use Rattle.router_reply.specs.Acts.{journaled}
+use Rattle.reply_rows.specs.Acts.{journaled}
 use Rattle.router_play.proofs.runs.play_runs.Goals as goal
 
 pub loop-run-init : goal.loop-run-init

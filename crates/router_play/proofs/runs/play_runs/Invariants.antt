@@ -7,7 +7,7 @@ use Rattle.router_play.specs.Ending.{TellsOf, size_line}
 use Rattle.router_play.specs.Script.{PlaysAll, no_book}
 use Rattle.router_play.specs.Stopping.{EndsLives, HoldsJournal}
 use Rattle.router_play.proofs.Scenes.{steps_of}
-use Rattle.router_reply.specs.Acts.{Journaled, book_in}
+use Rattle.reply_rows.specs.Acts.{Journaled, book_in}
 use Rattle.router_trace.specs.Trace.{Trace}
 use Rattle.router_play.proofs.runs.play_runs.Given as goal
 

@@ -16,9 +16,10 @@ use Rattle.reply_rows.specs.declared.answer.Answer.{Answer}
 use Rattle.reply_rows.specs.declared.answer.Answer.TheVariants.{Taken, Settle}
 use Rattle.reply_rows.specs.Rows.{said}
 use Rattle.reply_rows.proofs.Mapped.{IsHere, answer_here}
-use Rattle.router_reply.specs.Acts.{book_in, found_journal, full_at}
+use Rattle.reply_rows.specs.Acts.{book_in, found_journal, full_at}
+use Rattle.reply_rows.specs.Admitting.{ChosenFor}
 use Rattle.router_reply.specs.Heard.{ids_named, ids_found}
-use Rattle.router_reply.specs.Resuming.{told_map}
+use Rattle.reply_rows.specs.Resuming.{told_map}
 use Rattle.reply_transfers.specs.Transfers.{given_after, disposition_in}
 use Rattle.router_reply.specs.Replies.{attach_put, after_answer, settled_put, row_found}
 use Rattle.router_reply.proofs.After.{taken_is, settled_is, other_is, taken_left, settled_left}
@@ -26,7 +27,7 @@ use Rattle.router_reply.proofs.events.begin_item.Goals as goal
 
 pub returns-in-Taken : goal.returns-in-Taken
 returns-in-Taken c = on_ok_weaker c.take_part.result
-    (λ is t after fit heard answer book row.
+    (λ is t after fit heard chosen answer book row.
     let id = c.args.id.now in
     let item = c.args.item.now in
     let conn = c.args.conn.0 in
@@ -42,14 +43,15 @@ returns-in-Taken c = on_ok_weaker c.take_part.result
       u,
       subst (λ (p : Option Part). TablesFit c.take_part.new.state (given_after (book_in t) after conn own handle (row_found t) p)) (c.take.ensures.value ∙ heard.part own here)
           (subst (λ (r : Option RowNumber). TablesFit c.take_part.new.state (given_after (book_in t) after conn own handle r c.take.result)) row
-          (subst (λ (b : BookView). TablesFit c.take_part.new.state (given_after b after conn own handle c.args.row c.take.result)) book (is after fit))),
+          (subst (λ (b : BookView). TablesFit c.take_part.new.state (given_after b after conn own handle c.args.row c.take.result)) book
+          (is after (subst (λ (a : Answer). ChosenFor after conn a c.args.consumer) c.in-Taken.is chosen) fit))),
       subst (λ (a : Answer). goes (attach_put u conn (ours a) item a) u ≡ after_answer id t after conn phase item a) (sym c.in-Taken.is) same,
     ))
     c.take_part.ensures
 
 pub returns-in-Settle : goal.returns-in-Settle
 returns-in-Settle c = on_ok_weaker c.on_settle.result
-    (λ is t after fit heard answer book row.
+    (λ is t after fit heard chosen answer book row.
     let id = c.args.id.now in
     let item = c.args.item.now in
     let conn = c.args.conn.0 in
@@ -67,7 +69,7 @@ returns-in-Settle c = on_ok_weaker c.on_settle.result
 
 pub returns-in_default : goal.returns-in_default
 returns-in_default c = on_ok_weaker c.say.result
-    (λ is t after fit heard answer book row.
+    (λ is t after fit heard chosen answer book row.
     let id = c.args.id.now in
     let item = c.args.item.now in
     let conn = c.args.conn.0 in

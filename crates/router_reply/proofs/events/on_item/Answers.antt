@@ -5,19 +5,19 @@ use Rattle.amqp_conn.specs.declared.conn.Conn.{Conn}
 use Rattle.amqp_model.specs.declared.state.UnsettledDelivery.{UnsettledDelivery}
 use Rattle.router_trace.specs.Trace.{Entry, goes}
 use Rattle.router_state.specs.Tables.{TablesFit}
-use Rattle.router_reply.specs.Acts.{answer_of, answer_by}
+use Rattle.reply_rows.specs.Acts.{answer_of, answer_by}
 use Rattle.router_reply.specs.Replies.{attach_put}
 use Rattle.router_reply.proofs.After.{after_item, decided}
 use Rattle.router_reply.proofs.events.on_item.Goals as goal
 
 pub returns-in_default-clause-fits : goal.returns-in_default-clause-fits
-returns-in_default-clause-fits c = λ t after fit phase answered book row mapped heard.
+returns-in_default-clause-fits c = λ t after fit phase answered book row mapped heard chosen.
     let gone : c.args.plan.now.phase ≡ None = search rules in
     subst (λ (p : Option Conn). TablesFit c.args.state.now (after_item c.args.id.now t after c.args.conn.0 c.args.item p)) (sym gone ∙ phase) fit
 
 pub returns-clause-fits : goal.returns-clause-fits
 returns-clause-fits c = on_ok_weaker c.answer_item.result
-    (λ is t after fit found answered book row mapped heard.
+    (λ is t after fit found answered book row mapped heard chosen.
     let id = c.args.id.now in
     let item = c.args.item in
     let conn = c.args.conn.0 in
@@ -25,7 +25,7 @@ returns-clause-fits c = on_ok_weaker c.answer_item.result
     let live = sym c.in-Some.is ∙ found in
     let answer : c.args.plan.now.answer ≡ answer_of t conn phase item
     = answered ∙ ap (λ (p : Option Conn). answer_by t conn item p) (sym live) in
-    let begun = c.in-Ok.ensures t after fit heard answer book row in
+    let begun = c.in-Ok.ensures t after fit heard chosen answer book row in
     subst (λ (u : List Entry). TablesFit c.answer_item.new.state u)
     (begun.2 ∙ decided id t after conn phase item c.args.plan.now.answer _ answer live)
     (subst (λ (ours : List UnsettledDelivery). TablesFit c.answer_item.new.state (goes (attach_put begun.0 conn ours item c.args.plan.now.answer) begun.0))

@@ -7,7 +7,7 @@ use Rattle.router_trace.specs.Deliveries.{acts_found, ended_first, giving_of}
 use Rattle.router_trace.specs.Refusing.{refuses}
 use Rattle.router_state.specs.Tables.{TablesFit, TablesAt}
 use Rattle.router_reply.specs.Heard.{IsHeard}
-use Rattle.router_reply.specs.Planning.{IsSession, IsChange}
+use Rattle.reply_rows.specs.Planning.{IsSession, IsChange}
 use Rattle.router_reply.proofs.heard.hear.Goals as goal
 
 not_false : (b : Bool) → not b ≡ false → b ≡ true

@@ -1,6 +1,6 @@
 use Rattle.std.proofs.Common.{◌≡◌, rules}
 use Rattle.std.specs.Prelude.{Some}
-use Rattle.router_reply.specs.declared.resuming.Resumption.TheVariants.{Consumer, Producer}
+use Rattle.reply_rows.specs.declared.attach.resuming.Resumption.TheVariants.{Consumer, Producer}
 use Rattle.router_reply.proofs.resuming.take_up.Goals as goal
 
 pub returns-in-Some-Consumer : goal.returns-in-Some-Consumer

@@ -1,6 +1,6 @@
 use Rattle.std.proofs.Common.{refl}
 use Rattle.journal_store.proofs.Opened.{opens_to_one}
-use Rattle.router_reply.specs.Acts.{book_in}
+use Rattle.reply_rows.specs.Acts.{book_in}
 use Rattle.router_core.specs.Handling.{kept_book}
 use Rattle.router_core.specs.Machine.{opening_of}
 use Rattle.router_trace.specs.Configuration.{opened}

@@ -6,23 +6,24 @@ use Rattle.router_trace.specs.Deliveries.{acts_found, giving_of}
 use Rattle.router_trace.specs.Refusing.{refuses}
 use Rattle.router_state.specs.Tables.{TablesFit}
 use Rattle.reply_rows.specs.declared.answer.Answer.{Answer}
-use Rattle.router_reply.specs.declared.plan.Plan.{Plan}
-use Rattle.router_reply.specs.Acts.{event_answer, planned_acts, acts_of, booked, book_found, answer_to_event}
-use Rattle.router_reply.specs.Admitting.{admits, event_admission, without_acts}
+use Rattle.reply_rows.specs.declared.plan.Plan.{Plan}
+use Rattle.reply_rows.specs.Acts.{event_answer, planned_acts, acts_of, booked, book_found, answer_to_event}
+use Rattle.reply_rows.specs.Admitting.{ChoseUnlessEnds, admits, event_admission, without_acts}
 use Rattle.router_reply.specs.Heard.{IsHeard}
-use Rattle.router_reply.specs.Planning.{IsChange}
-use Rattle.router_reply.specs.Resuming.{Resumes}
+use Rattle.reply_rows.specs.Planning.{IsChange}
+use Rattle.reply_rows.specs.Resuming.{Resumes}
 use Rattle.journal_store.specs.Store.{IsSuited}
 use Rattle.router_core.specs.Handling.{TakenIn, with_admission, full_with, kept_book}
 use Rattle.router_core.proofs.Booking.{taken_booked, phase_booked}
 use Rattle.router_core.proofs.Books.{not_refused, answer_is}
+use Rattle.router_core.proofs.Machines.{on_ok_both}
 use Rattle.router_core.proofs.Preparing.{taken_in, prepared, found_full, gives, session_after}
 use Rattle.router_core.proofs.Resuming.{resumes_booked}
 use Rattle.router_core.proofs.router.Core.hear.Goals as goal
 
 pub returns-clause-ready : goal.returns-clause-ready
-returns-clause-ready g c = on_ok_weaker c.admit.result
-    (λ tables t d.
+returns-clause-ready g c = on_ok_both c.admit.result
+    (λ tables chosen t d.
     let core = c.args.self.now in
     let e = c.args.event.now in
     let plan = c.args.plan.now in
@@ -34,19 +35,21 @@ returns-clause-ready g c = on_ok_weaker c.admit.result
     let given : giving_of e plan.acts.items ≡ giving_of e (acts_found (booked t e)) =
     gives core t e _ plan.answer plan.acts.items d.journal refl d.plan.rest.answer d.plan.rest.acts in
     let answer : plan.answer ≡ answer_to_event (booked t e) e = d.plan.rest.answer ∙ answer_is core t e d.journal in
-    let same : c.admit.new.plan ≡ record plan { change = c.hear.new.plan.change; full = c.admit.new.plan.full; acts = c.admit.new.plan.acts } =
-    c.admit.ensures.plan ∙ ap (λ (p : Plan). record p { full = c.admit.new.plan.full; acts = c.admit.new.plan.acts }) c.hear.ensures.plan in
+    let same : c.admit.new.plan ≡ record plan { change = c.hear.new.plan.change; full = c.admit.new.plan.full; acts = c.admit.new.plan.acts; consumer = c.admit.new.plan.consumer } =
+    c.admit.ensures.plan ∙ ap (λ (p : Plan). record p { full = c.admit.new.plan.full; acts = c.admit.new.plan.acts; consumer = c.admit.new.plan.consumer }) c.hear.ensures.plan in
+    let here : TablesFit c.hear.new.state (did e ∷ booked t e) = c.in_ok-hear.ensures.fits (booked t e) behind session change (sym d.before.are_due) free given in
     record {
-      tables = tables (did e ∷ booked t e)
-          (c.in_ok-hear.ensures.fits (booked t e) behind session change (sym d.before.are_due) free given);
+      tables = tables (did e ∷ booked t e) here;
       ends = ap (λ (p : Plan). p.ends.items) same ∙ behind.are_due;
       phase = ap (λ (p : Plan). p.phase) same ∙ d.plan.rest.phase ∙ sym (phase_booked t e);
       answer = ap (λ (p : Plan). p.answer) same ∙ answer;
       heard = subst (λ (a : Answer). IsHeard (booked t e) e a c.hear.new.heard) (sym (ap (λ (p : Plan). p.answer) same)) (c.in_ok-hear.ensures.heard (booked t e) _ behind session);
       resumed = subst (λ (p : Plan). Resumes (book_found (booked t e)) (booked t e) e p.answer p.resumption) (sym same)
           (resumes_booked (kept_book core) t e plan.answer plan.resumption d.journal.book d.plan.rest.resumed);
+      chosen = subst (λ (p : Plan). ChoseUnlessEnds p.ends.items (did e ∷ booked t e) e p.answer c.admit.new.plan.consumer) (sym c.admit.ensures.plan)
+          (chosen (did e ∷ booked t e) here (ap (λ (p : Plan). p.consumer) c.hear.ensures.plan ∙ d.plan.rest.unchosen));
     })
-    c.admit.ensures.tables
+    c.admit.ensures.tables c.admit.ensures.chosen
 
 pub returns-clause-acts : goal.returns-clause-acts
 returns-clause-acts g c = on_ok_weaker c.admit.result

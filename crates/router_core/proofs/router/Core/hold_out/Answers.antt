@@ -7,9 +7,9 @@ use Rattle.journal_store.specs.Store.{journal_of, twin_of}
 use Rattle.router_trace.specs.Trace.{step_of}
 use Rattle.router_state.specs.declared.tables.State.{State}
 use Rattle.router_state.specs.Tables.{TablesFit}
-use Rattle.router_reply.specs.Acts.{acts_of, booked}
-use Rattle.router_reply.specs.declared.plan.Plan.{Plan}
-use Rattle.router_reply.specs.Admitting.{row_in}
+use Rattle.reply_rows.specs.Acts.{acts_of, booked}
+use Rattle.reply_rows.specs.declared.plan.Plan.{Plan}
+use Rattle.reply_rows.specs.Admitting.{row_in}
 use Rattle.router_reply.specs.Replies.{row_found}
 use Rattle.router_core.specs.Handling.{IsReady, Journals, id_of, state_of, store_of}
 use Rattle.router_core.specs.Replies.{answered, handled}

@@ -7,11 +7,11 @@ use Rattle.state_messages.proofs.Known.{bound_fits, message_to, passed}
 use Rattle.state_messages.proofs.messages.Messages.pass.Goals as goal
 
 pub returns-in_ok-bind-in-Some-2-clause-fits : goal.returns-in_ok-bind-in-Some-2-clause-fits
-returns-in_ok-bind-in-Some-2-clause-fits c = λ t old.
+returns-in_ok-bind-in-Some-2-clause-fits c = λ t known old.
     let told : MessagesFit c.tell_all.new.self t = c.in_ok-tell_all.ensures.fits t old in
-    let chosen : Some c.in-Some.consumer ≡ consumer_of t (link_of t c.args.from) = sym c.in-Some.is ∙ c.choose.ensures.chosen t c.in_ok-tell_all.ensures.exact told in
+    let chosen : Some c.in-Some.consumer ≡ consumer_of t (link_of t c.args.from) = sym c.in-Some.is ∙ c.choose.ensures.chosen t known c.in_ok-tell_all.ensures.exact told in
     let noted : NotedFit c.choose.new.self t (last_after t (Some c.in-Some.consumer)) =
-    subst (λ v. NotedFit c.choose.new.self t (last_after t v)) c.in-Some.is (c.choose.ensures.fits t c.in_ok-tell_all.ensures.exact told) in
+    subst (λ v. NotedFit c.choose.new.self t (last_after t v)) c.in-Some.is (c.choose.ensures.fits t known c.in_ok-tell_all.ensures.exact told) in
     let lasting : Bool = c.lasts-lasting.result in
     let bound : Binding = message_to c.args.origin c.args.row lasting c.args.format c.args.payload c.in-Some.consumer in
     passed _ t c.in-Some.consumer c.args.origin c.args.row lasting c.args.format c.args.payload (consumer_of t (link_of t c.args.from)) chosen (c.lasts-lasting.ensures t noted.links)
@@ -19,9 +19,9 @@ returns-in_ok-bind-in-Some-2-clause-fits c = λ t old.
     (c.in_ok-bind-in-Some-2.ensures t bound refl noted.incoming) (c.in_ok-bind-in-Some.ensures.fits t refl noted.deliveries) c.in_ok-bind-in-Some.ensures.touches noted)
 
 pub returns-in-None-clause-fits : goal.returns-in-None-clause-fits
-returns-in-None-clause-fits c = λ t old.
+returns-in-None-clause-fits c = λ t known old.
     let told : MessagesFit c.tell_all.new.self t = c.in_ok-tell_all.ensures.fits t old in
-    let chosen : None ≡ consumer_of t (link_of t c.args.from) = sym c.in-None.is ∙ c.choose.ensures.chosen t c.in_ok-tell_all.ensures.exact told in
+    let chosen : None ≡ consumer_of t (link_of t c.args.from) = sym c.in-None.is ∙ c.choose.ensures.chosen t known c.in_ok-tell_all.ensures.exact told in
     let noted : NotedFit c.choose.new.self t (last_after t None) =
-    subst (λ v. NotedFit c.choose.new.self t (last_after t v)) c.in-None.is (c.choose.ensures.fits t c.in_ok-tell_all.ensures.exact told) in
+    subst (λ v. NotedFit c.choose.new.self t (last_after t v)) c.in-None.is (c.choose.ensures.fits t known c.in_ok-tell_all.ensures.exact told) in
     subst (λ v. let behind = with_bound (option_map (binding_to t c.args.origin c.args.row c.args.format c.args.payload) v) t in NotedFit c.choose.new.self behind (last_chosen behind)) chosen noted

@@ -1,8 +1,0 @@
-use Rattle.std.proofs.Common.{◌≡◌, ◌++◌, drop}
-use Rattle.std.specs.Prelude.{map}
-use Rattle.router_reply.specs.Deciding.{as_kept}
-use Rattle.router_reply.proofs.deciding.all_kept.Given as goal
-
--- those made so far, then those of the rest, are all
-abbrev pub invariant-loop-decision : goal.invariant-loop-decision
-invariant-loop-decision l = l.kept.items ++ map as_kept (drop l.decision-index l.rows) ≡ map as_kept l.rows
