@@ -12,6 +12,8 @@ PROGRAM = os.environ.get("AMQR", f"{TOP}/crates/amqr/out/amqr")
 HEADER = bytes.fromhex("414D515000010000")
 OPEN = bytes.fromhex("0000001102000000005310C00401A10163")
 CLOSE = bytes.fromhex("0000000C0200000000531845")
+# what memory may grow by: what the allocator keeps, and a thread's stack
+GROWTH = 8_000
 
 
 def free_port():
@@ -129,6 +131,22 @@ def read_end(s):
         if not piece:
             return data
         data += piece
+
+
+class Grown(Exception):
+    """Memory didn't come back."""
+
+
+def grown(before, after, most=GROWTH):
+    if after > before + most:
+        raise Grown(f"memory {before} before, {after} after")
+    return f"memory {before} before, {after} after"
+
+
+def settled(served):
+    """Memory once all connections have left."""
+    time.sleep(2.5)
+    return served.memory()
 
 
 class Rows:
