@@ -1,0 +1,7 @@
+pub mod Middles
+pub mod Mirrored
+pub mod Rooms
+pub mod Empties
+pub mod Cuts
+pub mod Passes
+pub mod Runs

@@ -1,0 +1,5 @@
+pub mod Parts
+pub mod Legs
+pub mod Cutting
+pub mod Turns
+pub mod Releases
