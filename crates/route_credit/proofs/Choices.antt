@@ -1,5 +1,5 @@
 -- The choice, by the ranks of consumers.
-use Rattle.std.proofs.Common.{◌≡◌, ◌∙◌, sym, refl, subst, ℕ, Bool, true, false, ◌⊎◌, inl, inr, ⊎_elim, ◌<◌, ◌≤◌, Option, Some, None, List, arith}
+use Rattle.std.proofs.Common.{◌≡◌, ap, ◌∙◌, sym, refl, subst, ℕ, Bool, true, false, ◌⊎◌, inl, inr, ⊎_elim, ◌<◌, ◌≤◌, Option, Some, None, List, arith}
 use Rattle.std.specs.Prelude.{nat_lt, if◌then◌else◌, option_and_then, option_map}
 use Rattle.route_credit.specs.Links.{link_at, IsLeast}
 use Rattle.route_credit.specs.Pool.{Sharing, turn_of, need, is_short, IsNext, IsNextIf}
@@ -14,20 +14,19 @@ pub least_agree : (f g : ℕ → Option ℕ) (r : Option ℕ) → ((id : ℕ) �
 least_agree f g None same none = λ id. sym (same id) ∙ none id
 least_agree f g (Some id) same least = (least.0, sym (same id) ∙ least.1, λ other m is. least.2 other m (same other ∙ is))
 
-pub choice_first : (distribution : Distribution) (last : ℕ) (links : List (ℕ × Offer)) (r : Option ℕ) → (distribution ≡ Closest → ⊥)
+pub choice_first : (distribution : Distribution) (last : ℕ) (links : List (ℕ × Offer)) (r : Option ℕ) → distribution ≡ Balanced
     → IsLeast (rank_at (offer_rank distribution) links) r → IsLeast (λ id. option_and_then (turn_of distribution last id) (link_at links id)) r
-choice_first Balanced last links r apart least = least_agree _ _ r (λ id. refl) least
-choice_first Closest last links r apart least = absurd (apart refl)
-choice_first Multicast last links r apart least = least_agree _ _ r (λ id. refl) least
+choice_first Balanced last links r is least = least_agree _ _ r (λ id. refl) least
+choice_first Closest last links r is least = absurd cc
+choice_first Multicast last links r is least = absurd cc
 
-pub not_closest : (distribution : Distribution) → (distribution ≡ Balanced) ⊎ (distribution ≡ Multicast) → distribution ≡ Closest → ⊥
-not_closest distribution is other = ⊎_elim (λ e. differ (sym e ∙ other)) (λ e. differ2 (sym e ∙ other)) is
+-- a multicast address chooses nobody
+pub choice_never : (distribution : Distribution) (last : ℕ) (links : List (ℕ × Offer)) → distribution ≡ Multicast → (id : ℕ) → option_and_then (turn_of distribution last id) (link_at links id) ≡ None
+choice_never distribution last links is id = by_link (link_at links id)
   where
-    differ : Balanced ≡ Closest → ⊥
-    differ h = cc
-
-    differ2 : Multicast ≡ Closest → ⊥
-    differ2 h = cc
+    by_link : (x : Option Offer) → option_and_then (turn_of distribution last id) x ≡ None
+    by_link None = refl
+    by_link (Some offer) = ap (λ d. turn_of d last id offer) is
 
 -- first those after a number, then the others
 abbrev round : ℕ → (ℕ → Option ℕ) → ℕ → Option ℕ
@@ -82,16 +81,36 @@ in_turn : (b : Bool) (x : Option Offer) → option_map {U = ℕ} (λ (n : ℕ). 
 in_turn b None = refl
 in_turn b (Some offer) = by_test (nat_lt 0 offer.free) (λ e. rw e refl) (λ e. rw e refl)
 
-flat_rank : (x : Option Offer) (m : ℕ) → option_and_then (offer_rank Closest) x ≡ Some m → m ≡ 0
-flat_rank None m h = none_some m h
-flat_rank (Some offer) m h = by_test (nat_lt 0 offer.free) (λ e. zero_of m (rw e at h)) (λ e. none_some m (rw e at h))
+free_rank : (x : Option Offer) (m : ℕ) → option_and_then (λ offer. if nat_lt 0 offer.free then Some 0 else None) x ≡ Some m → m ≡ 0
+free_rank None m h = none_some m h
+free_rank (Some offer) m h = by_test (nat_lt 0 offer.free) (λ e. zero_of m (rw e at h)) (λ e. none_some m (rw e at h))
   where
     zero_of : (m : ℕ) → Some 0 ≡ Some m → m ≡ 0
     zero_of m h = cc
 
--- in turn, all have the same rank
+flat_by : (distribution : Distribution) (x : Option Offer) (m : ℕ) → (distribution ≡ Balanced → ⊥) → option_and_then (offer_rank distribution) x ≡ Some m → m ≡ 0
+flat_by Balanced x m apart h = absurd (apart refl)
+flat_by Closest x m apart h = free_rank x m h
+flat_by Multicast x m apart h = free_rank x m h
+
+closest_apart : (distribution : Distribution) → distribution ≡ Closest → distribution ≡ Balanced → ⊥
+closest_apart distribution is other = differ (sym is ∙ other)
+  where
+    differ : Closest ≡ Balanced → ⊥
+    differ h = cc
+
+multicast_apart : (distribution : Distribution) → distribution ≡ Multicast → distribution ≡ Balanced → ⊥
+multicast_apart distribution is other = differ (sym is ∙ other)
+  where
+    differ : Multicast ≡ Balanced → ⊥
+    differ h = cc
+
+-- in turn, and where each gets a copy, all have the same rank
 pub flat_ranks : (distribution : Distribution) (links : List (ℕ × Offer)) → distribution ≡ Closest → (other m : ℕ) → rank_at (offer_rank distribution) links other ≡ Some m → m ≡ 0
-flat_ranks distribution links is other m h = flat_rank (link_at links other) m (rw is at h)
+flat_ranks distribution links is other m h = flat_by distribution (link_at links other) m (closest_apart distribution is) h
+
+pub flat_copies : (distribution : Distribution) (links : List (ℕ × Offer)) → distribution ≡ Multicast → (other m : ℕ) → rank_at (offer_rank distribution) links other ≡ Some m → m ≡ 0
+flat_copies distribution links is other m h = flat_by distribution (link_at links other) m (multicast_apart distribution is) h
 
 pub choice_after : (distribution : Distribution) (last : ℕ) (links : List (ℕ × Offer)) (id : ℕ) → distribution ≡ Closest
     → IsLeast (behind last (rank_at (offer_rank distribution) links)) (Some id) → IsLeast (λ other. option_and_then (turn_of distribution last other) (link_at links other)) (Some id)

@@ -11,7 +11,7 @@ use Rattle.std.proofs.lemmas.Map.Made.{is_some-lookup}
 use Rattle.route_credit.specs.Giving.{IsGiving}
 use Rattle.route_credit.specs.Granting.{all_granted, gain, gains, granting, granted, given_to, grants_of, least, next, room}
 use Rattle.route_credit.specs.Links.{amount_at, link_at}
-use Rattle.route_credit.specs.Pool.{given, is_short, IsNext, lent_at, need, part_of, Sharing, short_by}
+use Rattle.route_credit.specs.Pool.{given, is_short, IsNext, unused_at, need, part_of, Sharing, short_by}
 use Rattle.route_table.specs.declared.sections.Distribution.{Distribution}
 use Rattle.route_table.specs.declared.sections.Distribution.TheVariants.{Balanced, Closest}
 use Rattle.route_credit.specs.declared.demand.Demand.{Demand}
@@ -37,7 +37,7 @@ pub keys_more : (old now after : Sharing) (id : ℕ) → keys_of now.producers �
 keys_more old now after id same ordered first gives =
     let need : InNeed now.distribution (link_at now.producers id) = next_needs now id first in
     ap (λ p. keys_of p.producers) (gives need.demand need.there)
-    ∙ keys_with now.producers id (record need.demand { lent = need.demand.lent + part_of now.distribution need.demand }) need.demand ordered need.there ∙ same
+    ∙ keys_with now.producers id (record need.demand { unused = need.demand.unused + part_of now.distribution need.demand }) need.demand ordered need.there ∙ same
 
 -- what is found in the sums of some links
 gains_at : (amount : ℕ → ℕ) (ids : List ℕ) (q : ℕ) → link_at (gains amount ids) q ≡ cond (list_any (is_at (nat_cmp q)) ids && nat_lt 0 (amount q)) (Some (amount q)) None
@@ -102,21 +102,21 @@ sums_are old now sums is ordered none in_order =
 
     gain_is : (q : ℕ) → gain old (all_granted old) q ≡ amount_at (λ n. n) (link_at sums q)
     gain_is q =
-        let a : lent_at now q ≡ lent_at old q + amount_at (λ n. n) (link_at sums q) = is.raised q in
-        let b : lent_at (all_granted old) q ≡ lent_at now q = ap (λ p. lent_at p q) (sym now_is) in
+        let a : unused_at now q ≡ unused_at old q + amount_at (λ n. n) (link_at sums q) = is.raised q in
+        let b : unused_at (all_granted old) q ≡ unused_at now q = ap (λ p. unused_at p q) (sym now_is) in
         omega (arith, a, b)
 
-    lent_there : (q : ℕ) (x : Option Demand) → 0 < amount_at (λ (demand : Demand). demand.lent) x → is_some x ≡ true
-    lent_there q None above = absurd (omega (arith, above))
-    lent_there q (Some demand) above = refl
+    unused_there : (q : ℕ) (x : Option Demand) → 0 < amount_at (λ (demand : Demand). demand.unused) x → is_some x ≡ true
+    unused_there q None above = absurd (omega (arith, above))
+    unused_there q (Some demand) above = refl
 
     among : (q n : ℕ) → link_at sums q ≡ Some n → list_any (is_at (nat_cmp q)) (keys_of old.producers) ≡ true
     among q n there =
         let some : 0 < n = is.some q n there in
-        let a : lent_at now q ≡ lent_at old q + amount_at (λ n. n) (link_at sums q) = is.raised q in
+        let a : unused_at now q ≡ unused_at old q + amount_at (λ n. n) (link_at sums q) = is.raised q in
         let b : amount_at (λ (n : ℕ). n) (link_at sums q) ≡ n = ap (amount_at (λ n. n)) there in
-        let above : 0 < lent_at now q = omega (arith, some, a, b) in
-        ap (λ ids. list_any (is_at (nat_cmp q)) ids) (sym is.keys) ∙ sym (is_some-lookup (is_at (nat_cmp q)) now.producers) ∙ lent_there q (link_at now.producers q) above
+        let above : 0 < unused_at now q = omega (arith, some, a, b) in
+        ap (λ ids. list_any (is_at (nat_cmp q)) ids) (sym is.keys) ∙ sym (is_some-lookup (is_at (nat_cmp q)) now.producers) ∙ unused_there q (link_at now.producers q) above
 
     found : (q : ℕ) (x : Option ℕ) → link_at sums q ≡ x
         → link_at sums q ≡ cond (list_any (is_at (nat_cmp q)) (keys_of old.producers) && nat_lt 0 (gain old (all_granted old) q)) (Some (gain old (all_granted old) q)) None
@@ -137,7 +137,7 @@ sums_are old now sums is ordered none in_order =
 -- where nobody is next nothing is granted
 pub no_grants : (pool : Sharing) → next pool ≡ None → grants_of pool ≡ []
 no_grants pool none = no_gains (gain pool (all_granted pool)) (keys_of pool.producers) (λ id.
-    let same : lent_at (all_granted pool) id ≡ lent_at pool id = ap (λ p. lent_at p id) (none_granted pool none) in
+    let same : unused_at (all_granted pool) id ≡ unused_at pool id = ap (λ p. unused_at p id) (none_granted pool none) in
     omega (arith, same))
 
 -- nor where no credit is to be given

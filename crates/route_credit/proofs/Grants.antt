@@ -47,7 +47,7 @@ some_room pool id ordered is =
     omega (arith, less)
 
 given_ordered : (pool : Sharing) (id : ℕ) (demand : Demand) → InOrder pool.producers → InOrder (given pool id demand).producers
-given_ordered pool id demand ordered = with_ordered pool.producers id (record demand { lent = demand.lent + part_of pool.distribution demand }) ordered
+given_ordered pool id demand ordered = with_ordered pool.producers id (record demand { unused = demand.unused + part_of pool.distribution demand }) ordered
 
 -- the cases of one grant
 one_grant : (P : Sharing → Type 0) (pool : Sharing) → InOrder pool.producers → (next pool ≡ None → P pool)
@@ -145,7 +145,7 @@ all_ordered pool ordered = all_keep (λ p. InOrder p.producers) (room pool) pool
 -- grants change no number
 pub all_keys : (pool : Sharing) → InOrder pool.producers → keys_of (all_granted pool).producers ≡ keys_of pool.producers
 all_keys pool ordered = all_keep (λ p. keys_of p.producers ≡ keys_of pool.producers) (room pool) pool ordered
-    (λ now id demand o next there is. keys_with now.producers id (record demand { lent = demand.lent + part_of now.distribution demand }) demand o there ∙ is) refl
+    (λ now id demand o next there is. keys_with now.producers id (record demand { unused = demand.unused + part_of now.distribution demand }) demand o there ∙ is) refl
 
 pub all_consumers : (pool : Sharing) → InOrder pool.producers → (all_granted pool).consumers ≡ pool.consumers
 all_consumers pool ordered = all_keep (λ p. p.consumers ≡ pool.consumers) (room pool) pool ordered (λ now id demand o next there is. is) refl
@@ -159,33 +159,33 @@ all_last pool ordered = all_keep (λ p. p.last ≡ pool.last) (room pool) pool o
 -- a producer and the credit that it was granted, or nobody
 abbrev raised_by : ℕ → Option Demand → Option Demand
 raised_by n None = None
-raised_by n (Some demand) = Some (record demand { lent = demand.lent + n })
+raised_by n (Some demand) = Some (record demand { unused = demand.unused + n })
 
 abbrev Raised : Option Demand → Option Demand → Type 0
 Raised old new = (n : ℕ) × (new ≡ raised_by n old)
 
 raised_none : (x : Option Demand) → x ≡ raised_by 0 x
 raised_none None = refl
-raised_none (Some demand) = ap (λ n. Some (record demand { lent = n })) (let e : demand.lent ≡ demand.lent + 0 = omega arith in e)
+raised_none (Some demand) = ap (λ n. Some (record demand { unused = n })) (let e : demand.unused ≡ demand.unused + 0 = omega arith in e)
 
-raised_more : (old new : Option Demand) (demand : Demand) (n : ℕ) → Raised old new → new ≡ Some demand → Raised old (Some (record demand { lent = demand.lent + n }))
+raised_more : (old new : Option Demand) (demand : Demand) (n : ℕ) → Raised old new → new ≡ Some demand → Raised old (Some (record demand { unused = demand.unused + n }))
 raised_more None new demand n is there = none_some demand (sym is.1 ∙ there)
 raised_more (Some before) new demand n is there =
-    let same : record before { lent = before.lent + is.0 } ≡ demand = inside (record before { lent = before.lent + is.0 }) demand (sym is.1 ∙ there) in
-    let lent : before.lent + is.0 + n ≡ before.lent + (is.0 + n) = omega arith in
-    (is.0 + n, ap {A = Demand} (λ d. Some (record d { lent = d.lent + n })) (sym same) ∙ ap (λ l. Some (record before { lent = l })) lent)
+    let same : record before { unused = before.unused + is.0 } ≡ demand = inside (record before { unused = before.unused + is.0 }) demand (sym is.1 ∙ there) in
+    let unused : before.unused + is.0 + n ≡ before.unused + (is.0 + n) = omega arith in
+    (is.0 + n, ap {A = Demand} (λ d. Some (record d { unused = d.unused + n })) (sym same) ∙ ap (λ u. Some (record before { unused = u })) unused)
   where
     inside : (x y : Demand) → Some x ≡ Some y → x ≡ y
     inside x y h = cc
 
--- grants raise what is lent, and nothing else
+-- grants raise what is unused, and nothing else
 all_raised : (pool : Sharing) (q : ℕ) → InOrder pool.producers → Raised (link_at pool.producers q) (link_at (all_granted pool).producers q)
 all_raised pool q ordered = all_keep (λ p. Raised (link_at pool.producers q) (link_at p.producers q)) (room pool) pool ordered one (0, raised_none (link_at pool.producers q))
   where
     one : (now : Sharing) (id : ℕ) (demand : Demand) → InOrder now.producers → next now ≡ Some id → link_at now.producers id ≡ Some demand
         → Raised (link_at pool.producers q) (link_at now.producers q) → Raised (link_at pool.producers q) (link_at (given now id demand).producers q)
     one now id demand o next there is =
-        let more : Demand = record demand { lent = demand.lent + part_of now.distribution demand } in
+        let more : Demand = record demand { unused = demand.unused + part_of now.distribution demand } in
         subst (Raised (link_at pool.producers q)) (sym (link_with now.producers id more q))
         (by_test (id == q)
         (λ e. subst (λ b. Raised (link_at pool.producers q) (cond b (Some more) (link_at now.producers q))) (sym e)
@@ -196,11 +196,11 @@ all_raised pool q ordered = all_keep (λ p. Raised (link_at pool.producers q) (l
 pub kept_by_all : (pool : Sharing) (q : ℕ) → InOrder pool.producers → gain pool (all_granted pool) q ≡ 0 → link_at (all_granted pool).producers q ≡ link_at pool.producers q
 kept_by_all pool q ordered none = by_link (link_at pool.producers q) (link_at (all_granted pool).producers q) (all_raised pool q ordered) none
   where
-    by_link : (old new : Option Demand) → Raised old new → amount_at (λ demand. demand.lent) new - amount_at (λ demand. demand.lent) old ≡ 0 → new ≡ old
+    by_link : (old new : Option Demand) → Raised old new → amount_at (λ demand. demand.unused) new - amount_at (λ demand. demand.unused) old ≡ 0 → new ≡ old
     by_link None new is none = is.1
     by_link (Some before) new is none =
-        let lent : amount_at (λ (demand : Demand). demand.lent) new ≡ before.lent + is.0 = ap (amount_at (λ demand. demand.lent)) is.1 in
-        let zero_is : is.0 ≡ 0 = omega (arith, lent, none) in
+        let unused : amount_at (λ (demand : Demand). demand.unused) new ≡ before.unused + is.0 = ap (amount_at (λ demand. demand.unused)) is.1 in
+        let zero_is : is.0 ≡ 0 = omega (arith, unused, none) in
         is.1 ∙ ap (λ n. raised_by n (Some before)) zero_is ∙ sym (raised_none (Some before))
 
 -- and no producer is added

@@ -4,7 +4,7 @@ use Rattle.std.specs.Prelude.{nat_lt, nat_le, if◌then◌else◌, option_and_th
 use Rattle.std.proofs.lemmas.Bool.{ltb-true, ltb-false, leb-false}
 use Rattle.route_credit.specs.Laws.{ChoiceIsOne, ChosenIsFree, GrantsAreEnough, NobodyWhereNoneIsFree, NothingLeft}
 use Rattle.route_credit.specs.Links.{link_at, IsLeast}
-use Rattle.route_credit.specs.Pool.{Sharing, free, lent, need_of, short_by, turn, turn_of, IsNextIf}
+use Rattle.route_credit.specs.Pool.{Sharing, free, lent, lent_of, need_of, short_by, turn, turn_of, IsNextIf}
 use Rattle.route_credit.specs.declared.demand.Demand.{Demand}
 use Rattle.route_credit.specs.declared.offer.Offer.{Offer}
 use Rattle.route_table.specs.declared.sections.Distribution.{Distribution}
@@ -70,11 +70,11 @@ nobody_where_none_is_free pool = (
   λ is id. never pool.distribution pool.last id (link_at pool.consumers id) is,
 )
 
-low_no : (n : ℕ) (demand : Demand) → (if nat_lt n 64 then Some demand.lent else None) ≡ None → 64 ≤ n
-low_no n demand none = by_test (nat_lt n 64) (λ e. none_some demand.lent (sym (rw e at none))) (λ e. ltb-false n 64 e)
+low_no : (n : ℕ) (demand : Demand) → (if nat_lt n 64 then Some (lent_of demand) else None) ≡ None → 64 ≤ n
+low_no n demand none = by_test (nat_lt n 64) (λ e. none_some (lent_of demand) (sym (rw e at none))) (λ e. ltb-false n 64 e)
 
-high_no : (n : ℕ) (demand : Demand) → (if nat_le n 32 then Some demand.lent else None) ≡ None → 32 < n
-high_no n demand none = by_test (nat_le n 32) (λ e. none_some demand.lent (sym (rw e at none))) (λ e. omega (arith, leb-false n 32 e))
+high_no : (n : ℕ) (demand : Demand) → (if nat_le n 32 then Some (lent_of demand) else None) ≡ None → 32 < n
+high_no n demand none = by_test (nat_le n 32) (λ e. none_some (lent_of demand) (sym (rw e at none))) (λ e. omega (arith, leb-false n 32 e))
 
 no_need : (distribution : Distribution) (pool : Sharing) → pool.distribution ≡ distribution → ((id : ℕ) → option_and_then (need_of pool.distribution) (link_at pool.producers id) ≡ None) → (id : ℕ) (demand : Demand) → link_at pool.producers id ≡ Some demand → need_of distribution demand ≡ None
 no_need distribution pool is none id demand there = sym (ap (λ d. need_of d demand) is) ∙ sym (ap (option_and_then (need_of pool.distribution)) there) ∙ none id
@@ -86,8 +86,8 @@ grants_are_enough pool next = by_kind pool.distribution refl (nat_lt (lent pool)
     none_is d b is e short = no_need d pool is (subst (λ t. IsNextIf t pool None) (ap (λ k. short_by k (nat_lt (lent pool) (free pool))) is ∙ ap (short_by d) e ∙ short) next)
 
     by_kind : (d : Distribution) → pool.distribution ≡ d → (b : Bool) → nat_lt (lent pool) (free pool) ≡ b → NothingLeft d pool
-    by_kind Balanced is true e = inr (λ id demand there. low_no (demand.lent + demand.held) demand (none_is Balanced true is e refl id demand there))
+    by_kind Balanced is true e = inr (λ id demand there. low_no (lent_of demand + demand.held) demand (none_is Balanced true is e refl id demand there))
     by_kind Balanced is false e = inl (ltb-false (lent pool) (free pool) e)
-    by_kind Closest is true e = inr (λ id demand there. low_no (demand.lent + demand.held) demand (none_is Closest true is e refl id demand there))
+    by_kind Closest is true e = inr (λ id demand there. low_no (lent_of demand + demand.held) demand (none_is Closest true is e refl id demand there))
     by_kind Closest is false e = inl (ltb-false (lent pool) (free pool) e)
-    by_kind Multicast is b e = λ id demand there. high_no (demand.lent + demand.due) demand (none_is Multicast b is e refl id demand there)
+    by_kind Multicast is b e = λ id demand there. high_no demand.unused demand (none_is Multicast b is e refl id demand there)

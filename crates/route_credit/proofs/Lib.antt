@@ -1,5 +1,6 @@
 pub mod Alone
 pub mod Choices
+pub mod Copying
 pub mod Counted
 pub mod Entries
 pub mod Firsts

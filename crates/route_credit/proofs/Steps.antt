@@ -8,7 +8,7 @@ use Rattle.std.proofs.lemmas.Bool.{eqb-true, ltb-true, leb-true}
 use Rattle.route_credit.specs.Giving.{IsGiving}
 use Rattle.route_credit.specs.Granting.{all_granted, room}
 use Rattle.route_credit.specs.Links.{amount_at, link_at, with_link, total}
-use Rattle.route_credit.specs.Pool.{Sharing, Granted, given, need_of, is_short, IsNext, IsNextIf, free, lent, lent_at, part_of, short_by, WithinFree}
+use Rattle.route_credit.specs.Pool.{Sharing, Granted, given, need_of, is_short, IsNext, IsNextIf, free, lent, lent_of, part_of, short_by, unused_at, WithinFree}
 use Rattle.route_credit.specs.Pool.Granted.{none, more}
 use Rattle.route_credit.specs.declared.demand.Demand.{Demand}
 use Rattle.route_table.specs.declared.sections.Distribution.{Distribution}
@@ -21,25 +21,25 @@ use Rattle.route_credit.proofs.Sums.{total_set}
 pub record InNeed (distribution : Distribution) (link : Option Demand) : Type 0 where
   pub demand : Demand
   pub there : link ≡ Some demand
-  pub low : demand.lent < 64
+  pub low : demand.unused < 64 + demand.due
   pub gets : 0 < part_of distribution demand
 
 in_need : (distribution : Distribution) (link : Option Demand) (n : ℕ) → option_and_then (need_of distribution) link ≡ Some n → InNeed distribution link
 in_need distribution None n h = absurd cc
-in_need Balanced (Some d) n h = by_test (nat_lt (d.lent + d.held) 64)
-    (λ e. record { demand = d; there = refl; low = (let l : d.lent + d.held < 64 = ltb-true (d.lent + d.held) 64 e in omega (arith, l)); gets = omega arith })
+in_need Balanced (Some d) n h = by_test (nat_lt (lent_of d + d.held) 64)
+    (λ e. record { demand = d; there = refl; low = (let l : d.unused - d.due + d.held < 64 = ltb-true (lent_of d + d.held) 64 e in omega (arith, l)); gets = omega arith })
     (λ e. absurd (none_some n (rw e at h)))
   where
     none_some : (n : ℕ) → None ≡ Some n → ⊥
     none_some n h = cc
-in_need Closest (Some d) n h = by_test (nat_lt (d.lent + d.held) 64)
-    (λ e. record { demand = d; there = refl; low = (let l : d.lent + d.held < 64 = ltb-true (d.lent + d.held) 64 e in omega (arith, l)); gets = omega arith })
+in_need Closest (Some d) n h = by_test (nat_lt (lent_of d + d.held) 64)
+    (λ e. record { demand = d; there = refl; low = (let l : d.unused - d.due + d.held < 64 = ltb-true (lent_of d + d.held) 64 e in omega (arith, l)); gets = omega arith })
     (λ e. absurd (none_some n (rw e at h)))
   where
     none_some : (n : ℕ) → None ≡ Some n → ⊥
     none_some n h = cc
-in_need Multicast (Some d) n h = by_test (nat_le (d.lent + d.due) 32)
-    (λ e. let l : d.lent + d.due ≤ 32 = leb-true (d.lent + d.due) 32 e in record { demand = d; there = refl; low = omega (arith, l); gets = omega (arith, l) })
+in_need Multicast (Some d) n h = by_test (nat_le d.unused 32)
+    (λ e. let l : d.unused ≤ 32 = leb-true d.unused 32 e in record { demand = d; there = refl; low = omega (arith, l); gets = omega (arith, l) })
     (λ e. absurd (none_some n (rw e at h)))
   where
     none_some : (n : ℕ) → None ≡ Some n → ⊥
@@ -69,22 +69,22 @@ within_more now after id next gives ordered =
     needs = next_needs now id next
 
     raised_demand : Demand
-    raised_demand = record needs.demand { lent = needs.demand.lent + part_of now.distribution needs.demand }
+    raised_demand = record needs.demand { unused = needs.demand.unused + part_of now.distribution needs.demand }
 
     some_none : (id : ℕ) → Some id ≡ None → ⊥
     some_none id h = cc
 
-    sum : total (λ d. d.lent) (with_link now.producers id raised_demand) ≡ lent now + part_of now.distribution needs.demand
+    sum : total lent_of (with_link now.producers id raised_demand) ≤ lent now + part_of now.distribution needs.demand
     sum =
-        let set : total (λ d. d.lent) (with_link now.producers id raised_demand) + amount_at (λ d. d.lent) (link_at now.producers id) ≡ lent now + raised_demand.lent = total_set (λ d. d.lent) now.producers id raised_demand (ordered needs.demand needs.there) in
-        let was : amount_at (λ d. d.lent) (link_at now.producers id) ≡ needs.demand.lent = ap (amount_at (λ d. d.lent)) needs.there in
+        let set : total lent_of (with_link now.producers id raised_demand) + amount_at lent_of (link_at now.producers id) ≡ lent now + (needs.demand.unused + part_of now.distribution needs.demand - needs.demand.due) = total_set lent_of now.producers id raised_demand (ordered needs.demand needs.there) in
+        let was : amount_at lent_of (link_at now.producers id) ≡ needs.demand.unused - needs.demand.due = ap (amount_at lent_of) needs.there in
         omega (arith, set, was)
 
     below : (d : Distribution) → now.distribution ≡ d → (b : Bool) → nat_lt (lent now) (free now) ≡ b → short_by d b ≡ b → lent now < free now
     below d is true e same = ltb-true (lent now) (free now) e
     below d is false e same = absurd (some_none id (subst (λ t. IsNextIf t now (Some id)) (ap (λ k. short_by k (nat_lt (lent now) (free now))) is ∙ ap (short_by d) e ∙ same) next))
 
-    by_kind : (d : Distribution) → now.distribution ≡ d → (b : Bool) → nat_lt (lent now) (free now) ≡ b → WithinFree d (total (λ k. k.lent) (with_link now.producers id raised_demand)) (free now)
+    by_kind : (d : Distribution) → now.distribution ≡ d → (b : Bool) → nat_lt (lent now) (free now) ≡ b → WithinFree d (total lent_of (with_link now.producers id raised_demand)) (free now)
     by_kind Balanced is b e =
         let l : lent now < free now = below Balanced is b e refl in
         let p : part_of now.distribution needs.demand ≡ 1 = ap (λ k. part_of k needs.demand) is in
@@ -131,26 +131,26 @@ giving_more old now after id part sums sums_after is next gives parts adds order
     above n h = let e : amount_at (λ n. n) (link_at sums id) + part ≡ n = cc in let l = positive in omega (arith, e, l)
 
     raised_demand : Demand
-    raised_demand = record demand { lent = demand.lent + part_of now.distribution demand }
+    raised_demand = record demand { unused = demand.unused + part_of now.distribution demand }
 
-    at_after : (q : ℕ) → lent_at after q ≡ amount_at (λ d. d.lent) (cond (id == q) (Some raised_demand) (link_at now.producers q))
-    at_after q = ap (λ p. lent_at p q) (gives demand there) ∙ ap (amount_at (λ d. d.lent)) (link_with now.producers id raised_demand q)
+    at_after : (q : ℕ) → unused_at after q ≡ amount_at (λ d. d.unused) (cond (id == q) (Some raised_demand) (link_at now.producers q))
+    at_after q = ap (λ p. unused_at p q) (gives demand there) ∙ ap (amount_at (λ d. d.unused)) (link_with now.producers id raised_demand q)
 
-    here : (q : ℕ) → (id == q) ≡ true → lent_at after q ≡ lent_at old q + amount_at (λ n. n) (link_at sums_after q)
+    here : (q : ℕ) → (id == q) ≡ true → unused_at after q ≡ unused_at old q + amount_at (λ n. n) (link_at sums_after q)
     here q e =
         let same : id ≡ q = eqb-true id q e in
-        let one : lent_at after q ≡ demand.lent + part_of now.distribution demand = at_after q ∙ ap (λ b. amount_at (λ d. d.lent) (cond b (Some raised_demand) (link_at now.producers q))) e in
-        let two : lent_at now q ≡ demand.lent = ap (λ k. lent_at now k) (sym same) ∙ ap (amount_at (λ d. d.lent)) there in
+        let one : unused_at after q ≡ demand.unused + part_of now.distribution demand = at_after q ∙ ap (λ b. amount_at (λ d. d.unused) (cond b (Some raised_demand) (link_at now.producers q))) e in
+        let two : unused_at now q ≡ demand.unused = ap (λ k. unused_at now k) (sym same) ∙ ap (amount_at (λ d. d.unused)) there in
         let three : amount_at (λ n. n) (link_at sums_after q) ≡ amount_at (λ n. n) (link_at sums id) + part = ap (amount_at (λ n. n)) (adds q) ∙ ap (λ b. amount_at (λ n. n) (if b then Some (amount_at (λ n. n) (link_at sums id) + part) else link_at sums q)) e in
-        let four : lent_at now q ≡ lent_at old q + amount_at (λ n. n) (link_at sums id) = is.raised q ∙ ap (λ k. lent_at old q + amount_at (λ n. n) (link_at sums k)) (sym same) in
+        let four : unused_at now q ≡ unused_at old q + amount_at (λ n. n) (link_at sums id) = is.raised q ∙ ap (λ k. unused_at old q + amount_at (λ n. n) (link_at sums k)) (sym same) in
         let five : part ≡ part_of now.distribution demand = parts demand there in
         omega (arith, one, two, three, four, five)
 
-    elsewhere : (q : ℕ) → (id == q) ≡ false → lent_at after q ≡ lent_at old q + amount_at (λ n. n) (link_at sums_after q)
+    elsewhere : (q : ℕ) → (id == q) ≡ false → unused_at after q ≡ unused_at old q + amount_at (λ n. n) (link_at sums_after q)
     elsewhere q e =
-        let one : lent_at after q ≡ lent_at now q = at_after q ∙ ap (λ b. amount_at (λ d. d.lent) (cond b (Some raised_demand) (link_at now.producers q))) e in
+        let one : unused_at after q ≡ unused_at now q = at_after q ∙ ap (λ b. amount_at (λ d. d.unused) (cond b (Some raised_demand) (link_at now.producers q))) e in
         let two : amount_at (λ n. n) (link_at sums_after q) ≡ amount_at (λ n. n) (link_at sums q) = ap (amount_at (λ n. n)) (adds q) ∙ ap (λ b. amount_at (λ n. n) (if b then Some (amount_at (λ n. n) (link_at sums id) + part) else link_at sums q)) e in
-        one ∙ is.raised q ∙ ap (λ n. lent_at old q + n) (sym two)
+        one ∙ is.raised q ∙ ap (λ n. unused_at old q + n) (sym two)
 
 -- a grant leaves less room
 pub less_room : (now after : Sharing) (id : ℕ) → IsNext now (Some id)
@@ -159,11 +159,11 @@ pub less_room : (now after : Sharing) (id : ℕ) → IsNext now (Some id)
     → room after < room now
 less_room now after id next gives ordered =
     let demand : Demand = needs.demand in
-    let raised_demand : Demand = record demand { lent = demand.lent + part_of now.distribution demand } in
+    let raised_demand : Demand = record demand { unused = demand.unused + part_of now.distribution demand } in
     let sum : total left (with_link now.producers id raised_demand) + amount_at left (link_at now.producers id) ≡ total left now.producers + left raised_demand = total_set left now.producers id raised_demand (ordered demand needs.there) in
-    let was : amount_at left (link_at now.producers id) ≡ 64 - demand.lent = ap (amount_at left) needs.there in
+    let was : amount_at left (link_at now.producers id) ≡ 64 + demand.due - demand.unused = ap (amount_at left) needs.there in
     let is : room after ≡ total left (with_link now.producers id raised_demand) = ap room (gives demand needs.there) in
-    let low : demand.lent < 64 = needs.low in
+    let low : demand.unused < 64 + demand.due = needs.low in
     let gets : 0 < part_of now.distribution demand = needs.gets in
     omega (arith, sum, was, is, low, gets)
   where
@@ -171,7 +171,7 @@ less_room now after id next gives ordered =
     needs = next_needs now id next
 
     left : Demand → ℕ
-    left d = 64 - d.lent
+    left d = 64 + d.due - d.unused
 
 -- nothing was given yet
 pub giving_none : (pool : Sharing) (sums : List (ℕ × ℕ)) → sums ≡ [] → IsGiving pool pool sums

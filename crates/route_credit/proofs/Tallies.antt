@@ -4,7 +4,7 @@ use Rattle.std.specs.List.Sorted.{IsStrictlySortedBy}
 use Rattle.route_credit.specs.Giving.{IsGiving}
 use Rattle.route_credit.specs.Granting.{grants_of}
 use Rattle.route_credit.specs.Links.{amount_at, link_at}
-use Rattle.route_credit.specs.Pool.{by_id, IsNext, IsTold, lent_at, Sharing}
+use Rattle.route_credit.specs.Pool.{by_id, IsNext, IsTold, Sharing, unused_at}
 use Rattle.route_credit.specs.Tally.{before_others}
 use Rattle.route_credit.specs.declared.ids.ProducerId.{ProducerId}
 use Rattle.route_credit.specs.declared.tally.Sum.{Sum}
@@ -19,7 +19,7 @@ giving_same old now sums other is same = record {
   some = λ id n h. is.some id n (sym (same id) ∙ h);
   all = is.all;
   keys = is.keys;
-  raised = λ id. is.raised id ∙ ap (λ x. lent_at old id + amount_at (λ n. n) x) (sym (same id));
+  raised = λ id. is.raised id ∙ ap (λ x. unused_at old id + amount_at (λ n. n) x) (sym (same id));
 }
 
 one_in_order : (sum : Option Sum) (told : List (ℕ × ℕ)) → told ≡ before_others sum [] → InOrder told

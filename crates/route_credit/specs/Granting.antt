@@ -1,8 +1,8 @@
 -- Choice and grants as functions of the pool.
-use Rattle.std.specs.Prelude.{◌-◌, ℕ, zero, suc, Bool, true, false, Option, None, Some, option_and_then, nat_lt, nat_le, List, [], ◌∷◌, map, filter, if◌then◌else◌}
+use Rattle.std.specs.Prelude.{◌-◌, ◌+◌, ℕ, zero, suc, Bool, true, false, Option, None, Some, option_and_then, nat_lt, nat_le, List, [], ◌∷◌, map, filter, if◌then◌else◌}
 use Rattle.std.specs.Map.{keys_of}
 use Rattle.route_credit.specs.Links.{link_at, total}
-use Rattle.route_credit.specs.Pool.{given, is_short, lent_at, need, Sharing, turn}
+use Rattle.route_credit.specs.Pool.{given, is_short, need, Sharing, turn, unused_at}
 use Rattle.route_credit.specs.declared.demand.Demand.{Demand}
 
 -- whether there is a figure that isn't above the other
@@ -33,9 +33,9 @@ abbrev pub granted : Sharing → Option ℕ → Sharing
 granted pool None = pool
 granted pool (Some id) = given_to pool id (link_at pool.producers id)
 
--- how much could be lent at most
+-- how much could be granted at most
 abbrev pub room : Sharing → ℕ
-room pool = total (λ demand. 64 - demand.lent) pool.producers
+room pool = total (λ demand. 64 + demand.due - demand.unused) pool.producers
 
 -- the pool after this many grants, each to the producer that is next
 abbrev pub granting : ℕ → Sharing → Sharing
@@ -48,7 +48,7 @@ all_granted pool = granting (room pool) pool
 
 -- how much a producer got between two pools
 abbrev pub gain : Sharing → Sharing → ℕ → ℕ
-gain old new id = lent_at new id - lent_at old id
+gain old new id = unused_at new id - unused_at old id
 
 -- of these links those that got some, and how much
 abbrev pub gains : (ℕ → ℕ) → List ℕ → List (ℕ × ℕ)

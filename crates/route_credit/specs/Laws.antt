@@ -5,7 +5,7 @@ use Rattle.std.specs.Map.{keys_of}
 use Rattle.std.specs.Ordering.{nat_cmp}
 use Rattle.route_credit.specs.Granting.{all_granted, choice, grants_of}
 use Rattle.route_credit.specs.Links.{link_at}
-use Rattle.route_credit.specs.Pool.{free, IsChoice, IsNext, lent, remembering, Sharing}
+use Rattle.route_credit.specs.Pool.{free, IsChoice, IsNext, lent, lent_of, remembering, Sharing}
 use Rattle.route_credit.specs.declared.demand.Demand.{Demand}
 use Rattle.route_credit.specs.declared.offer.Offer.{Offer}
 use Rattle.route_table.specs.declared.sections.Distribution.{Distribution}
@@ -34,9 +34,9 @@ EachProducer P pool = (id : ℕ) (demand : Demand) → link_at pool.producers id
 
 -- Where no producer is next, what is lent isn't below what is free, or no producer is below 64; on a multicast address each has more than 32.
 abbrev pub NothingLeft : Distribution → Sharing → Type 0
-NothingLeft Balanced pool = (free pool ≤ lent pool) ⊎ EachProducer (λ demand. 64 ≤ demand.lent + demand.held) pool
-NothingLeft Closest pool = (free pool ≤ lent pool) ⊎ EachProducer (λ demand. 64 ≤ demand.lent + demand.held) pool
-NothingLeft Multicast pool = EachProducer (λ demand. 32 < demand.lent + demand.due) pool
+NothingLeft Balanced pool = (free pool ≤ lent pool) ⊎ EachProducer (λ demand. 64 ≤ lent_of demand + demand.held) pool
+NothingLeft Closest pool = (free pool ≤ lent pool) ⊎ EachProducer (λ demand. 64 ≤ lent_of demand + demand.held) pool
+NothingLeft Multicast pool = EachProducer (λ demand. 32 < demand.unused) pool
 
 abbrev pub GrantsAreEnough : Type 0
 GrantsAreEnough = (pool : Sharing) → IsNext pool None → NothingLeft pool.distribution pool

@@ -39,8 +39,8 @@ rank_at rank links id = option_and_then rank (link_at links id)
 abbrev pub behind : ℕ → (ℕ → Option ℕ) → ℕ → Option ℕ
 behind id ranks other = if nat_lt id other then ranks other else None
 
--- the rank of a consumer: where it has free credit, its undecided deliveries; in turn, all are alike
+-- the rank of a consumer: where it has free credit, its undecided deliveries; where they go round, or each gets a copy, all are alike
 abbrev pub offer_rank : Distribution → Offer → Option ℕ
 offer_rank Balanced offer = if nat_lt 0 offer.free then Some offer.undecided else None
 offer_rank Closest offer = if nat_lt 0 offer.free then Some 0 else None
-offer_rank Multicast offer = None
+offer_rank Multicast offer = if nat_lt 0 offer.free then Some 0 else None

@@ -1,6 +1,6 @@
 //! What a producer link has.
 ghost use Rattle.std.specs.Prelude.{◌≡◌};
-ghost use Rattle.route_credit.specs.Pool.{demand_of, need_of, part_of};
+ghost use Rattle.route_credit.specs.Pool.{lent_of, need_of, part_of};
 
 use crate::weigh::Weigh;
 use route_table::Distribution;
@@ -9,28 +9,24 @@ use route_table::Distribution;
 const MOST: u32 = 64;
 
 /// The unused credit at which a multicast address grants again.
-const LOW: u64 = 32;
+const LOW: u32 = 32;
 
-/// What a producer link has: its unused credit, in two parts (due and lent), and the deliveries that the router
-/// holds.
+/// What a producer link has: its unused credit, how much is due to it, and the deliveries that the router holds. What
+/// is unused above what is due is lent.
 #[derive(Clone, Copy, Debug, PartialEq, Eq)]
 pub struct Demand {
-    pub lent: u32,
+    pub unused: u32,
     pub due: u32,
     pub held: u32,
 }
 
 impl Demand {
-    /// What a link has by its figures.
+    /// The lent credit of a link: what is unused less what is due.
     #[inline]
-    pub(crate) fn new(unused: u32, due: u32, held: u32) -> Demand
-        ensures { result ≡ demand_of unused due held }
+    fn lent(self) -> u32
+        ensures { result ≡ lent_of self }
     {
-        Demand {
-            lent: unused.saturating_sub(due),
-            due: due.min(unused),
-            held,
-        }
+        self.unused.saturating_sub(self.due)
     }
 
     /// How much the next grant gives, where the link is in need.
@@ -40,7 +36,7 @@ impl Demand {
     {
         match distribution {
             Distribution::Balanced | Distribution::Closest => 1,
-            Distribution::Multicast => MOST.saturating_sub(self.due).saturating_sub(self.lent),
+            Distribution::Multicast => MOST.saturating_sub(self.unused),
         }
     }
 }
@@ -48,16 +44,16 @@ impl Demand {
 impl Weigh for Demand {
     ghost rank = { need_of };
 
-    ghost amount = { λ demand. demand.lent };
+    ghost amount = { lent_of };
 
     #[inline]
     fn rank(self, distribution: Distribution) -> Option<u64> {
-        let lent = u64::from(self.lent);
+        let lent = u64::from(self.lent());
         let needs = match distribution {
             Distribution::Balanced | Distribution::Closest => {
                 lent + u64::from(self.held) < u64::from(MOST)
             }
-            Distribution::Multicast => lent + u64::from(self.due) <= LOW,
+            Distribution::Multicast => self.unused <= LOW,
         };
         if needs { Some(lent) } else { None }
     }
@@ -69,6 +65,6 @@ impl Weigh for Demand {
 
     #[inline]
     fn amount(self) -> u64 {
-        u64::from(self.lent)
+        u64::from(self.lent())
     }
 }

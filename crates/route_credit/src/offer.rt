@@ -23,8 +23,7 @@ impl Weigh for Offer {
         }
         match distribution {
             Distribution::Balanced => Some(self.undecided),
-            Distribution::Closest => Some(0),
-            Distribution::Multicast => None,
+            Distribution::Closest | Distribution::Multicast => Some(0),
         }
     }
 

@@ -1,12 +1,15 @@
 //! The pool of an address.
-ghost use Rattle.std.specs.Prelude.{◌≡◌, ◌+◌, ◌⊎◌, ℕ, List, [], false, None, Some, OnOk, OnErr, IfOk, option_map, nat_lt, ◌==◌, if◌then◌else◌};
+ghost use Rattle.std.specs.Prelude.{◌≡◌, ◌+◌, ◌⊎◌, ℕ, List, [], map, false, None, Some, OnOk, OnErr, IfOk, option_map, nat_lt, ◌==◌, if◌then◌else◌};
 ghost use Rattle.std.specs.List.Sorted.{IsStrictlySortedBy};
 ghost use Rattle.std.specs.Map.{keys_of};
 ghost use Rattle.std.specs.Ordering.{nat_cmp};
 ghost use Rattle.route_credit.specs.Granting.{all_granted, choice, grants_of};
 ghost use Rattle.route_credit.specs.Links.{amount_at, link_at};
-ghost use Rattle.route_credit.specs.Pool.{by_id, chose, given, Granted, has_no_links, IsChoice, IsNext, IsTold, free, is_short, lent, no_links, offered, part_of, wanted, without_consumer, without_producer, WithinFree};
+ghost use Rattle.route_credit.specs.Pool.{by_id, chose, copies, copies_by, given, Granted, has_no_links, IsChoice, IsNext, IsTold, free, is_short, lent, no_links, offered, part_of, wanted, without_consumer, without_producer, WithinFree};
+ghost use Rattle.route_credit.specs.Ranks.{offer_rank};
+ghost use Rattle.route_credit.specs.Side.{IsWhole, links_of};
 ghost use Rattle.route_credit.specs.declared.demand.Demand.{Demand};
+ghost use Rattle.route_table.specs.declared.sections.Distribution.TheVariants.{Multicast};
 
 use crate::demand::Demand;
 use crate::ids::{ConsumerId, ProducerId};
@@ -31,7 +34,7 @@ pub struct Pool {
 }
 
 impl Model for Pool {
-    ghost use Rattle.route_credit.specs.Pool.{need_of, Sharing};
+    ghost use Rattle.route_credit.specs.Pool.{lent_of, need_of, Sharing};
     ghost use Rattle.route_credit.specs.Ranks.{offer_rank};
     ghost use Rattle.route_credit.specs.Side.{IsWhole, links_of};
 
@@ -39,7 +42,7 @@ impl Model for Pool {
 
     ghost view = { λ p. record { distribution = p.distribution; consumers = links_of p.consumers; producers = links_of p.producers; last = p.last } };
 
-    ghost invariant = { λ p. IsWhole (offer_rank p.distribution) (λ offer. offer.free) p.consumers × IsWhole (need_of p.distribution) (λ demand. demand.lent) p.producers };
+    ghost invariant = { λ p. IsWhole (offer_rank p.distribution) (λ offer. offer.free) p.consumers × IsWhole (need_of p.distribution) lent_of p.producers };
 }
 
 impl Pool {
@@ -89,7 +92,7 @@ impl Pool {
             .set(self.alloc, self.distribution, consumer.0, offer)
     }
 
-    /// Stores what a producer link has now: its unused credit, how much of that is due, and its deliveries that are
+    /// Stores what a producer link has now: its unused credit, how much is due to it, and its deliveries that are
     /// undecided or not forgotten. The first call for a link is its attach.
     #[inline]
     pub fn want(
@@ -102,7 +105,7 @@ impl Pool {
         ensures wanted { OnOk result (self.new ≡ wanted self.old producer.0 unused due held) }
         ensures err { OnErr result (self.new ≡ self.old) }
     {
-        let demand = Demand::new(unused, due, held);
+        let demand = Demand { unused, due, held };
         self.producers
             .set(self.alloc, self.distribution, producer.0, demand)
     }
@@ -176,6 +179,17 @@ impl Pool {
         sums.told()
     }
 
+    /// The consumers that get a copy of a message of a multicast address, in order of attach: each that has free credit.
+    /// Nothing is noted. No others have copies.
+    pub fn copies(&self) -> Result<Vec<ConsumerId>, AllocError>
+        ensures { IfOk result (λ to. map (λ c. c.0) to.items ≡ copies self.now) }
+    {
+        match self.distribution {
+            Distribution::Balanced | Distribution::Closest => Ok(Vec::new(self.alloc)),
+            Distribution::Multicast => each_free(self.alloc, &self.consumers),
+        }
+    }
+
     /// The consumer whose turn is first.
     #[inline]
     fn next_consumer(&self) -> Option<u64>
@@ -184,9 +198,8 @@ impl Pool {
     {
         let distribution = self.distribution;
         match distribution {
-            Distribution::Balanced | Distribution::Multicast => {
-                self.consumers.first(distribution)
-            }
+            Distribution::Multicast => None,
+            Distribution::Balanced => self.consumers.first(distribution),
             Distribution::Closest => {
                 match self.consumers.first_after(distribution, self.last) {
                     None => self.consumers.first(distribution),
@@ -235,11 +248,25 @@ impl Pool {
             return Ok(0);
         };
         let part = demand.part(self.distribution);
-        let Some(lent) = demand.lent.checked_add(part) else {
+        let Some(unused) = demand.unused.checked_add(part) else {
             return Err(AllocError);
         };
-        let more = Demand { lent, ..demand };
+        let more = Demand { unused, ..demand };
         self.producers.set(self.alloc, self.distribution, id, more)?;
         Ok(part)
     }
+}
+
+/// The consumers of a multicast address that have free credit, in order of attach.
+fn each_free(alloc: Global, consumers: &Side<Offer>) -> Result<Vec<ConsumerId>, AllocError>
+    requires { IsWhole (offer_rank Multicast) (λ offer. offer.free) consumers.now }
+    ensures { IfOk result (λ to. map (λ c. c.0) to.items ≡ copies_by Multicast (links_of consumers.now)) }
+{
+    let mut free = Vec::new(alloc);
+    let mut next = consumers.first(Distribution::Multicast);
+    while let Some(id) = next {
+        free.push(ConsumerId(id))?;
+        next = consumers.first_after(Distribution::Multicast, id);
+    }
+    Ok(free)
 }

@@ -1,3 +1,4 @@
+pub mod Copying
 pub mod Finding
 pub mod Tables
 pub mod Waiting

@@ -1,6 +1,7 @@
 //! The router's tables, changed together.
 #![tactic(auto)]
 
+mod copies;
 mod durable;
 mod finding;
 mod place;

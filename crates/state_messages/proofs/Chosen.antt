@@ -37,7 +37,7 @@ least_by : (f : ℕ → Option ℕ) (b : Bool) (x id : ℕ) (rest : Option ℕ) 
 least_by f true x id rest one other e = ap (λ k. is_some (f k)) (sym (inside x id e)) ∙ one refl
 least_by f false x id rest one other e = other e
 
-least_has : {X : Type 0} (f : ℕ → Option ℕ) (links : List (ℕ × X)) (id : ℕ) → least f links ≡ Some id → is_some (f id) ≡ true
+pub least_has : {X : Type 0} (f : ℕ → Option ℕ) (links : List (ℕ × X)) (id : ℕ) → least f links ≡ Some id → is_some (f id) ≡ true
 least_has f [] id e = absurd cc
 least_has f (l ∷ ls) id e =
     least_by f (is_sooner (f l.0) (option_and_then f (least f ls))) l.0 id (least f ls) (sooner_has (f l.0) (option_and_then f (least f ls))) (least_has f ls id) e
@@ -70,7 +70,7 @@ by_view t address id a (Some l) at there e = by_test (l.number == id)
     (λ is. record { at = a; link = l; numbered = at; there = there; number = is; same = by_happened t address id l l.happened (rw is at e) })
     (λ is. absurd (true≢false (sym (rw is at e))))
 
-by_number : (t : Trace) (address : List ℕ) (id : ℕ) (v : Option Attachment) → numbered t id ≡ v → is_some (offer_at address (figure_at t id v)) ≡ true → IsConsumer t address id
+pub by_number : (t : Trace) (address : List ℕ) (id : ℕ) (v : Option Attachment) → numbered t id ≡ v → is_some (offer_at address (figure_at t id v)) ≡ true → IsConsumer t address id
 by_number t address id None at e = absurd cc
 by_number t address id (Some a) at e = by_view t address id a (link_of t a) at refl e
 

@@ -1,26 +1,34 @@
--- The address whose grants come first.
-use Rattle.std.proofs.Common.{◌≡◌, ◌∙◌, ◌+◌, ◌<◌, ℕ, zero, suc, true, false, true≢false, refl, sym, ap, subst, Option, Some, None, List, [], ◌∷◌, ◌++◌, length, arith}
-use Rattle.std.specs.Prelude.{◌==◌, is_some, unwrap_or, IfNone, IfSome}
+-- The address whose grants come first, and what the newest link is owed.
+use Rattle.std.proofs.Common.{◌≡◌, ◌∙◌, ◌+◌, ◌<◌, ℕ, zero, suc, Bool, true, false, true≢false, refl, sym, ap, subst, Option, Some, None, List, [], ◌∷◌, ◌++◌, length, arith}
+use Rattle.std.specs.Prelude.{◌==◌, is_some, nat_lt, if◌then◌else◌, option_map, unwrap_or, IfNone, IfSome}
+use Rattle.std.specs.List.{AllByRecursion}
 use Rattle.std.specs.Str.{bytes_eq}
 use Rattle.std.specs.Map.{keys_of}
 use Rattle.std.specs.Cmp.Lexicographic.{slice_cmp}
-use Rattle.std.specs.Ordering.{nat_cmp, ordering_reverse}
+use Rattle.std.specs.Ordering.{is_eq, nat_cmp, ordering_reverse}
 use Rattle.std.specs.declared.cmp.Ordering.{Ordering}
 use Rattle.std.specs.declared.cmp.Ordering.TheVariants.{Less, Equal, Greater}
 use Rattle.std.proofs.lemmas.Bool.{eqb-true}
 use Rattle.std.proofs.lemmas.Bool.Decides.{nat_tests}
 use Rattle.std.proofs.lemmas.Cmp.{nat_list_cmp_total}
 use Rattle.std.proofs.lemmas.Map.Lookups.{exact_bytes}
+use Rattle.std.proofs.lemmas.Map.Text.{is_eq-slice_cmp}
 use Rattle.route_credit.specs.Granting.{all_granted, gain, gains, grants_of}
 use Rattle.route_credit.specs.Pool.{by_id}
 use Rattle.route_credit.specs.declared.ids.ProducerId.{ProducerId}
 use Rattle.router_trace.specs.Trace.{Trace}
-use Rattle.router_trace.specs.Links.{attachments}
+use Rattle.router_trace.specs.Links as view
+use Rattle.router_trace.specs.Links.{Happened, sends, receives, attachments}
+use Rattle.state_links.specs.declared.link.Link.{Link}
+use Rattle.state_links.specs.Ends.{link_of}
+use Rattle.state_links.specs.Looking.{numbered_link}
 use Rattle.state_pools.specs.Sharing.{Figure, consumer, producer, demand_at, entry, listed}
-use Rattle.state_pools.proofs.AtAddress.{same_bytes}
-use Rattle.state_messages.specs.Figures.{figure}
-use Rattle.state_messages.specs.Messages.{lent, grants_of_address, grants_on, if_some, lower, lower_of, lowest_below, pool_of, wants}
-use Rattle.state_messages.proofs.Seen.{by_test}
+use Rattle.state_pools.proofs.AtAddress.{equal_bytes, same_bytes, turned}
+use Rattle.state_messages.specs.declared.grant.LinkGrant.{LinkGrant}
+use Rattle.state_messages.specs.Figures.{figure, figure_by}
+use Rattle.state_messages.specs.Messages.{grants, grants_of_address, grants_on, if_some, is_owed_at, lent_first, lower, lower_of, lowest_below, owed_at, pool_of, wants, with_newest}
+use Rattle.state_messages.specs.Turns.{first_link, in_turn, order_of, place_in, whose_turn}
+use Rattle.state_messages.proofs.Seen.{IsThere, by_test, figure_here, figure_nowhere}
 
 -- an address isn't below another
 abbrev IsNotBelow : List ℕ → Option (List ℕ) → Type 0
@@ -131,25 +139,130 @@ wants_none t None none = refl
 wants_none t (Some (consumer at free pending)) none = refl
 wants_none t (Some (producer at unused due kept)) none = ap (λ sums. if_some sums at) (none at)
 
--- the grants as the table of pools gives them
-pub grants_none : (t : Trace) → ((a : List ℕ) → grants_of (pool_of t a) ≡ []) → lent t ≡ []
-unfolding lent
-grants_none t none = ap (grants_of_address t) (lowest_none (attachments t + 1) (λ n. wants t (figure t n)) (λ k. wants_none t (figure t k) none))
+-- the first address that has grants
+lent_none : (t : Trace) → ((a : List ℕ) → grants_of (pool_of t a) ≡ []) → lent_first t ≡ None
+unfolding lent_first
+lent_none t none = lowest_none (attachments t + 1) (λ n. wants t (figure t n)) (λ k. wants_none t (figure t k) none)
 
-length_by_id : (sums : List (ProducerId × ℕ)) → length (by_id sums) ≡ length sums
-length_by_id [] = refl
-length_by_id (s ∷ ss) = ap suc (length_by_id ss)
-
-pub grants_are : (t : Trace) (q : List ℕ) (sums : List (ProducerId × ℕ)) → by_id sums ≡ grants_of (pool_of t q) → 0 < length sums
-    → ((a : List ℕ) → slice_cmp nat_cmp a q ≡ Less → grants_of (pool_of t a) ≡ []) → grants_on t (by_id sums) ≡ lent t
-unfolding lent
-grants_are t q sums is some none =
-    let filled : 0 < length (grants_of (pool_of t q)) = subst (λ n. 0 < n) (sym (length_by_id sums) ∙ ap length is) some in
+lent_is : (t : Trace) (q : List ℕ) → 0 < length (grants_of (pool_of t q))
+    → ((a : List ℕ) → slice_cmp nat_cmp a q ≡ Less → grants_of (pool_of t a) ≡ []) → lent_first t ≡ Some q
+unfolding lent_first
+lent_is t q filled none =
     let one : Has (λ n. demand_at q (figure t n)) (attachments t) = listed_has (λ n. demand_at q (figure t n)) (attachments t)
     (gains_some (gain (pool_of t q) (all_granted (pool_of t q))) (pool_of t q).producers filled) in
-    ap (grants_on t) is
-    ∙ sym (ap (grants_of_address t) (lowest_is (attachments t + 1) (λ n. wants t (figure t n)) q one.number (λ k. wants_not t q (figure t k) none) one.below
-    (wants_is t q (figure t one.number) one.has filled)))
+    lowest_is (attachments t + 1) (λ n. wants t (figure t n)) q one.number (λ k. wants_not t q (figure t k) none) one.below
+    (wants_is t q (figure t one.number) one.has filled)
+
+-- each number of a list passes a test, if each that has something does
+abbrev pub Pass : {X : Type 0} → (ℕ → Bool) → List (ℕ × X) → Type 0
+Pass p links = AllByRecursion (λ link. p link.0 ≡ true) links
+
+pass_end : {X : Type 0} (p : ℕ → Bool) (n : ℕ) (v : Option X) (links : List (ℕ × X)) → (is_some v ≡ true → p n ≡ true) → Pass p links → Pass p (links ++ entry n v)
+pass_end p n None [] one all = tt
+pass_end p n (Some x) [] one all = (one refl, tt)
+pass_end p n v (l ∷ ls) one all = (all.0, pass_end p n v ls one all.1)
+
+pub listed_pass : {X : Type 0} (f : ℕ → Option X) (n : ℕ) → Pass (λ k. is_some (f k)) (listed f n)
+listed_pass f zero = tt
+listed_pass f (suc n) = pass_end (λ k. is_some (f k)) (suc n) (f (suc n)) (listed f n) (λ e. e) (listed_pass f n)
+
+first_passes : {X : Type 0} (p : ℕ → Bool) (amount : ℕ → ℕ) (links : List (ℕ × X)) (s : ℕ × ℕ) (ss : List (ℕ × ℕ)) → gains amount (keys_of links) ≡ s ∷ ss → Pass p links → p s.0 ≡ true
+first_passes p amount [] s ss e all = absurd cc
+first_passes p amount (l ∷ ls) s ss e all = by_amount (nat_lt 0 (amount l.0)) e (λ rest. first_passes p amount ls s ss rest all.1)
+  where
+    head : ℕ × ℕ → List (ℕ × ℕ) → ℕ
+    head d [] = d.0
+    head d (x ∷ xs) = x.0
+
+    by_amount : (b : Bool) → (if b then (l.0, amount l.0) ∷ gains amount (keys_of ls) else gains amount (keys_of ls)) ≡ s ∷ ss
+        → (gains amount (keys_of ls) ≡ s ∷ ss → p s.0 ≡ true) → p s.0 ≡ true
+    by_amount true is rest = ap p (sym (ap (head s) is)) ∙ all.0
+    by_amount false is rest = rest is
+
+-- a link that wants something from an address is at it
+wanting : (t : Trace) (q : List ℕ) (l : view.Link) (h : Happened) → is_some (demand_at q (Some (figure_by t l h))) ≡ true → l.address ≡ q
+wanting t q l (sends list) e = absurd cc
+wanting t q l (receives list) e = by_test (bytes_eq l.address q) (λ is. same_bytes l.address q is) (λ is. absurd (true≢false (sym (rw is at e))))
+
+wants_at : (t : Trace) (n : ℕ) (q : List ℕ) → is_some (demand_at q (figure t n)) ≡ true → place_in (numbered_link t n) ≡ Some q
+wants_at t n q e = by_link (numbered_link t n) refl
+  where
+    no : false ≡ true → ⊥
+    no f = absurd cc
+
+    by_link : (v : Option view.Link) → numbered_link t n ≡ v → place_in v ≡ Some q
+    by_link None is = absurd (no (sym (ap (λ v. is_some (demand_at q v)) (figure_nowhere t n (ap (option_map link_of) (sym is)))) ∙ e))
+    by_link (Some l) is =
+        let there : IsThere t n (link_of l) = figure_here t n (link_of l) (ap (option_map link_of) (sym is)) in
+        ap Some (ap (λ (k : Link). k.address) there.is ∙ wanting t q there.link there.link.happened (sym (ap (λ v. is_some (demand_at q v)) there.figure) ∙ e))
+
+first_place : (t : Trace) (q : List ℕ) (sums : List (ℕ × ℕ)) → sums ≡ grants_of (pool_of t q) → 0 < length sums → place_in (first_link t sums) ≡ Some q
+first_place t q [] is some = absurd (omega (arith, some))
+first_place t q (s ∷ ss) is some =
+    wants_at t s.0 q
+    (first_passes (λ k. is_some (demand_at q (figure t k))) (gain (pool_of t q) (all_granted (pool_of t q))) (pool_of t q).producers s ss (sym is)
+    (listed_pass (λ n. demand_at q (figure t n)) (attachments t)))
+
+-- the grants of an address, where the newest link is owed credit at another or the same
+abbrev with_owed : Trace → Option (List ℕ) → List ℕ → List (ℕ × ℕ)
+with_owed t owed address = if is_owed_at owed address then with_newest (attachments t) (grants_of (pool_of t address)) else grants_of (pool_of t address)
+
+abbrev granted_at : Trace → Option (List ℕ) → Option (List ℕ) → List LinkGrant
+granted_at t owed None = []
+granted_at t owed (Some address) = grants_on t (with_owed t owed address)
+
+abbrev newest_owed : Trace → Option (List ℕ)
+newest_owed t = owed_at (numbered_link t (attachments t))
+
+grants_by : (t : Trace) (first : Option (List ℕ)) → lent_first t ≡ first → granted_at t (newest_owed t) (lower first (newest_owed t)) ≡ grants t
+unfolding grants
+grants_by t first is = by_first (lower first (newest_owed t)) ∙ ap (λ v. grants_of_address t (lower v (newest_owed t))) (sym is)
+  where
+    by_first : (v : Option (List ℕ)) → granted_at t (newest_owed t) v ≡ grants_of_address t v
+    by_first None = refl
+    by_first (Some a) = refl
+
+-- what is owed where nothing else is granted
+owed_alone : (t : Trace) (owed : List ℕ) → grants_of (pool_of t owed) ≡ [] → grants_on t ((attachments t, 0) ∷ []) ≡ granted_at t (Some owed) (Some owed)
+owed_alone t owed none =
+    ap (λ sums. grants_on t (with_newest (attachments t) sums)) (sym none)
+    ∙ ap (λ b. grants_on t (if b then with_newest (attachments t) (grants_of (pool_of t owed)) else grants_of (pool_of t owed))) (sym (equal_bytes owed owed refl))
+
+-- the grants as the table of pools gives them
+pub grants_none : (t : Trace) → ((a : List ℕ) → grants_of (pool_of t a) ≡ []) → grants_on t (in_turn (whose_turn t (attachments t) []) (attachments t) []) ≡ grants t
+grants_none t none = by_owed (newest_owed t) ∙ grants_by t None (lent_none t none)
+  where
+    by_owed : (v : Option (List ℕ)) → grants_on t (in_turn (order_of v None) (attachments t) []) ≡ granted_at t v (lower None v)
+    by_owed None = refl
+    by_owed (Some owed) = owed_alone t owed (none owed)
+
+pub grants_are : (t : Trace) (q : List ℕ) (sums : List (ℕ × ℕ)) → sums ≡ grants_of (pool_of t q) → 0 < length sums
+    → ((a : List ℕ) → slice_cmp nat_cmp a q ≡ Less → grants_of (pool_of t a) ≡ []) → grants_on t (in_turn (whose_turn t (attachments t) sums) (attachments t) sums) ≡ grants t
+grants_are t q sums is some none =
+    ap (λ place. grants_on t (in_turn (order_of (newest_owed t) place) (attachments t) sums)) (first_place t q sums is some)
+    ∙ by_owed (newest_owed t)
+    ∙ grants_by t (Some q) (lent_is t q (subst (λ gs. 0 < length gs) is some) none)
+  where
+    apart : (owed : List ℕ) → slice_cmp nat_cmp q owed ≡ Less → bytes_eq owed q ≡ false
+    apart owed order = turned owed q ∙ sym (is_eq-slice_cmp q owed) ∙ ap is_eq order
+
+    by_order : (owed : List ℕ) (o : Ordering) → slice_cmp nat_cmp q owed ≡ o
+        → grants_on t (in_turn o (attachments t) sums) ≡ granted_at t (Some owed) (Some (lower_of o q owed))
+    by_order owed Less order =
+        ap (grants_on t) is
+        ∙ ap (λ b. grants_on t (if b then with_newest (attachments t) (grants_of (pool_of t q)) else grants_of (pool_of t q))) (sym (apart owed order))
+    by_order owed Equal order =
+        ap (λ gs. grants_on t (with_newest (attachments t) gs)) (is ∙ ap (λ a. grants_of (pool_of t a)) (exact_bytes q owed order))
+        ∙ ap (λ b. grants_on t (if b then with_newest (attachments t) (grants_of (pool_of t owed)) else grants_of (pool_of t owed))) (sym (equal_bytes owed owed refl))
+    by_order owed Greater order = owed_alone t owed (none owed (nat_list_cmp_total.antisymm owed q ∙ ap ordering_reverse order))
+
+    by_owed : (v : Option (List ℕ)) → grants_on t (in_turn (order_of v (Some q)) (attachments t) sums) ≡ granted_at t v (lower (Some q) v)
+    by_owed None = ap (grants_on t) is
+    by_owed (Some owed) = by_order owed (slice_cmp nat_cmp q owed) refl
+
+pub length_by_id : (sums : List (ProducerId × ℕ)) → length (by_id sums) ≡ length sums
+length_by_id [] = refl
+length_by_id (s ∷ ss) = ap suc (length_by_id ss)
 
 -- what holds of a result if there is none, and if there is one
 pub at_none : {A : Type 0} {P : Type 0} (r : Option A) → r ≡ None → IfNone r P → P

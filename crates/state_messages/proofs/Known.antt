@@ -110,10 +110,10 @@ bound_counts b t = record {
 
 -- A link that neither table has touched has the same figure in both.
 pub figures_same : (s u : Links) (d e : Deliveries) (t w : Trace) → LinksFit s t → LinksFit u w → DeliveriesFit d t → DeliveriesFit e w
-    → links.Touches s u → deliveries.Touches d e → CountSame t w
+    → links.Touches s u → deliveries.Touches d e → CountSame t w → ((a : List ℕ) → distribution w a ≡ distribution t a)
     → (n : ℕ) → links.is_touched u n ≡ false → deliveries.is_touched e n ≡ false → figure t n ≡ figure w n
-figures_same s u d e t w fit fit' stand stand' one other counts n quiet silent =
-    figure_same s u t w n fit fit' (one.numbers n quiet) (one.links n quiet)
+figures_same s u d e t w fit fit' stand stand' one other counts shared n quiet silent =
+    figure_same s u t w n fit fit' (one.numbers n quiet) (one.links n quiet) shared
     (counts (waits_on n) refl (λ m. ap (waits_on n) (sym (stand.store.deliveries m)) ∙ (other.same n m silent).waits ∙ ap (waits_on n) (stand'.store.deliveries m)))
     (counts (undecided_on n) refl (λ m. ap (undecided_on n) (sym (stand.store.deliveries m)) ∙ (other.same n m silent).undecided ∙ ap (undecided_on n) (stand'.store.deliveries m)))
     (counts (held_from n) refl (λ m. ap (held_from n) (sym (stand.store.deliveries m)) ∙ (other.same n m silent).held ∙ ap (held_from n) (stand'.store.deliveries m)))
@@ -127,7 +127,7 @@ knows_still s u t w last now pools fit fit' stand stand' one other step alike ch
   fits = subst (λ p. PoolsFit p (distribution w) know.known (figure w) now) (sym pools)
       (exchanged s.pools (distribution t) (distribution w) know.known know.known (figure t) (figure w) last now alike (λ n. refl) come chosen know.fits);
   same = λ n quiet silent. know.same n (one.before n quiet) (other.before n silent)
-      ∙ figures_same s.links u.links s.deliveries u.deliveries t w fit fit' stand stand' one other step.counts n quiet silent;
+      ∙ figures_same s.links u.links s.deliveries u.deliveries t w fit fit' stand stand' one other step.counts alike n quiet silent;
   below = λ a.
       let is : now a ≡ last a = chosen a in
       let low : last a ≤ attachments t = know.below a in
@@ -142,13 +142,13 @@ knows_still s u t w last now pools fit fit' stand stand' one other step alike ch
         over n a above low = omega (arith, above, low)
 
 -- After the pools were told what a link has, its number is forgotten.
-pub knows_told : (s u : Messages) (t : Trace) (last : List ℕ → ℕ) (n : ℕ) → IsTold s.pools u.pools n (figure t n)
+pub knows_told : (s u : Messages) (t : Trace) (last : List ℕ → ℕ) (n : ℕ) → IsTold (distribution t) s.pools u.pools n (figure t n)
     → ((k : ℕ) → links.is_touched u.links k ≡ (if n == k then false else links.is_touched s.links k))
     → ((k : ℕ) → deliveries.is_touched u.deliveries k ≡ (if n == k then false else deliveries.is_touched s.deliveries k))
     → PoolsKnow s t last → PoolsKnow u t last
 knows_told s u t last n told quiet silent know = record {
   known = other;
-  fits = told (distribution t) know.known other (figure t) last know.fits here (sym here) (λ k e. ap (λ b. if b then figure t k else know.known k) e);
+  fits = told know.known other (figure t) last know.fits here (sym here) (λ k e. ap (λ b. if b then figure t k else know.known k) e);
   same = λ k e f. by_test (n == k)
       (λ is. ap (λ b. if b then figure t k else know.known k) is)
       (λ is. ap (λ b. if b then figure t k else know.known k) is
@@ -188,7 +188,7 @@ moved s u t w last now pools fit stand claimed one other step alike chosen old =
 }
 
 -- After the pools were told.
-pub told_fits : (s u : Messages) (t : Trace) (n : ℕ) → LinksFit u.links t → DeliveriesFit u.deliveries t → u.incoming ≡ s.incoming → IsTold s.pools u.pools n (figure t n)
+pub told_fits : (s u : Messages) (t : Trace) (n : ℕ) → LinksFit u.links t → DeliveriesFit u.deliveries t → u.incoming ≡ s.incoming → IsTold (distribution t) s.pools u.pools n (figure t n)
     → ((k : ℕ) → links.is_touched u.links k ≡ (if n == k then false else links.is_touched s.links k))
     → ((k : ℕ) → deliveries.is_touched u.deliveries k ≡ (if n == k then false else deliveries.is_touched s.deliveries k))
     → MessagesFit s t → MessagesFit u t
@@ -244,16 +244,18 @@ pub channel_same : (i : Item) → of_links i ≡ of_deliveries i
 channel_same (item.Frame sasl channel body payload) = refl
 channel_same _ = refl
 
--- a message that is bound to the chosen consumer
+-- a message that is bound to a consumer, and to the chosen one
 abbrev pub message_to : Option Origin → Option RowNumber → Bool → ℕ → List ℕ → Attachment → Binding
 message_to origin row lasting format payload a =
     record { consumer = a; row = row; lasting = lasting; format = format; payload = payload; kind = kind.Message origin }
 
-pub passed : (u : Messages) (t : Trace) (a : Attachment) (origin : Option Origin) (row : Option RowNumber) (lasting : Bool) (format : ℕ) (payload : List ℕ) (chosen : Option Attachment) → Some a ≡ chosen → lasting ≡ lasts t a
-    → MessagesFit u (Bound (message_to origin row lasting format payload a) ∷ t) → MessagesFit u (with_bound (option_map (binding_to t origin row format payload) chosen) t)
-passed u t a origin row lasting format payload chosen is durable fit =
-    subst (λ v. MessagesFit u (with_bound (option_map (binding_to t origin row format payload) v) t)) is
-    (subst (λ l. MessagesFit u (Bound (message_to origin row l format payload a) ∷ t)) durable fit)
+pub bound_to : (u : Messages) (t : Trace) (a : Attachment) (origin : Option Origin) (row : Option RowNumber) (lasting : Bool) (format : ℕ) (payload : List ℕ) → lasting ≡ lasts t a
+    → MessagesFit u (Bound (message_to origin row lasting format payload a) ∷ t) → MessagesFit u (Bound (binding_to t origin row format payload a) ∷ t)
+bound_to u t a origin row lasting format payload durable fit = subst (λ l. MessagesFit u (Bound (message_to origin row l format payload a) ∷ t)) durable fit
+
+pub passed : (u : Messages) (t : Trace) (a : Attachment) (origin : Option Origin) (row : Option RowNumber) (format : ℕ) (payload : List ℕ) (chosen : Option Attachment) → Some a ≡ chosen
+    → MessagesFit u (Bound (binding_to t origin row format payload a) ∷ t) → MessagesFit u (with_bound (option_map (binding_to t origin row format payload) chosen) t)
+passed u t a origin row format payload chosen is fit = subst (λ v. MessagesFit u (with_bound (option_map (binding_to t origin row format payload) v) t)) is fit
 
 -- a row that a link takes up again
 abbrev pub row_to : RowNumber → TakenUp → Bool → ℕ → List ℕ → Attachment → Binding

@@ -1,6 +1,6 @@
 -- What a link has, read from the tables.
 use Rattle.std.proofs.Common.{◌≡◌, ◌∙◌, ◌+◌, ℕ, Bool, true, false, refl, sym, ap, Option, Some, None, List, [], ◌∷◌}
-use Rattle.std.specs.Prelude.{◌==◌, ◌||◌, if◌then◌else◌, length, option_map, unwrap_or}
+use Rattle.std.specs.Prelude.{◌==◌, ◌&&◌, ◌||◌, if◌then◌else◌, length, option_map, unwrap_or}
 use Rattle.std.proofs.lemmas.Bool.{eqb-true, eq-eqb}
 use Rattle.amqp_link.specs.Deliveries.{Frame}
 use Rattle.amqp_link.specs.Gathering.{gathered}
@@ -9,6 +9,8 @@ use Rattle.amqp_link.specs.Credit as credit
 use Rattle.amqp_link.specs.Receiving as receiving
 use Rattle.amqp_link.specs.Receiving.{middle}
 use Rattle.router_trace.specs.declared.handle.Attachment.{Attachment}
+use Rattle.route_table.specs.declared.sections.Distribution.{Distribution}
+use Rattle.router_trace.specs.Configuration.{distribution}
 use Rattle.router_trace.specs.Trace.{Trace}
 use Rattle.router_trace.specs.Links as view
 use Rattle.router_trace.specs.Links.{Happened, sends, receives, numbered, attachments, place_of, has_number, if_attached, is_attached}
@@ -26,7 +28,7 @@ use Rattle.state_collections.specs.Places.{at}
 use Rattle.state_links.specs.Touching.{if_number}
 use Rattle.state_links.proofs.Standing.{stands_where}
 use Rattle.state_pools.specs.Sharing.{address_in, AreNumbered, Figure, consumer, producer}
-use Rattle.state_messages.specs.Figures.{begun_credit, figure, figure_at, figure_by, figure_on, free_of, held, undecided, unused_credit, waiting}
+use Rattle.state_messages.specs.Figures.{begun_credit, figure, figure_at, figure_by, figure_on, free_of, held, lacks_rows, owed_by, undecided, unused_credit, waiting}
 use Rattle.state_messages.proofs.Numbered.{none_beyond, none_first, number_is}
 use Rattle.state_collections.specs.NumberMap.{at_number}
 
@@ -34,33 +36,34 @@ pub by_test : {P : Type 0} (b : Bool) → ((b ≡ true) → P) → ((b ≡ false
 by_test true f g = f refl
 by_test false f g = g refl
 
--- what a link of the table has, with this many waiting, undecided and held deliveries
-abbrev pub seen_end : ℕ → ℕ → ℕ → Link → LinkEnd → Figure
-seen_end waits pending kept l (ends.Sends e) = consumer l.address (free_of (l.drains || l.incomplete) (left_at e) waits pending) pending
-seen_end waits pending kept l (ends.Receives e) = producer l.address (unused_at e + begun_credit (option_map (λ g. g.delivery) e.middle) + l.owes_due) (length l.due) kept
+-- what a link of the table has, where addresses are shared so, with this many waiting, undecided and held deliveries
+abbrev pub seen_end : (List ℕ → Distribution) → ℕ → ℕ → ℕ → Link → LinkEnd → Figure
+seen_end share waits pending kept l (ends.Sends e) = consumer l.address (free_of (l.drains || (l.durable && l.incomplete)) (left_at e) waits pending) pending
+seen_end share waits pending kept l (ends.Receives e) =
+    producer l.address (unused_at e + begun_credit (option_map (λ g. g.delivery) e.middle) + owed_by (share l.address) l.owes_due) (length l.due) kept
 
-abbrev pub seen_one : ℕ → ℕ → ℕ → Option Link → Option Figure
-seen_one waits pending kept None = None
-seen_one waits pending kept (Some l) = Some (seen_end waits pending kept l l.end)
+abbrev pub seen_one : (List ℕ → Distribution) → ℕ → ℕ → ℕ → Option Link → Option Figure
+seen_one share waits pending kept None = None
+seen_one share waits pending kept (Some l) = Some (seen_end share waits pending kept l l.end)
 
-abbrev pub seen : ℕ → ℕ → ℕ → ℕ → (ℕ → ℕ → ℕ → Option Link) → Option Attachment → Option Figure
-seen n waits pending kept known None = None
-seen n waits pending kept known (Some a) = seen_one waits pending kept (if_number n (known a.conn.0 a.channel a.handle))
+abbrev pub seen : (List ℕ → Distribution) → ℕ → ℕ → ℕ → ℕ → (ℕ → ℕ → ℕ → Option Link) → Option Attachment → Option Figure
+seen share n waits pending kept known None = None
+seen share n waits pending kept known (Some a) = seen_one share waits pending kept (if_number n (known a.conn.0 a.channel a.handle))
 
 told_same : (fs : List Frame) → told_first fs ≡ option_map (λ g. g.delivery) (gathered fs)
 told_same [] = refl
 told_same (f ∷ fs) = refl
 
 end_same : (t : Trace) (n : ℕ) (l : view.Link) (h : Happened) → l.number ≡ n
-    → figure_by t l h ≡ seen_end (waiting t n) (undecided t n) (held t n) (link_of l) (end_of h)
-end_same t n l (sends list) is = ap (λ k. consumer l.address (free_of (l.drains || l.incomplete) (credit.credit list) (waiting t k) (undecided t k)) (undecided t k)) is
+    → figure_by t l h ≡ seen_end (distribution t) (waiting t n) (undecided t n) (held t n) (link_of l) (end_of h)
+end_same t n l (sends list) is = ap (λ k. consumer l.address (free_of (l.drains || lacks_rows l) (credit.credit list) (waiting t k) (undecided t k)) (undecided t k)) is
 end_same t n l (receives list) is =
-    ap (λ k. producer l.address (unused_credit list + l.owes_due) (length l.due) (held t k)) is
-    ∙ ap (λ d. producer l.address (receiving.unused list + begun_credit d + l.owes_due) (length l.due) (held t n)) (told_same (middle list))
+    ap (λ k. producer l.address (unused_credit list + owed_by (distribution t l.address) l.owes_due) (length l.due) (held t k)) is
+    ∙ ap (λ d. producer l.address (receiving.unused list + begun_credit d + owed_by (distribution t l.address) l.owes_due) (length l.due) (held t n)) (told_same (middle list))
 
 -- on the handle of its attachment
 on_same : (t : Trace) (n : ℕ) (v : Option view.Link)
-    → figure_on t n v ≡ seen_one (waiting t n) (undecided t n) (held t n) (if_number n (option_map link_of v))
+    → figure_on t n v ≡ seen_one (distribution t) (waiting t n) (undecided t n) (held t n) (if_number n (option_map link_of v))
 on_same t n None = refl
 on_same t n (Some l) = by_test (l.number == n)
     (λ e. rw e (ap Some (end_same t n l l.happened (eqb-true l.number n e))))
@@ -85,35 +88,50 @@ nowhere t n e = by_number (numbered t n) refl e
 
 -- so what the table remembers of a number gives its figure
 pub seen_is : (s : Links) (t : Trace) (n : ℕ) → LinksFit s t
-    → figure t n ≡ seen n (waiting t n) (undecided t n) (held t n) (at s.table.links) (at_number s.table.names.numbers.entries n)
+    → figure t n ≡ seen (distribution t) n (waiting t n) (undecided t n) (held t n) (at s.table.links) (at_number s.table.names.numbers.entries n)
 seen_is s t n fit = by_entry (at_number s.table.names.numbers.entries n) (fit.table.names.numbers n)
   where
     by_entry : (v : Option Attachment) → Remembers v (numbered t n) (place_of t n)
-        → figure t n ≡ seen n (waiting t n) (undecided t n) (held t n) (at s.table.links) v
+        → figure t n ≡ seen (distribution t) n (waiting t n) (undecided t n) (held t n) (at s.table.links) v
     by_entry None there = nowhere t n there
     by_entry (Some a) there =
         ap (figure_at t n) there
         ∙ on_same t n (view_of t a)
-        ∙ ap (λ v. seen_one (waiting t n) (undecided t n) (held t n) (if_number n v)) (sym (fit.table.links a.conn.0 a.channel a.handle))
+        ∙ ap (λ v. seen_one (distribution t) (waiting t n) (undecided t n) (held t n) (if_number n v)) (sym (fit.table.links a.conn.0 a.channel a.handle))
 
--- A link that is the same in both tables, with equal counts of deliveries, has the same figure.
+-- A link that is the same in both tables, with equal counts of deliveries, has the same figure if addresses are shared
+-- in the same way.
 pub figure_same : (s u : Links) (t w : Trace) (n : ℕ) → LinksFit s t → LinksFit u w
     → at_number s.table.names.numbers.entries n ≡ at_number u.table.names.numbers.entries n
     → ((c o h : ℕ) → if_number n (at s.table.links c o h) ≡ if_number n (at u.table.links c o h))
+    → ((a : List ℕ) → distribution w a ≡ distribution t a)
     → waiting t n ≡ waiting w n → undecided t n ≡ undecided w n → held t n ≡ held w n → figure t n ≡ figure w n
-figure_same s u t w n fit fit' numbers links waits pending kept =
+figure_same s u t w n fit fit' numbers links shared waits pending kept =
     seen_is s t n fit
-    ∙ ap (λ k. seen n k (undecided t n) (held t n) (at s.table.links) (at_number s.table.names.numbers.entries n)) waits
-    ∙ ap (λ k. seen n (waiting w n) k (held t n) (at s.table.links) (at_number s.table.names.numbers.entries n)) pending
-    ∙ ap (λ k. seen n (waiting w n) (undecided w n) k (at s.table.links) (at_number s.table.names.numbers.entries n)) kept
-    ∙ ap (λ v. seen n (waiting w n) (undecided w n) (held w n) (at s.table.links) v) numbers
+    ∙ ap (λ k. seen (distribution t) n k (undecided t n) (held t n) (at s.table.links) (at_number s.table.names.numbers.entries n)) waits
+    ∙ ap (λ k. seen (distribution t) n (waiting w n) k (held t n) (at s.table.links) (at_number s.table.names.numbers.entries n)) pending
+    ∙ ap (λ k. seen (distribution t) n (waiting w n) (undecided w n) k (at s.table.links) (at_number s.table.names.numbers.entries n)) kept
+    ∙ ap (λ v. seen (distribution t) n (waiting w n) (undecided w n) (held w n) (at s.table.links) v) numbers
     ∙ by_entry (at_number u.table.names.numbers.entries n)
     ∙ sym (seen_is u w n fit')
   where
+    by_end : (l : Link) (e : LinkEnd)
+        → Some (seen_end (distribution t) (waiting w n) (undecided w n) (held w n) l e) ≡ Some (seen_end (distribution w) (waiting w n) (undecided w n) (held w n) l e)
+    by_end l (ends.Sends e) = refl
+    by_end l (ends.Receives e) =
+        ap (λ d. Some (producer l.address (unused_at e + begun_credit (option_map (λ g. g.delivery) e.middle) + owed_by d l.owes_due) (length l.due) (held w n))) (sym (shared l.address))
+
+    by_link : (v : Option Link)
+        → seen_one (distribution t) (waiting w n) (undecided w n) (held w n) v ≡ seen_one (distribution w) (waiting w n) (undecided w n) (held w n) v
+    by_link None = refl
+    by_link (Some l) = by_end l l.end
+
     by_entry : (v : Option Attachment)
-        → seen n (waiting w n) (undecided w n) (held w n) (at s.table.links) v ≡ seen n (waiting w n) (undecided w n) (held w n) (at u.table.links) v
+        → seen (distribution t) n (waiting w n) (undecided w n) (held w n) (at s.table.links) v ≡ seen (distribution w) n (waiting w n) (undecided w n) (held w n) (at u.table.links) v
     by_entry None = refl
-    by_entry (Some a) = ap (seen_one (waiting w n) (undecided w n) (held w n)) (links a.conn.0 a.channel a.handle)
+    by_entry (Some a) =
+        ap (seen_one (distribution t) (waiting w n) (undecided w n) (held w n)) (links a.conn.0 a.channel a.handle)
+        ∙ by_link (if_number n (at u.table.links a.conn.0 a.channel a.handle))
 
 -- only numbers of attachments have anything
 pub are_numbered : (t : Trace) → AreNumbered (figure t) (attachments t)

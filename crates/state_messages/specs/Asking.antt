@@ -1,14 +1,15 @@
 -- Queries on the tables by what follows an event's rows.
-use Rattle.std.specs.Prelude.{ℕ, ◌+◌, ◌%◌, ◌^◌, Bool, true, false, ◌&&◌, ◌||◌, ◌==◌, nat_lt, is_some, if◌then◌else◌, List, [], ◌∷◌, Option, Some, None}
+use Rattle.std.specs.Prelude.{ℕ, ◌+◌, ◌%◌, ◌^◌, Bool, true, false, ◌&&◌, ◌||◌, ◌==◌, nat_lt, is_some, if◌then◌else◌, List, [], ◌∷◌, ◌++◌, Option, Some, None}
 use Rattle.amqp_link.specs.Credit as credit
 use Rattle.book_model.specs.declared.terminus.LinkKey.{LinkKey}
 use Rattle.router_trace.specs.declared.frames.LinkState.{LinkState}
 use Rattle.router_trace.specs.declared.handle.Attachment.{Attachment}
 use Rattle.router_trace.specs.Trace.{Trace}
-use Rattle.router_trace.specs.Links.{Link, Happened, sends, receives, numbered, holder}
+use Rattle.router_trace.specs.Links.{Link, Happened, sends, receives, numbered, holder, place_of}
 use Rattle.router_trace.specs.Deliveries.{delivery}
 use Rattle.router_trace.specs.Following.{link_of, first_delivery, is_unsent_on, is_sending, owes_one, is_going_on}
 use Rattle.state_deliveries.specs.Finding.{is_above}
+use Rattle.state_messages.specs.Messages.{is_there}
 
 -- frames of deliveries remain to be sent on a link
 abbrev pub has_unsent : Trace → ℕ → Bool
@@ -65,3 +66,8 @@ if_consumer t (Some a) = if is_consumer (link_of t a) then Some a else None
 
 abbrev pub consumer_with : Trace → LinkKey → Option Attachment
 consumer_with t k = if_consumer t (holder t k)
+
+-- the attachments with these numbers that still have their links
+abbrev pub standing : Trace → List ℕ → List Attachment
+standing t [] = []
+standing t (n ∷ ns) = is_there (place_of t n) ++ standing t ns

@@ -41,7 +41,14 @@ pub record Untouched (s : Messages) : Type 0 where
   pub links : (n : ℕ) → links.is_touched s.links n ≡ false
   pub deliveries : (n : ℕ) → deliveries.is_touched s.deliveries n ≡ false
 
--- the pools are told what a link has now
-abbrev pub IsTold : Pools → Pools → ℕ → Option Figure → Type 0
-IsTold old new number now = (share : List ℕ → Distribution) (known other actual : ℕ → Option Figure) (last : List ℕ → ℕ) → PoolsFit old share known actual last → other number ≡ now → actual number ≡ other number
+-- the pools share each address so
+pub record ShareAs (pools : Pools) (share : List ℕ → Distribution) : Type 0 where
+  pub known : ℕ → Option Figure
+  pub actual : ℕ → Option Figure
+  pub last : List ℕ → ℕ
+  pub fits : PoolsFit pools share known actual last
+
+-- the pools, which share each address so, are told what a link has now
+abbrev pub IsTold : (List ℕ → Distribution) → Pools → Pools → ℕ → Option Figure → Type 0
+IsTold share old new number now = (known other actual : ℕ → Option Figure) (last : List ℕ → ℕ) → PoolsFit old share known actual last → other number ≡ now → actual number ≡ other number
     → AgreeBut number other known → PoolsFit new share other actual last

@@ -8,7 +8,8 @@ use Rattle.amqp_session.specs.Session.{Session}
 use Rattle.book_model.specs.declared.row.RowNumber.{RowNumber}
 use Rattle.amqp_link.specs.Receiving as receiving
 use Rattle.route_credit.specs.Granting.{choice, grants_of}
-use Rattle.route_credit.specs.Pool.{Sharing}
+use Rattle.route_credit.specs.Links.{link_at}
+use Rattle.route_credit.specs.Pool.{copies, Sharing}
 use Rattle.state_pools.specs.Sharing.{Figure, producer, sharing}
 use Rattle.router_trace.specs.declared.binding.Binding.{Binding}
 use Rattle.router_trace.specs.declared.binding.BindingKind.TheVariants as kind
@@ -28,7 +29,7 @@ use Rattle.router_trace.specs.Following.{link_of}
 use Rattle.router_trace.specs.Deliveries.{called, is_message, origin_in, told_in, early_in, owned_in}
 use Rattle.state_links.specs.Looking.{numbered_link}
 use Rattle.state_messages.specs.declared.grant.LinkGrant.{LinkGrant}
-use Rattle.state_messages.specs.Figures.{figure}
+use Rattle.state_messages.specs.Figures.{figure, owed_credit}
 
 -- The consumer last chosen for an address, 0 before the first: that of the last message bound to a link of this address, but for the rows that a link takes up
 -- again, and those that are joined to a producer's link.
@@ -72,6 +73,23 @@ IsChosen t l (Some consumer) = consumer_of t l ≡ Some consumer
 abbrev pub lasts : Trace → Attachment → Bool
 lasts t at = is_some (durable_key (link_of t at))
 
+-- where the attachments with these numbers are
+abbrev pub is_there : Option Attachment → List Attachment
+is_there None = []
+is_there (Some a) = a ∷ []
+
+abbrev pub places_of : Trace → List ℕ → List Attachment
+places_of t [] = []
+places_of t (n ∷ ns) = is_there (numbered t n) ++ places_of t ns
+
+-- the consumers that get a copy of a message of a producer's link: none, where the address isn't multicast
+unfoldable pub copies_at : Trace → List ℕ → List ℕ
+copies_at t address = copies (pool_of t address)
+
+abbrev pub copies_for : Trace → Option Link → List Attachment
+copies_for t None = []
+copies_for t (Some l) = places_of t (copies_at t l.address)
+
 -- a message of a producer's link, bound to the chosen consumer, if there is one; a durable message comes with the number of its row
 abbrev pub binding_to : Trace → Option Origin → Option RowNumber → ℕ → List ℕ → Attachment → Binding
 binding_to t origin row format payload at =
@@ -79,6 +97,10 @@ binding_to t origin row format payload at =
 
 abbrev pub binding_for : Trace → Attachment → Option Origin → Option RowNumber → ℕ → List ℕ → Option Binding
 binding_for t from origin row format payload = option_map (binding_to t origin row format payload) (consumer_of t (link_of t from))
+
+-- a copy of a message for one consumer: a message by itself, without a producer's delivery and without a row
+abbrev pub copy_to : Trace → ℕ → List ℕ → Attachment → Binding
+copy_to t format payload at = binding_to t None None format payload at
 
 -- A row that a consumer's link takes up again, and how it is sent: its producer's delivery is that of the delivery which it had until now, if there is one. One
 -- that is only settled carries no message.
@@ -111,26 +133,27 @@ standing_at c o h l = record { number = l.number; conn = record { 0 = c }; chann
 abbrev pub attachment_at : Trace → ℕ → ℕ → ℕ → Option Attachment
 attachment_at t c o h = option_map (standing_at c o h) (link t c o h)
 
--- A grant gives a producer's delivery-count and all its unused credit, including this much more than before (2.7.4); the first one on a link also what the
--- link owes for what is due.
+-- A grant gives a producer's delivery-count and all its unused credit, including this much more than before (2.7.4); the first one on a link also what it
+-- is owed for what is due.
 abbrev pub grant_by : Attachment → ℕ → Happened → List LinkGrant
 grant_by a amount (sends list) = []
 grant_by a amount (receives list) =
     record { at = a; state = record { handle = a.handle; count = receiving.delivery_count list; credit = receiving.unused list + amount; drain = false } } ∷ []
 
-abbrev pub grant_on : ℕ → Attachment → ℕ → Option Link → List LinkGrant
-grant_on number a amount None = []
-grant_on number a amount (Some l) = if l.number == number then grant_by a (l.owes_due + amount) l.happened else []
+abbrev pub grant_on : Trace → ℕ → Attachment → ℕ → Option Link → List LinkGrant
+grant_on t number a amount None = []
+grant_on t number a amount (Some l) = if l.number == number then grant_by a (owed_credit t l + amount) l.happened else []
 
 abbrev pub grant_at : Trace → ℕ → ℕ → Option Attachment → List LinkGrant
 grant_at t number amount None = []
-grant_at t number amount (Some a) = grant_on number a amount (link_of t a)
+grant_at t number amount (Some a) = grant_on t number a amount (link_of t a)
 
 abbrev pub grants_on : Trace → List (ℕ × ℕ) → List LinkGrant
 grants_on t [] = []
 grants_on t (sum ∷ sums) = grant_at t sum.0 sum.1 (numbered t sum.0) ++ grants_on t sums
 
--- The address whose grants come first: the lowest in byte order, of the addresses of producers' links that have any.
+-- The address whose grants come first: the lowest in byte order, of those of producers' links that have any, and of the newest link if it is owed credit
+-- for what is due. Only the newest can be: it is granted that by the event of its attach.
 abbrev pub if_some : List (ℕ × ℕ) → List ℕ → Option (List ℕ)
 if_some [] address = None
 if_some (sum ∷ sums) address = Some address
@@ -152,29 +175,35 @@ unfoldable pub lowest_below : ℕ → (ℕ → Option (List ℕ)) → Option (Li
 lowest_below zero address = None
 lowest_below (suc n) address = lower (lowest_below n address) (address n)
 
+abbrev pub owed_at : Option Link → Option (List ℕ)
+owed_at None = None
+owed_at (Some l) = if nat_lt 0 l.owes_due then Some l.address else None
+
+unfoldable pub lent_first : Trace → Option (List ℕ)
+lent_first t = lowest_below (attachments t + 1) (λ n. wants t (figure t n))
+
+abbrev pub first_address : Trace → Option (List ℕ)
+first_address t = lower (lent_first t) (owed_at (numbered_link t (attachments t)))
+
+-- The sums of an address, with the newest link if it is owed credit there: it is the last in order of attach.
+abbrev pub with_newest : ℕ → List (ℕ × ℕ) → List (ℕ × ℕ)
+with_newest newest sums = if is_some (link_at sums newest) then sums else sums ++ ((newest, 0) ∷ [])
+
+abbrev pub is_owed_at : Option (List ℕ) → List ℕ → Bool
+is_owed_at None address = false
+is_owed_at (Some owed) address = bytes_eq owed address
+
+abbrev pub sums_at : Trace → List ℕ → List (ℕ × ℕ)
+sums_at t address =
+    if is_owed_at (owed_at (numbered_link t (attachments t))) address then with_newest (attachments t) (grants_of (pool_of t address)) else grants_of (pool_of t address)
+
+-- the grants that producers are due, in order of attach: those of the first address
 abbrev pub grants_of_address : Trace → Option (List ℕ) → List LinkGrant
 grants_of_address t None = []
-grants_of_address t (Some address) = grants_on t (grants_of (pool_of t address))
+grants_of_address t (Some address) = grants_on t (sums_at t address)
 
--- If none are due, a link that owes credit for what is due is granted this alone. Only the newest link can owe any: it is granted by the event of its
--- attach.
-abbrev pub owes_some : Option Link → Bool
-owes_some None = false
-owes_some (Some l) = nat_lt 0 l.owes_due
-
-abbrev pub owed : Trace → List LinkGrant
-owed t = if owes_some (numbered_link t (attachments t)) then grant_at t (attachments t) 0 (numbered t (attachments t)) else []
-
-abbrev pub or_owed : Trace → List LinkGrant → List LinkGrant
-or_owed t [] = owed t
-or_owed t (g ∷ gs) = g ∷ gs
-
--- the grants that producers are due: those of an address, or what is owed
-unfoldable pub lent : Trace → List LinkGrant
-lent t = grants_of_address t (lowest_below (attachments t + 1) (λ n. wants t (figure t n)))
-
-abbrev pub grants : Trace → List LinkGrant
-grants t = or_owed t (lent t)
+unfoldable pub grants : Trace → List LinkGrant
+grants t = grants_of_address t (first_address t)
 
 -- the flows that carry them
 abbrev pub grant_flow : LinkGrant → Option Session → List Put

@@ -1,5 +1,6 @@
 //! What each link offers and wants.
 ghost use Rattle.std.specs.Prelude.{◌≡◌, ◌+◌, ◌||◌, ℕ, List, Option, Some, OnOk, IfOk};
+ghost use Rattle.router_trace.specs.Configuration.{distribution};
 ghost use Rattle.router_trace.specs.Trace.{Entry};
 ghost use Rattle.router_trace.specs.Links.{Link as View};
 ghost use Rattle.state_links.specs.Ends.{link_of};
@@ -7,8 +8,9 @@ ghost use Rattle.state_links.specs.Fits.{LinksFit};
 ghost use Rattle.state_links.specs.Looking.{credit_on};
 ghost use Rattle.state_deliveries.specs.Fits.{DeliveriesFit};
 ghost use Rattle.state_messages.specs.Fits.{IsTold};
-ghost use Rattle.state_messages.specs.Figures.{figure, figure_by, free_of, unused_by};
+ghost use Rattle.state_messages.specs.Figures.{figure, figure_by, free_of, lacks_rows, unused_by};
 
+use crate::due::owed;
 use state_deliveries::Deliveries;
 use state_links::{Link, Links};
 use state_pools::Pools;
@@ -24,7 +26,7 @@ pub(crate) fn tell(
     deliveries: &Deliveries,
     number: u64,
 ) -> Result<(), AllocError>
-    ensures { OnOk result ((t : List Entry) → LinksFit links.now t → DeliveriesFit deliveries.now t → IsTold pools.old pools.new number (figure t number)) }
+    ensures { OnOk result ((t : List Entry) → LinksFit links.now t → DeliveriesFit deliveries.now t → IsTold (distribution t) pools.old pools.new number (figure t number)) }
 {
     match links.by_number(number) {
         None => pools.leave(number)?,
@@ -41,7 +43,7 @@ fn tell_link(
     link: &Link,
 ) -> Result<(), AllocError>
     ensures { OnOk result ((t : List Entry) (l : View) → link.now ≡ link_of l → l.number ≡ number → DeliveriesFit deliveries.now t
-        → IsTold pools.old pools.new number (Some (figure_by t l l.happened))) }
+        → IsTold (distribution t) pools.old pools.new number (Some (figure_by t l l.happened))) }
 {
     let address = link.address.as_str();
     if link.is_consumer() {
@@ -51,7 +53,8 @@ fn tell_link(
         return Ok(());
     }
     let granted = unused(link)?;
-    let unused = with_owed(granted, link.owes_due)?;
+    let owed = owed(pools, link);
+    let unused = with_owed(granted, owed)?;
     let due = small(link.due.len())?;
     let held = small(deliveries.held(number))?;
     pools.want(number, address, unused, due, held)?;
@@ -70,13 +73,20 @@ fn small(count: usize) -> Result<u32, AllocError>
 
 /// The free credit of a consumer's link with this many waiting and undecided deliveries.
 fn free(link: &Link, waiting: u64, undecided: u64) -> u64
-    ensures { (l : View) → link.now ≡ link_of l → result ≡ free_of (l.drains || l.incomplete) (credit_on l.happened) waiting undecided }
+    ensures { (l : View) → link.now ≡ link_of l → result ≡ free_of (l.drains || lacks_rows l) (credit_on l.happened) waiting undecided }
 {
-    if link.drains || link.incomplete {
+    if link.drains || lacks_rows(link) {
         return 0;
     }
     let left = u64::from(link.credit()).saturating_sub(waiting);
     left.min(UNDECIDED.saturating_sub(undecided))
+}
+
+/// Whether the attach of a durable link says that its map is incomplete.
+fn lacks_rows(link: &Link) -> bool
+    ensures { (l : View) → link.now ≡ link_of l → result ≡ lacks_rows l }
+{
+    link.durable && link.incomplete
 }
 
 /// Unused credit with this much that a link is still to be granted.

@@ -5,20 +5,23 @@ ghost use Rattle.router_trace.specs.Deliveries.{joined_by};
 ghost use Rattle.route_table.specs.declared.sections.Distribution.{Distribution};
 ghost use Rattle.router_trace.specs.Configuration.{distribution};
 ghost use Rattle.router_trace.specs.Following.{link_of};
-ghost use Rattle.router_trace.specs.Links.{Link as View, link, numbered};
+ghost use Rattle.router_trace.specs.Links.{Link as View, attachments, link, numbered};
 ghost use Rattle.state_links.specs.Ends.{link_of as link_of_view};
 ghost use Rattle.state_links.specs.Fits.{LinksFit};
 ghost use Rattle.state_pools.specs.Fits.{NoneTouched, PoolsFit};
 ghost use Rattle.state_pools.specs.Sharing.{address_in, Figure};
 ghost use Rattle.route_credit.specs.Pool.{by_id};
-ghost use Rattle.state_messages.specs.Figures.{figure};
-ghost use Rattle.state_messages.specs.Fits.{NotedFit, MessagesFit, Untouched};
-ghost use Rattle.state_messages.specs.Messages.{IsChosen, choice_of, consumer_of, grant_at, grant_by, grants, grants_on, lent, or_owed, owed, owes_some, last_after, last_chosen, binding_for, payload_as, taken_up_by, with_bound};
+ghost use Rattle.state_messages.specs.Figures.{figure, owed_credit};
+ghost use Rattle.state_messages.specs.Fits.{NotedFit, MessagesFit, ShareAs, Untouched};
+ghost use Rattle.state_messages.specs.Messages.{IsChosen, choice_of, consumer_of, binding_for, binding_to, grant_at, grant_by, grants, grants_on, last_after, last_chosen, payload_as, taken_up_by, with_bound, with_newest};
+ghost use Rattle.state_messages.specs.Turns.{in_turn, whose_turn};
 
+use crate::due::owed;
 use crate::durable::lasts;
 use crate::figures::tell;
 use crate::grant::LinkGrant;
 use crate::messages::Messages;
+use crate::turns::{is_among, whose_turn};
 use amqp_model::DeliveryState;
 use book_model::RowNumber;
 use bytes::Bytes;
@@ -30,6 +33,7 @@ use router_trace::{
 use state_links::{Link, Links};
 use state_pools::Pools;
 use std::alloc::{AllocError, Global};
+use std::cmp::Ordering;
 
 impl Messages {
     /// A link that may have changed since the pools were last told.
@@ -56,7 +60,7 @@ impl Messages {
     }
 
     /// Tells the pools what all links have now.
-    fn tell_all(&mut self) -> Result<(), AllocError>
+    pub(crate) fn tell_all(&mut self) -> Result<(), AllocError>
         ensures fits { OnOk result ((t : List Entry) → MessagesFit self.old t → MessagesFit self.new t) }
         ensures exact { OnOk result (Untouched self.new) }
     {
@@ -91,19 +95,35 @@ impl Messages {
                 Ok(false)
             }
             Some(consumer) => {
-                let lasting = lasts(&self.links, consumer);
-                self.deliveries.bind(Binding {
-                    consumer,
-                    row,
-                    lasting,
-                    format,
-                    payload,
-                    kind: BindingKind::Message(origin),
-                })?;
-                self.incoming.bind(origin)?;
+                self.bind(consumer, origin, row, format, payload)?;
                 Ok(true)
             }
         }
+    }
+
+    /// Binds a message to this consumer, which is noted as the last one chosen. Fails if memory is refused, and if no
+    /// binding number is left.
+    pub(crate) fn bind(
+        &mut self,
+        consumer: Attachment,
+        origin: Option<Origin>,
+        row: Option<RowNumber>,
+        format: u32,
+        payload: Bytes,
+    ) -> Result<(), AllocError>
+        ensures { OnOk result ((t : List Entry) → NotedFit self.old t (last_after t (Some consumer)) → MessagesFit self.new (Bound (binding_to t origin row format payload consumer) ∷ t)) }
+    {
+        let lasting = lasts(&self.links, consumer);
+        self.deliveries.bind(Binding {
+            consumer,
+            row,
+            lasting,
+            format,
+            payload,
+            kind: BindingKind::Message(origin),
+        })?;
+        self.incoming.bind(origin)?;
+        Ok(())
     }
 
     /// Binds a row to the consumer's link that takes it up again, to be sent as `how` says; its producer's delivery is
@@ -204,50 +224,15 @@ impl Messages {
         }
     }
 
-    /// The grants that the producers of an address are due; if there are none, what the newest link owes for what its producer may resume. Empty if no
-    /// producer is due any.
+    /// The grants that producers are due, with what the newest link is owed for what its producer may resume: those of
+    /// one address, the first in the order of bytes, in order of attach. Empty if no producer is due any.
     pub fn grants(&mut self) -> Result<Vec<LinkGrant>, AllocError>
         ensures due { IfOk result (λ due. (t : List Entry) → MessagesFit self.old t → due.items ≡ grants t) }
         ensures fits { OnOk result ((t : List Entry) → MessagesFit self.old t → MessagesFit self.new t) }
     {
         self.tell_all()?;
-        let lent = grants_due(self.alloc, &mut self.pools, &self.links)?;
-        let due = or_owed(self.alloc, &self.links, lent)?;
+        let due = grants_due(self.alloc, &mut self.pools, &self.links)?;
         Ok(due)
-    }
-}
-
-/// These grants; if there are none, what the newest link owes.
-fn or_owed(alloc: Global, links: &Links, lent: Vec<LinkGrant>) -> Result<Vec<LinkGrant>, AllocError>
-    ensures { IfOk result (λ due. (t : List Entry) → LinksFit links.now t → due.items ≡ or_owed t lent.items) }
-{
-    if !lent.is_empty() {
-        return Ok(lent);
-    }
-    drop(lent);
-    let due = owed(alloc, links)?;
-    Ok(due)
-}
-
-/// What the newest link is granted for what its producer may resume, if it owes that.
-fn owed(alloc: Global, links: &Links) -> Result<Vec<LinkGrant>, AllocError>
-    ensures { IfOk result (λ told. (t : List Entry) → LinksFit links.now t → told.items ≡ owed t) }
-{
-    let mut told = Vec::new(alloc);
-    let newest = links.attachments();
-    if owes_some(links.by_number(newest)) {
-        add_grant(&mut told, links, newest, 0)?;
-    }
-    Ok(told)
-}
-
-/// Whether there is a link that owes credit for what its producer may resume.
-fn owes_some(link: Option<&Link>) -> bool
-    ensures { (v : Option View) → option_map (λ l. l.now) link.entry ≡ option_map link_of_view v → result ≡ owes_some v }
-{
-    match link {
-        None => false,
-        Some(link) => link.owes_due > 0,
     }
 }
 
@@ -285,31 +270,69 @@ fn peek_of(pools: &Pools, links: &Links, number: u64) -> Option<Attachment>
     }
 }
 
-/// The grants due to the producers of the first address that has any, after the pools were told of all links.
+/// The grants that producers are due, after the pools were told of all links.
 fn grants_due(alloc: Global, pools: &mut Pools, links: &Links) -> Result<Vec<LinkGrant>, AllocError>
-    ensures due { IfOk result (λ due. (t : List Entry) → LinksFit links.now t → NoneTouched pools.old → PoolsFit pools.old (distribution t) (figure t) (figure t) (last_chosen t) → due.items ≡ lent t) }
+    ensures due { IfOk result (λ due. (t : List Entry) → LinksFit links.now t → NoneTouched pools.old → PoolsFit pools.old (distribution t) (figure t) (figure t) (last_chosen t) → due.items ≡ grants t) }
     ensures fits { OnOk result ((share : List ℕ → Distribution) (known actual : ℕ → Option Figure) (last : List ℕ → ℕ) → PoolsFit pools.old share known actual last → PoolsFit pools.new share known actual last) }
 {
     match pools.grants()? {
-        None => Ok(Vec::new(alloc)),
+        None => first_grants(alloc, pools, links, &[]),
         Some(sums) => {
-            let told = told(alloc, links, sums.as_slice())?;
-            Ok(told)
+            let due = first_grants(alloc, pools, links, sums.as_slice())?;
+            Ok(due)
         }
     }
+}
+
+/// The grants of these sums, which are those of an address, or what the newest link is owed, whichever comes first;
+/// both if it is at that address.
+fn first_grants(
+    alloc: Global,
+    pools: &Pools,
+    links: &Links,
+    sums: &[(ProducerId, u32)],
+) -> Result<Vec<LinkGrant>, AllocError>
+    ensures { IfOk result (λ due. (t : List Entry) → LinksFit links.now t → ShareAs pools.now (distribution t)
+        → due.items ≡ grants_on t (in_turn (whose_turn t (attachments t) (by_id sums.now)) (attachments t) (by_id sums.now))) }
+{
+    let newest = links.attachments();
+    match whose_turn(links, newest, sums) {
+        Ordering::Less => told(alloc, pools, links, sums),
+        Ordering::Equal => told_with(alloc, pools, links, sums, newest),
+        Ordering::Greater => told(alloc, pools, links, &[(ProducerId(newest), 0)]),
+    }
+}
+
+/// These grants, and after them what the newest link is owed, if it isn't among them.
+fn told_with(
+    alloc: Global,
+    pools: &Pools,
+    links: &Links,
+    sums: &[(ProducerId, u32)],
+    newest: u64,
+) -> Result<Vec<LinkGrant>, AllocError>
+    ensures { IfOk result (λ told. (t : List Entry) → LinksFit links.now t → ShareAs pools.now (distribution t) → told.items ≡ grants_on t (with_newest newest (by_id sums.now))) }
+{
+    let mut told = told(alloc, pools, links, sums)?;
+    if is_among(sums, newest) {
+        return Ok(told);
+    }
+    add_grant(&mut told, pools, links, newest, 0)?;
+    Ok(told)
 }
 
 /// These grants, with the state of each link.
 fn told(
     alloc: Global,
+    pools: &Pools,
     links: &Links,
     sums: &[(ProducerId, u32)],
 ) -> Result<Vec<LinkGrant>, AllocError>
-    ensures { IfOk result (λ told. (t : List Entry) → LinksFit links.now t → told.items ≡ grants_on t (by_id sums.now)) }
+    ensures { IfOk result (λ told. (t : List Entry) → LinksFit links.now t → ShareAs pools.now (distribution t) → told.items ≡ grants_on t (by_id sums.now)) }
 {
     let mut told = Vec::new(alloc);
     for sum in sums {
-        add_grant(&mut told, links, sum.0.0, sum.1)?;
+        add_grant(&mut told, pools, links, sum.0.0, sum.1)?;
     }
     Ok(told)
 }
@@ -317,30 +340,33 @@ fn told(
 /// Adds the grant of this credit to a producer.
 fn add_grant(
     told: &mut Vec<LinkGrant>,
+    pools: &Pools,
     links: &Links,
     number: u64,
     amount: u32,
 ) -> Result<(), AllocError>
-    ensures { OnOk result ((t : List Entry) → LinksFit links.now t → told.new.items ≡ told.old.items ++ grant_at t number amount (numbered t number)) }
+    ensures { OnOk result ((t : List Entry) → LinksFit links.now t → ShareAs pools.now (distribution t) → told.new.items ≡ told.old.items ++ grant_at t number amount (numbered t number)) }
 {
     match links.place_of(number) {
         None => {}
         Some(at) => match links.link(at) {
             None => {}
-            Some(link) => add_grant_on(told, at, link, amount)?,
+            Some(link) => add_grant_on(told, pools, at, link, amount)?,
         },
     }
     Ok(())
 }
 
-/// Adds the grant of this credit to the producer of a link; nothing if the router is the sender on it.
+/// Adds the grant of this credit, and of what is owed, to the producer of a link; nothing if the router is the sender
+/// on it.
 fn add_grant_on(
     told: &mut Vec<LinkGrant>,
+    pools: &Pools,
     at: Attachment,
     link: &Link,
     amount: u32,
 ) -> Result<(), AllocError>
-    ensures { OnOk result ((l : View) → link.now ≡ link_of_view l → told.new.items ≡ told.old.items ++ grant_by at (l.owes_due + amount) l.happened) }
+    ensures { OnOk result ((t : List Entry) (l : View) → ShareAs pools.now (distribution t) → link.now ≡ link_of_view l → told.new.items ≡ told.old.items ++ grant_by at (owed_credit t l + amount) l.happened) }
 {
     if link.is_consumer() {
         return Ok(());
@@ -348,7 +374,7 @@ fn add_grant_on(
     let state = LinkState {
         handle: at.handle,
         count: link.count(),
-        credit: sum(link.unused(), sum(link.owes_due, amount)?)?,
+        credit: sum(link.unused(), sum(owed(pools, link), amount)?)?,
         drain: false,
     };
     told.push(LinkGrant { at, state })?;

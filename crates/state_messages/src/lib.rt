@@ -3,6 +3,8 @@
 
 mod asking;
 mod busy;
+mod copies;
+mod due;
 mod durable;
 mod figures;
 mod grant;
@@ -11,6 +13,7 @@ mod hearing;
 mod messages;
 mod owing;
 mod sharing;
+mod turns;
 
 pub use grant::LinkGrant;
 pub use messages::Messages;

@@ -10,7 +10,7 @@ use Rattle.std.proofs.lemmas.Bool.{eqb-true, eq-eqb}
 use Rattle.std.proofs.lemmas.Map.Made.{is_some-lookup}
 use Rattle.route_credit.specs.Granting.{all_granted, grants_of}
 use Rattle.route_credit.specs.Links.{link_at}
-use Rattle.route_credit.specs.Pool.{chose, demand_of, has_no_links, no_links, offered, Sharing, wanted, without_consumer, without_producer}
+use Rattle.route_credit.specs.Pool.{chose, has_no_links, no_links, offered, Sharing, wanted, without_consumer, without_producer}
 use Rattle.route_credit.specs.declared.demand.Demand.{Demand}
 use Rattle.route_credit.specs.declared.offer.Offer.{Offer}
 use Rattle.route_credit.proofs.Entries.{InOrder, with_ordered, without_ordered}
@@ -103,7 +103,7 @@ module _ (apart : ℕ → Bool) (table share : List ℕ → Distribution) (pools
           absurd (true≢false (ap (λ b. is_some (cond b (Some offer) None)) (sym (there at e)) ∙ ap (λ v. is_some (offer_at a v)) (sym is) ∙ ap is_some (sym (fits.consumers n a is_known) ∙ fits.no_consumer n a none))))
       by_figure (Some (producer at unused owed held)) is e = by_test (is_place (place n) a) (λ t. t)
           (λ none.
-          let demand : Demand = demand_of unused owed held in
+          let demand : Demand = record { unused = unused; due = owed; held = held } in
           absurd (true≢false (ap (λ b. is_some (cond b (Some demand) None)) (sym (there at e)) ∙ ap (λ v. is_some (demand_at a v)) (sym is) ∙ ap is_some (sym (fits.producers n a is_known) ∙ fits.no_producer n a none))))
 
   -- One pool changes, and with it one link. The pool's address is due.
@@ -433,7 +433,7 @@ module _ (apart : ℕ → Bool) (table share : List ℕ → Distribution) (pools
   pub wanted_fits : (unused owed held : ℕ) → ((a : List ℕ) → pools' a ≡ with_pool pools q (λ pool. wanted (without_consumer pool n) n unused owed held) a) → known' n ≡ Some (producer q unused owed held)
       → Fits apart' table share pools' place' due' known' actual last
   wanted_fits unused owed held changes is =
-      let demand : Demand = demand_of unused owed held in
+      let demand : Demand = record { unused = unused; due = owed; held = held } in
       changed apart table share pools place due known actual last fits pools' q (λ pool. wanted (without_consumer pool n) n unused owed held) changes n place' moves not_there due' still_due quiet_here apart' less known' others is_actual
       (ap (λ v. is_some (offer_at q v) || is_some (demand_at q v)) is ∙ ap (λ b. is_some (cond b (Some demand) None)) (equal_bytes q q refl))
       (λ m a. link_without (pools a).consumers n m ∙ ap (λ x. cond (n == m) x (link_at (pools a).consumers m)) (sym (ap (offer_at q) is)))

@@ -9,7 +9,7 @@ use Rattle.std.specs.Ordering.{nat_cmp}
 use Rattle.std.proofs.lemmas.Bool.{eqb-true, le-leb, lt-leb, lt-ltb}
 use Rattle.route_credit.specs.Links.{link_at}
 use Rattle.route_credit.specs.Granting.{choice, grants_of}
-use Rattle.route_credit.specs.Pool.{Sharing}
+use Rattle.route_credit.specs.Pool.{copies, Sharing}
 use Rattle.route_credit.proofs.Entries.{Above, InOrder, less_is, same_entries}
 use Rattle.route_credit.proofs.Gains.{grants_but_last}
 use Rattle.route_credit.proofs.Indices.{same_test}
@@ -141,6 +141,10 @@ module _ (apart : ℕ → Bool) (table share : List ℕ → Distribution) (pools
   -- so its choice is
   pub choice_is : choice (pools address) ≡ choice shared
   choice_is = ⊎_elim (λ e. ap choice e) (λ e. ap choice e.0 ∙ none_noted shared (last address) e.1) pool_is
+
+  -- and its copies are
+  pub copies_are : copies (pools address) ≡ copies shared
+  copies_are = ap copies but_last
 
   -- and its grants are
   pub grants_are : grants_of (pools address) ≡ grants_of shared

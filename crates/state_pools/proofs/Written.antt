@@ -3,9 +3,10 @@ use Rattle.std.proofs.Common.{◌≡◌, ◌∙◌, sym, ap, refl, subst, ℕ, B
 use Rattle.std.specs.Prelude.{◌==◌}
 use Rattle.std.specs.Str.{bytes_eq}
 use Rattle.std.proofs.lemmas.Bool.{eqb-true}
-use Rattle.route_credit.specs.Pool.{has_no_links, no_links, Sharing}
+use Rattle.route_credit.specs.Pool.{copies, has_no_links, no_links, Sharing}
 use Rattle.state_pools.specs.Addresses.{pool_or, rested, with_pool}
 use Rattle.route_table.specs.declared.sections.Distribution.{Distribution}
+use Rattle.route_table.specs.declared.sections.Distribution.TheVariants.{Balanced, Closest, Multicast}
 use Rattle.state_pools.proofs.AtAddress.{by_test, equal_bytes, same_bytes}
 
 -- a pool without links has no consumer and no producer
@@ -109,3 +110,9 @@ on_ok_then (Err e) P Q is f = tt
 pub on_told : {T E : Type 0} (r : Result T E) (P Q : T → Type 0) → IfOk r P → ((x : T) → P x → Q x) → IfOk r Q
 on_told (Ok x) P Q is f = f x is
 on_told (Err e) P Q is f = tt
+
+-- an address without links has no copies
+pub no_copies : (distribution : Distribution) → copies (no_links distribution) ≡ []
+no_copies Balanced = refl
+no_copies Closest = refl
+no_copies Multicast = refl

@@ -1,12 +1,12 @@
 -- The pool of an address, computed from what each link has.
 use Rattle.std.specs.Prelude.{◌≡◌, ◌<◌, ℕ, zero, suc, List, [], ◌∷◌, ◌++◌, Option, None, Some, if◌then◌else◌}
 use Rattle.std.specs.Str.{bytes_eq}
-use Rattle.route_credit.specs.Pool.{demand_of, Sharing}
+use Rattle.route_credit.specs.Pool.{Sharing}
 use Rattle.route_credit.specs.declared.demand.Demand.{Demand}
 use Rattle.route_credit.specs.declared.offer.Offer.{Offer}
 use Rattle.route_table.specs.declared.sections.Distribution.{Distribution}
 
--- What a link has: a consumer its address, its free credit and its undecided deliveries; a producer its address, its unused credit, how much of that is due
+-- What a link has: a consumer its address, its free credit and its undecided deliveries; a producer its address, its unused credit, how much is due to it
 -- for deliveries that it may resume, and its held deliveries.
 pub data Figure : Type 0 where
   consumer : (address : List ℕ) (free undecided : ℕ) → Figure
@@ -28,7 +28,7 @@ offer_at address (Some (producer at unused due held)) = None
 abbrev pub demand_at : List ℕ → Option Figure → Option Demand
 demand_at address None = None
 demand_at address (Some (consumer at free undecided)) = None
-demand_at address (Some (producer at unused due held)) = if bytes_eq at address then Some (demand_of unused due held) else None
+demand_at address (Some (producer at unused due held)) = if bytes_eq at address then Some (record { unused = unused; due = due; held = held }) else None
 
 -- a number with what it has
 abbrev pub entry : {X : Type 0} → ℕ → Option X → List (ℕ × X)

@@ -1,9 +1,9 @@
 //! Pools by address.
-ghost use Rattle.std.specs.Prelude.{◌≡◌, ◌==◌, ℕ, List, [], Bool, true, false, if◌then◌else◌, None, Some, OnOk, IfOk, IfSome, option_map, is_some};
+ghost use Rattle.std.specs.Prelude.{◌≡◌, ◌==◌, ℕ, List, [], map, Bool, true, false, if◌then◌else◌, None, Some, OnOk, IfOk, IfSome, option_map, is_some};
 ghost use Rattle.route_table.specs.declared.sections.Distribution.{Distribution};
 ghost use Rattle.route_table.specs.Places.{distribution_of};
 ghost use Rattle.route_credit.specs.Granting.{all_granted, choice, grants_of};
-ghost use Rattle.route_credit.specs.Pool.{by_id, chose, has_no_links, no_links, offered, wanted, without_consumer, without_producer};
+ghost use Rattle.route_credit.specs.Pool.{by_id, chose, copies, has_no_links, no_links, offered, wanted, without_consumer, without_producer};
 ghost use Rattle.state_collections.specs.NumberMap.{at_number};
 ghost use Rattle.state_pools.specs.Addresses.{rested, with_pool, without};
 ghost use Rattle.state_pools.specs.Digest.{digest_of};
@@ -174,6 +174,18 @@ impl ByAddress {
         match self.rows.get(digest) {
             None => None,
             Some(row) => row.peek(address),
+        }
+    }
+
+    /// The consumers that get a copy of a message of an address that has a pool.
+    #[inline]
+    pub(crate) fn copies(&self, digest: u64, address: &[u8]) -> Result<Vec<ConsumerId>, AllocError>
+        requires { digest ≡ digest_of address.now }
+        ensures { IfOk result (λ to. is_some (in_row (row_of self.now address.now) address.now) ≡ true → (share : List ℕ → Distribution) → map (λ c. c.0) to.items ≡ copies (pool_in share self.now address.now)) }
+    {
+        match self.rows.get(digest) {
+            None => Ok(Vec::new(self.alloc)),
+            Some(row) => row.copies(address),
         }
     }
 

@@ -1,11 +1,11 @@
 //! The pools of all addresses.
-ghost use Rattle.std.specs.Prelude.{◌≡◌, ◌==◌, ◌||◌, ◌&&◌, ◌<◌, ◌≤◌, not, ℕ, List, [], Bool, true, false, Option, None, Some, OnOk, IfOk, IfNone, IfSome, option_map, is_some, length};
+ghost use Rattle.std.specs.Prelude.{◌≡◌, ◌==◌, ◌||◌, ◌&&◌, ◌<◌, ◌≤◌, not, ℕ, List, [], map, Bool, true, false, Option, None, Some, OnOk, IfOk, IfNone, IfSome, option_map, is_some, length};
 ghost use Rattle.std.specs.Str.{bytes_eq};
 ghost use Rattle.route_table.specs.declared.sections.Distribution.{Distribution};
 ghost use Rattle.route_table.specs.Places.{FindsAs, Routing, distribution_of};
 ghost use Rattle.route_credit.specs.Granting.{choice, grants_of};
 ghost use Rattle.route_credit.specs.Links.{link_at};
-ghost use Rattle.route_credit.specs.Pool.{by_id};
+ghost use Rattle.route_credit.specs.Pool.{by_id, copies};
 ghost use Rattle.state_collections.specs.NumberSet.{has};
 ghost use Rattle.state_pools.specs.Digest.{digest_of};
 ghost use Rattle.state_pools.specs.Due.{count, is_in, is_place};
@@ -112,7 +112,7 @@ impl Pools {
         Ok(())
     }
 
-    /// Sets what a producer has: its unused credit, how much of that is due, and its deliveries that the router holds, at an address.
+    /// Sets what a producer has: its unused credit, how much is due to it, and its deliveries that the router holds, at an address.
     pub fn want(
         &mut self,
         number: u64,
@@ -167,6 +167,21 @@ impl Pools {
         match self.pools.peek(seat.digest, place) {
             None => None,
             Some(consumer) => Some(consumer.0),
+        }
+    }
+
+    /// The consumers that get a copy of a message of the address that a link is at, in order of attach: each with free
+    /// credit, on a multicast address; else none. Nothing is noted.
+    pub fn copies(&self, number: u64) -> Result<Vec<ConsumerId>, AllocError>
+        ensures { IfOk result (λ to. (share : List ℕ → Distribution) (known actual : ℕ → Option Figure) (last : List ℕ → ℕ) (count : ℕ) (address : List ℕ) → PoolsFit self.now share known actual last → NoneTouched self.now → AreNumbered known count
+            → address_in (known number) ≡ Some address → map (λ c. c.0) to.items ≡ copies (sharing (share address) known count (last address) address)) }
+    {
+        match self.seats.get(number) {
+            None => Ok(Vec::new(self.alloc)),
+            Some(seat) => {
+                let place = seat.address.as_slice();
+                self.pools.copies(seat.digest, place)
+            }
         }
     }
 

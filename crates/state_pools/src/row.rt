@@ -1,9 +1,9 @@
 //! The pools of the addresses of one digest, by the bytes of the addresses.
-ghost use Rattle.std.specs.Prelude.{◌≡◌, ℕ, List, [], Bool, true, false, None, Some, OnOk, IfOk, option_map, is_some};
+ghost use Rattle.std.specs.Prelude.{◌≡◌, ℕ, List, [], map, Bool, true, false, None, Some, OnOk, IfOk, option_map, is_some};
 ghost use Rattle.route_table.specs.declared.sections.Distribution.{Distribution};
 ghost use Rattle.route_table.specs.Places.{distribution_of};
 ghost use Rattle.route_credit.specs.Granting.{all_granted, choice, grants_of};
-ghost use Rattle.route_credit.specs.Pool.{by_id, chose, has_no_links, no_links, offered, wanted, without_consumer, without_producer};
+ghost use Rattle.route_credit.specs.Pool.{by_id, chose, copies, has_no_links, no_links, offered, wanted, without_consumer, without_producer};
 ghost use Rattle.state_pools.specs.Addresses.{rested, with_pool, without};
 ghost use Rattle.state_pools.specs.ByBytes.{at};
 ghost use Rattle.state_pools.specs.Fits.{has_no_pools, pool_in_row};
@@ -168,6 +168,17 @@ impl Row {
         match self.pools.get_there(address) {
             None => None,
             Some(pool) => pool.peek(),
+        }
+    }
+
+    /// The consumers that get a copy of a message of an address that has a pool.
+    #[inline]
+    pub(crate) fn copies(&self, address: &[u8]) -> Result<Vec<ConsumerId>, AllocError>
+        ensures { IfOk result (λ to. is_some (at self.now.pools address.now) ≡ true → (share : List ℕ → Distribution) → map (λ c. c.0) to.items ≡ copies (pool_in_row share self.now address.now)) }
+    {
+        match self.pools.get_there(address) {
+            None => Ok(Vec::new(self.alloc)),
+            Some(pool) => pool.copies(),
         }
     }
 

@@ -1,5 +1,6 @@
 use Rattle.std.proofs.Common.{rules, ◌≡◌, ◌∙◌}
 use Rattle.std.specs.Prelude.{Some, None, option_map}
+use Rattle.router_trace.specs.Configuration.{distribution}
 use Rattle.router_trace.specs.Trace.{Trace}
 use Rattle.state_links.specs.Ends.{link_of}
 use Rattle.state_links.specs.Looking.{numbered_link}
@@ -10,9 +11,9 @@ use Rattle.state_messages.proofs.Seen.{IsThere, figure_here, figure_nowhere}
 use Rattle.state_messages.proofs.figures.tell.Goals as goal
 
 pub returns-in_ok-leave-in-None : goal.returns-in_ok-leave-in-None
-returns-in_ok-leave-in-None c = λ t fit stand share known other actual last old e really agree.
+returns-in_ok-leave-in-None c = λ t fit stand known other actual last old e really agree.
     let none : None ≡ option_map link_of (numbered_link t c.args.number) = search rules in
-    c.in_ok-leave-in-None.ensures.fits share known other actual last old (e ∙ figure_nowhere t c.args.number none) really agree
+    c.in_ok-leave-in-None.ensures.fits (distribution t) known other actual last old (e ∙ figure_nowhere t c.args.number none) really agree
 
 pub returns-in_ok-tell_link-in-Some : goal.returns-in_ok-tell_link-in-Some
 returns-in_ok-tell_link-in-Some c = λ t fit stand.
@@ -20,6 +21,6 @@ returns-in_ok-tell_link-in-Some c = λ t fit stand.
     there_told t stand (figure_here t c.args.number c.in-Some.link.now is)
   where
     there_told : (t : Trace) → DeliveriesFit c.args.deliveries.now t → IsThere t c.args.number c.in-Some.link.now
-        → IsTold c.args.pools.now c.tell_link.new.pools c.args.number (figure t c.args.number)
-    there_told t stand there share known other actual last old e really agree =
-        c.in_ok-tell_link-in-Some.ensures t there.link there.is there.number stand share known other actual last old (e ∙ there.figure) really agree
+        → IsTold (distribution t) c.args.pools.now c.tell_link.new.pools c.args.number (figure t c.args.number)
+    there_told t stand there known other actual last old e really agree =
+        c.in_ok-tell_link-in-Some.ensures t there.link there.is there.number stand known other actual last old (e ∙ there.figure) really agree

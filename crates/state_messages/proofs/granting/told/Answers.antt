@@ -5,10 +5,10 @@ use Rattle.state_messages.proofs.Telling.{told_last, told_more}
 use Rattle.state_messages.proofs.granting.told.Goals as goal
 
 pub loop-sum-init : goal.loop-sum-init
-loop-sum-init c = λ t fit. ap (λ xs. xs ++ grants_on t (by_id c.args.sums.now)) c.new-told.ensures.items
+loop-sum-init c = λ t fit share. ap (λ xs. xs ++ grants_on t (by_id c.args.sums.now)) c.new-told.ensures.items
 
 pub loop-sum-preserved : goal.loop-sum-preserved
-loop-sum-preserved c = λ t fit. told_more t c.args.sums.now c.loop-sum.sum-index _ _ _ _ c.loop-sum-test.true (c.in_ok-add_grant.ensures t fit) (c.loop-sum.invariant t fit)
+loop-sum-preserved c = λ t fit share. told_more t c.args.sums.now c.loop-sum.sum-index _ _ _ _ c.loop-sum-test.true (c.in_ok-add_grant.ensures t fit share) (c.loop-sum.invariant t fit share)
 
 pub returns : goal.returns
-returns c = λ t fit. told_last t c.args.sums.now c.loop-sum.sum-index _ _ c.loop-sum-test.false (c.loop-sum.invariant t fit)
+returns c = λ t fit share. told_last t c.args.sums.now c.loop-sum.sum-index _ _ c.loop-sum-test.false (c.loop-sum.invariant t fit share)
