@@ -33,7 +33,7 @@ use Rattle.state_links.specs.Fits.{channel_of}
 use Rattle.reply_rows.specs.declared.answer.Answer.{Answer}
 use Rattle.reply_rows.specs.declared.answer.Answer.TheVariants.{Taken, Attach}
 use Rattle.reply_rows.specs.Rows.{Finds, Links, header_by, open_by, begin_by, begin_reply, end_reply, echo, flow_on, flow_reply, attach_reply, transfer_reply, detach_reply, disposition_reply, in_turn, out_of_turn, close_by, turn_by, perf_reply, item_reply}
-use Rattle.reply_rows.specs.LinkRows.{is_multicast_link, refusal, attach_or, attach_at, session_detach_reply, link_echo, is_reached, link_flow_reply, is_anonymous, is_among, is_same_id, is_same_tag, is_unattached, asks, delivery_by, delivery_on, link_transfer_reply, flow_on as link_flow_on}
+use Rattle.reply_rows.specs.LinkRows.{refusal, attach_or, attach_at, session_detach_reply, link_echo, is_reached, link_flow_reply, is_anonymous, is_among, is_same_id, is_same_tag, is_unattached, asks, delivery_by, delivery_on, link_transfer_reply, flow_on as link_flow_on}
 use Rattle.reply_rows.specs.Finding.{finds}
 use Rattle.reply_rows.specs.Booking.{attach_unless, booked_attach, repeats, booked_transfer, booked_perf, booked, book_refusal, answer_at}
 use Rattle.book_model.specs.Book.{BookView}
@@ -81,18 +81,18 @@ end_here here nowhere = tt
 end_here here ending = tt
 end_here here (on own s) = tt
 
-attach_here : (here : ℕ → Bool) (at : Place) (links : Links) (free : ℕ → Option ℕ) (multicast : List ℕ → Bool) (a : AnAttach) → IsHere here (attach_reply at links free multicast a)
-attach_here here nowhere links free multicast a = tt
-attach_here here ending links free multicast a = tt
-attach_here here (on own s) links free multicast a = by_test (nat_lt 63 a.handle) (λ e. rw e tt) (λ e. rw e (by (links own a.handle) (free own)))
+attach_here : (here : ℕ → Bool) (at : Place) (links : Links) (free : ℕ → Option ℕ) (a : AnAttach) → IsHere here (attach_reply at links free a)
+attach_here here nowhere links free a = tt
+attach_here here ending links free a = tt
+attach_here here (on own s) links free a = by_test (nat_lt 63 a.handle) (λ e. rw e tt) (λ e. rw e (by (links own a.handle) (free own)))
   where
     refused : (handle : ℕ) (x : Option Condition) → IsHere here (attach_or x own handle)
     refused handle (Some x) = tt
     refused handle None = tt
 
-    by : (at : LinkPlace) (free : Option ℕ) → IsHere here (attach_at own at free (is_multicast_link multicast a.role a) a)
+    by : (at : LinkPlace) (free : Option ℕ) → IsHere here (attach_at own at free a)
     by no_link None = tt
-    by no_link (Some handle) = refused handle (refusal (is_multicast_link multicast a.role a) a)
+    by no_link (Some handle) = refused handle (refusal a)
     by detaching free = tt
     by (on_link k l) free = tt
 
@@ -175,7 +175,7 @@ turn_here here k channel body (Err f) it = out_of_turn_here here f
 
 in_turn_here : (here : ℕ → Bool) (k : Finds) (channel : ℕ) (body : Perf) → PlaceIsHere here (k.places channel) → IsHere here (in_turn k channel body)
 in_turn_here here k channel (perf.Begin x) place = begin_here here (k.places channel) k.free_channel channel x
-in_turn_here here k channel (perf.Attach x) place = attach_here here (k.places channel) k.links k.free_handle k.multicast x
+in_turn_here here k channel (perf.Attach x) place = attach_here here (k.places channel) k.links k.free_handle x
 in_turn_here here k channel (perf.Flow x) place = flow_here here (k.places channel) k.links x
 in_turn_here here k channel (perf.Transfer x) place = transfer_here here (k.places channel) k.links k.claimed x place
 in_turn_here here k channel (perf.Disposition x) place = disposition_here here (k.places channel) x

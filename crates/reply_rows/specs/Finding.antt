@@ -1,7 +1,6 @@
 -- What an item on a connection finds, in a trace.
 use Rattle.std.specs.Prelude.{ℕ, Bool, List, Option}
 use Rattle.router_trace.specs.Trace.{Trace}
-use Rattle.router_trace.specs.Configuration.{distribution, is_multicast}
 use Rattle.router_trace.specs.Sessions.{place, free_channel}
 use Rattle.router_trace.specs.Settling.{is_claimed}
 use Rattle.router_trace.specs.Links.{link_place, free_handle}
@@ -12,10 +11,6 @@ use Rattle.reply_rows.specs.Rows.{Finds}
 abbrev pub free_for : Trace → ℕ → Option ℕ
 free_for t c = free_channel t c (channel_max_of (terms t c))
 
--- the addresses whose messages go to every consumer
-abbrev pub multicast_of : Trace → List ℕ → Bool
-multicast_of t address = is_multicast (distribution t address)
-
 -- what an item on a connection finds
 abbrev pub finds : Trace → ℕ → Finds
 finds t c = record {
@@ -24,5 +19,4 @@ finds t c = record {
   links = link_place t c;
   free_handle = free_handle t c;
   claimed = is_claimed t c;
-  multicast = multicast_of t;
 }

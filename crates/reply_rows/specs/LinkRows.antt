@@ -54,49 +54,27 @@ abbrev pub side_refusal : Role → AnAttach → Option Condition
 side_refusal Sender a = target_refusal a.target a.name
 side_refusal Receiver a = source_refusal a.source a.name
 
--- Whether the messages of the address at the router's side of a link go to every consumer, with this distribution of addresses.
-abbrev pub is_multicast_at : (List ℕ → Bool) → Option Address → Bool
-is_multicast_at multicast (Some (address.Text text)) = multicast text
-is_multicast_at multicast _ = false
-
-abbrev pub is_multicast_source : (List ℕ → Bool) → Option SourceTerminus → Bool
-is_multicast_source multicast (Some (source.Source s)) = is_multicast_at multicast s.address
-is_multicast_source multicast _ = false
-
-abbrev pub is_multicast_target : (List ℕ → Bool) → Option TargetTerminus → Bool
-is_multicast_target multicast (Some (target.Target x)) = is_multicast_at multicast x.address
-is_multicast_target multicast _ = false
-
-abbrev pub is_multicast_link : (List ℕ → Bool) → Role → AnAttach → Bool
-is_multicast_link multicast Sender a = is_multicast_target multicast a.target
-is_multicast_link multicast Receiver a = is_multicast_source multicast a.source
-
--- An address whose messages go to every consumer isn't served yet; any other reason to refuse a link comes first.
-abbrev pub unless_multicast : Bool → Option Condition → Option Condition
-unless_multicast multicast (Some x) = Some x
-unless_multicast multicast None = if multicast then Some NotImplemented else None
-
-abbrev pub refusal : Bool → AnAttach → Option Condition
-refusal multicast a = unless_multicast multicast (side_refusal a.role a)
+abbrev pub refusal : AnAttach → Option Condition
+refusal a = side_refusal a.role a
 
 -- an attach on a handle of the peer that stands for nothing: if the router has no free handle that the peer accepts, there is no room
 abbrev pub attach_or : Option Condition → ℕ → ℕ → Answer
 attach_or (Some x) own handle = Refuse own handle x
 attach_or None own handle = Attach own
 
-abbrev pub attach_fresh : ℕ → Option ℕ → Bool → AnAttach → Answer
-attach_fresh own None multicast a = End own (Some ResourceLimitExceeded)
-attach_fresh own (Some handle) multicast a = attach_or (refusal multicast a) own handle
+abbrev pub attach_fresh : ℕ → Option ℕ → AnAttach → Answer
+attach_fresh own None a = End own (Some ResourceLimitExceeded)
+attach_fresh own (Some handle) a = attach_or (refusal a) own handle
 
 -- an attach on a session: a handle above 63 is a framing error, and one that stands for a link ends the session; while the peer's
 -- detach is awaited it is dropped
-abbrev pub attach_at : ℕ → LinkPlace → Option ℕ → Bool → AnAttach → Answer
-attach_at own nowhere free multicast a = attach_fresh own free multicast a
-attach_at own detaching free multicast a = Nothing
-attach_at own (on h l) free multicast a = End own (Some HandleInUse)
+abbrev pub attach_at : ℕ → LinkPlace → Option ℕ → AnAttach → Answer
+attach_at own nowhere free a = attach_fresh own free a
+attach_at own detaching free a = Nothing
+attach_at own (on h l) free a = End own (Some HandleInUse)
 
-abbrev pub session_attach_reply : ℕ → LinkPlace → Option ℕ → Bool → AnAttach → Answer
-session_attach_reply own at free multicast a = if nat_lt 63 a.handle then CloseWith FramingError else attach_at own at free multicast a
+abbrev pub session_attach_reply : ℕ → LinkPlace → Option ℕ → AnAttach → Answer
+session_attach_reply own at free a = if nat_lt 63 a.handle then CloseWith FramingError else attach_at own at free a
 
 -- a detach: the router's, closed as the peer's is; none if it answers the router's own detach
 abbrev pub session_detach_reply : ℕ → LinkPlace → ADetach → Answer

@@ -26,7 +26,7 @@ use Rattle.router_trace.specs.Frames.{header_item, open_item, close_item, begin_
 use Rattle.router_trace.specs.LinkFrames.{detach_item, link_flow_item}
 use Rattle.router_trace.specs.Links.{LinkPlace}
 use Rattle.router_trace.specs.Sessions.{Place, nowhere, ending, on, flow_state}
-use Rattle.reply_rows.specs.LinkRows.{is_multicast_link, session_attach_reply, session_detach_reply, link_flow_reply, session_transfer_reply, session_disposition_reply}
+use Rattle.reply_rows.specs.LinkRows.{session_attach_reply, session_detach_reply, link_flow_reply, session_transfer_reply, session_disposition_reply}
 use Rattle.reply_rows.specs.declared.answer.Answer.{Answer}
 use Rattle.reply_rows.specs.declared.answer.Answer.TheVariants.{Nothing, Header, Open, Close, CloseWith, Begin, End, Flow, Detach, LinkFlow}
 
@@ -144,10 +144,10 @@ flow_reply nowhere links f = no_session_reply
 flow_reply ending links f = silent_reply
 flow_reply (on own h) links f = flow_on own h (links own) f f.handle
 
-abbrev pub attach_reply : Place → Links → (ℕ → Option ℕ) → (List ℕ → Bool) → AnAttach → Answer
-attach_reply nowhere links free multicast a = no_session_reply
-attach_reply ending links free multicast a = silent_reply
-attach_reply (on own h) links free multicast a = session_attach_reply own (links own a.handle) (free own) (is_multicast_link multicast a.role a) a
+abbrev pub attach_reply : Place → Links → (ℕ → Option ℕ) → AnAttach → Answer
+attach_reply nowhere links free a = no_session_reply
+attach_reply ending links free a = silent_reply
+attach_reply (on own h) links free a = session_attach_reply own (links own a.handle) (free own) a
 
 abbrev pub transfer_reply : Place → Links → (ℕ → ℕ → Bool) → ATransfer → Answer
 transfer_reply nowhere links claimed x = no_session_reply
@@ -165,20 +165,18 @@ disposition_reply ending x = silent_reply
 disposition_reply (on own h) x = session_disposition_reply own x
 
 -- What an item finds: what is on the peer's channels, the router's lowest free channel, what the peer's handles stand for
--- on the sessions of the router's channels, the router's lowest free handle on each, the peer's delivery-ids that aren't settled, and the
--- addresses whose messages go to every consumer.
+-- on the sessions of the router's channels, the router's lowest free handle on each, and the peer's delivery-ids that aren't settled.
 pub record Finds : Type 0 where
   pub places : ℕ → Place
   pub free_channel : Option ℕ
   pub links : Links
   pub free_handle : ℕ → Option ℕ
   pub claimed : ℕ → ℕ → Bool
-  pub multicast : List ℕ → Bool
 
 -- a performative other than open, on an open connection and a channel in range, or not
 abbrev pub in_turn : Finds → ℕ → Perf → Answer
 in_turn k channel (perf.Begin b) = begin_reply (k.places channel) k.free_channel channel b
-in_turn k channel (perf.Attach a) = attach_reply (k.places channel) k.links k.free_handle k.multicast a
+in_turn k channel (perf.Attach a) = attach_reply (k.places channel) k.links k.free_handle a
 in_turn k channel (perf.Flow f) = flow_reply (k.places channel) k.links f
 in_turn k channel (perf.Transfer x) = transfer_reply (k.places channel) k.links k.claimed x
 in_turn k channel (perf.Disposition x) = disposition_reply (k.places channel) x

@@ -15,9 +15,8 @@ use Rattle.book_model.specs.Book.{BookView}
 use Rattle.book_model.specs.declared.row.Row.{Row}
 use Rattle.book_model.specs.declared.row.RowNumber.{RowNumber}
 use Rattle.router_trace.specs.declared.condition.Condition.{Condition}
-use Rattle.router_trace.specs.declared.condition.Condition.TheVariants.{ResourceLimitExceeded, MessageSizeExceeded}
+use Rattle.router_trace.specs.declared.condition.Condition.TheVariants.{NotImplemented, ResourceLimitExceeded, MessageSizeExceeded}
 use Rattle.router_trace.specs.Trace.{Trace, puts}
-use Rattle.router_trace.specs.Connection.{conn}
 use Rattle.router_trace.specs.declared.binding.Binding.{Binding}
 use Rattle.router_trace.specs.declared.binding.Holding.TheVariants as holding
 use Rattle.router_trace.specs.declared.binding.Origin.{Origin}
@@ -25,9 +24,11 @@ use Rattle.router_trace.specs.declared.handle.Attachment.{Attachment}
 use Rattle.router_trace.specs.Deliveries.{joined_by}
 use Rattle.router_trace.specs.DeliveryFrames.{outcome_item}
 use Rattle.router_trace.specs.Settling.{unbound, is_claimed_on}
+use Rattle.router_trace.specs.Frames.{error_of}
 use Rattle.router_trace.specs.LinkFrames.{detach_item}
 use Rattle.router_trace.specs.Links.{Link, link, durable_key}
-use Rattle.state_messages.specs.Messages.{binding_for, consumer_of, with_bound}
+use Rattle.state_messages.specs.Messages.{binding_for, consumer_of, copies_for, with_bound}
+use Rattle.router_state.specs.Copying.{copied_to, goes_to_all}
 use Rattle.reply_transfers.specs.Joining.{row_under}
 
 -- The deliveries that a disposition decides without settling are answered, each settled, with the outcome as the router keeps it.
@@ -50,9 +51,11 @@ claimed_id after c own handle None = None
 claimed_id after c own handle (Some id) = if is_claimed_on after c own handle id then Some id else None
 
 -- A whole delivery, after the event and by the book after the event's acts. A resumed one that its producer hasn't settled joins its row, if it has one;
--- any other resumed one is ignored. One that isn't resumed is bound to a consumer of its address; if none is chosen, it is released, or dropped if its
--- producer has settled it. On a durable link one that its producer hasn't settled is bound only if it has a row in the book; else it is released, and its
--- producer settles it. A link has at most 1,024 deliveries that were ignored, or released in this way, and that their producer has yet to settle.
+-- any other resumed one is ignored. One that isn't resumed is bound to a consumer of its address; if none is chosen, it is let down: released, or dropped if
+-- its producer has settled it. On a durable link one that its producer hasn't settled is bound only if it has a row in the book; else it is let down, and its
+-- producer settles it. A multicast address chooses nobody: what its producer has settled has a copy for each consumer with free credit, and all else is
+-- rejected, since no outcome could be told of many copies. A link has at most 1,024 deliveries that were ignored, or let down in this way, and that their
+-- producer has yet to settle.
 abbrev pub from_link : ℕ → ℕ → ℕ → Link → Attachment
 from_link c own handle l = record { number = l.number; conn = record { 0 = c }; channel = own; handle = handle }
 
@@ -121,16 +124,21 @@ unless_joined (Some r) items = []
 abbrev pub resumed_put : BookView → Trace → ℕ → ℕ → ℕ → Option ℕ → List Item
 resumed_put b after c own handle claimed = unless_joined (row_resumed b after c own claimed) (ignored_put after c own handle claimed)
 
-abbrev pub released_by : Trace → ℕ → ℕ → ℕ → Bool → ℕ → List Item
-released_by after c own handle false id = outcome_item own Receiver id true state.Released ∷ []
-released_by after c own handle true id = unless_many after c own handle (outcome_item own Receiver id false state.Released ∷ [])
+abbrev pub let_down_as : Bool → DeliveryState
+let_down_as false = state.Released
+let_down_as true = state.Rejected (record { error = Some (error_of NotImplemented) })
 
-abbrev pub released : Trace → ℕ → ℕ → ℕ → Option ℕ → List Item
-released after c own handle None = []
-released after c own handle (Some id) = released_by after c own handle (lasts_on (link after c own handle)) id
+abbrev pub let_down_by : Trace → ℕ → ℕ → ℕ → Bool → DeliveryState → ℕ → List Item
+let_down_by after c own handle false outcome id = outcome_item own Receiver id true outcome ∷ []
+let_down_by after c own handle true outcome id = unless_many after c own handle (outcome_item own Receiver id false outcome ∷ [])
+
+abbrev pub let_down : Trace → ℕ → ℕ → ℕ → Option ℕ → List Item
+let_down after c own handle None = []
+let_down after c own handle (Some id) =
+    let_down_by after c own handle (lasts_on (link after c own handle)) (let_down_as (goes_to_all after (link after c own handle))) id
 
 abbrev pub unbound_put : Trace → ℕ → ℕ → ℕ → Option ℕ → Option Attachment → List Item
-unbound_put after c own handle id None = released after c own handle id
+unbound_put after c own handle id None = let_down after c own handle id
 unbound_put after c own handle id (Some consumer) = []
 
 abbrev pub whole_put : BookView → Trace → ℕ → ℕ → ℕ → Told → Option RowNumber → List Item
@@ -148,6 +156,20 @@ abbrev pub part_bound : BookView → Trace → ℕ → ℕ → ℕ → Option Ro
 part_bound b after c own handle row (Some (part.Whole d payload)) = whole_bound b after c own handle d row payload
 part_bound b after c own handle row _ = None
 
--- the trace after a transfer that is taken is handled, bound and answered; and all that an answer to an item does
+-- the trace u, with a copy of a whole delivery for each consumer of its address, if it is multicast: of one that its producer has settled and doesn't resume
+abbrev pub fresh_copied : Trace → ℕ → ℕ → ℕ → ℕ → List ℕ → Option ℕ → Trace → Trace
+fresh_copied after c own handle format payload None u = copied_to format payload (copies_for after (link after c own handle)) u
+fresh_copied after c own handle format payload (Some id) u = u
+
+abbrev pub whole_copied : Trace → ℕ → ℕ → ℕ → Told → List ℕ → Trace → Trace
+whole_copied after c own handle d payload u =
+    if d.resume then u else fresh_copied after c own handle (unwrap_or d.format 0) payload (claimed_id after c own handle d.id) u
+
+abbrev pub part_copied : Trace → ℕ → ℕ → ℕ → Option Part → Trace → Trace
+part_copied after c own handle (Some (part.Whole d payload)) u = whole_copied after c own handle d payload u
+part_copied after c own handle _ u = u
+
+-- the trace after a transfer that is taken is handled, bound and answered, with its copies; and all that an answer to an item does
 abbrev pub given_after : BookView → Trace → ℕ → ℕ → ℕ → Option RowNumber → Option Part → Trace
-given_after b after c own handle row part = puts c (part_put b after c own handle row part) (with_bound (part_bound b after c own handle row part) after)
+given_after b after c own handle row part =
+    part_copied after c own handle part (puts c (part_put b after c own handle row part) (with_bound (part_bound b after c own handle row part) after))

@@ -1,26 +1,27 @@
 //! Transfers that are taken, and dispositions whose deliveries are answered.
-ghost use Rattle.std.specs.Prelude.{◌∷◌, [], List, ℕ, OnOk, Some, None, true, nat_lt, map, option_map, ◌≡◌};
+ghost use Rattle.std.specs.Prelude.{◌∷◌, [], List, ℕ, OnOk, Some, None, true, nat_lt, map, option_map, unwrap_or, IfOk, ◌≡◌};
 ghost use Rattle.amqp_model.specs.declared.perf.Role.TheVariants.{Sender};
 ghost use Rattle.router_trace.specs.Trace.{Entry, puts};
 ghost use Rattle.router_trace.specs.Links.{link};
 ghost use Rattle.router_trace.specs.Settling.{unbound};
 ghost use Rattle.router_trace.specs.Deliveries.{terminal, last_of};
 ghost use Rattle.router_trace.specs.DeliveryFrames.{outcome_item};
-ghost use Rattle.state_messages.specs.Messages.{IsChosen, with_bound, binding_for, consumer_of};
+ghost use Rattle.state_messages.specs.Messages.{IsChosen, with_bound, binding_for, consumer_of, copies_for};
+ghost use Rattle.router_state.specs.Copying.{copied_to};
 ghost use Rattle.router_trace.specs.Following.{link_of};
 ghost use Rattle.router_state.specs.Tables.{TablesFit};
-ghost use Rattle.reply_transfers.specs.Transfers.{claimed_id, from_link, origin_of, may_pass, let_go, released_by, released, ignored_put, joined_on, resumed_put, resumed_bound, unbound_put, consumer_for, whole_put, whole_bound, fresh_bound, part_put, part_bound, settled_answers, disposition_in, disposition_of};
+ghost use Rattle.reply_transfers.specs.Transfers.{claimed_id, from_link, origin_of, may_pass, let_down, let_down_as, let_down_by, let_go, lasts_on, fresh_copied, given_after, ignored_put, joined_on, resumed_put, resumed_bound, unbound_put, consumer_for, whole_put, whole_bound, whole_copied, fresh_bound, part_put, part_bound, settled_answers, disposition_in, disposition_of};
 
 use crate::joining::row_under;
 use amqp_link::{Delivery, Part};
-use amqp_model::{DeliveryState, Disposition, Item, Perf, Role};
+use amqp_model::{Boxed, DeliveryState, Disposition, Fault, Item, Perf, Rejected, Role, Symbol};
 use book_core::Book;
 use book_model::{Row, RowNumber};
 use bytes::Bytes;
 use reply_frames::outcome_item;
 use router_state::{LinkPlace, State};
 use router_trace::{Attachment, Condition, Holding, Origin, RouterId};
-use std::alloc::AllocError;
+use std::alloc::{AllocError, Global};
 
 /// The most unsettled deliveries of a link that came whole and are bound to no consumer.
 pub const UNBOUND: usize = 1024;
@@ -34,16 +35,6 @@ pub fn claimed_id(state: &State, at: LinkPlace, id: Option<u32>) -> Option<u32>
         Some(id)
     } else {
         None
-    }
-}
-
-/// The producer's delivery, to which the outcome is reported.
-fn origin_of(from: Attachment, claimed: Option<u32>) -> Option<Origin>
-    ensures { result ≡ option_map (origin_of from) claimed }
-{
-    match claimed {
-        None => None,
-        Some(id) => Some(Origin { link: from, id }),
     }
 }
 
@@ -97,20 +88,40 @@ fn has_many(state: &State, at: LinkPlace) -> bool
     state.unbound(at) > UNBOUND
 }
 
-/// Releases a delivery of a durable link: its producer settles it.
-fn release_unsettled(
+/// What a delivery that is bound to no consumer becomes: on a multicast address it is rejected, since no outcome could be told of many copies; else it
+/// is released.
+fn let_down_as(alloc: Global, multicast: bool) -> Result<DeliveryState, AllocError>
+    ensures { IfOk result (λ outcome. outcome ≡ let_down_as multicast) }
+{
+    if !multicast {
+        return Ok(DeliveryState::Released);
+    }
+    let text = String::from_str(alloc, Condition::NotImplemented.text())?;
+    let fault = Fault {
+        condition: Symbol::new(text),
+        description: None,
+        info: None,
+    };
+    let error = Boxed::new(alloc, fault)?;
+    Ok(DeliveryState::Rejected(Rejected { error: Some(error) }))
+}
+
+/// Reports what becomes of a delivery that is bound to no consumer. On a durable link its producer settles it; a link with more of these than the router
+/// allows is detached.
+fn let_down_by(
     state: &mut State,
     id: &RouterId,
     at: LinkPlace,
+    outcome: &DeliveryState,
     delivery: u32,
 ) -> Result<(), AllocError>
-    ensures { OnOk result ((t : List Entry) → TablesFit state.old t → TablesFit state.new (puts at.conn.0 (released_by t at.conn.0 at.own at.handle true delivery) t)) }
+    ensures { OnOk result ((t : List Entry) → TablesFit state.old t → TablesFit state.new (puts at.conn.0 (let_down_by t at.conn.0 at.own at.handle (lasts_on (link t at.conn.0 at.own at.handle)) outcome.now delivery) t)) }
 {
-    if has_many(state, at) {
+    let durable = state.is_durable(at);
+    if durable && has_many(state, at) {
         let_go(state, id, at, Condition::ResourceLimitExceeded)?;
         return Ok(());
     }
-    let outcome = DeliveryState::Released;
     put_outcome(
         state,
         id,
@@ -118,39 +129,26 @@ fn release_unsettled(
         at.own,
         Role::Receiver,
         delivery,
-        false,
-        &outcome,
+        !durable,
+        outcome,
     )?;
     Ok(())
 }
 
-/// Releases a delivery, unless its producer has settled it.
-fn release(
+/// The same, unless its producer has settled it.
+fn let_down(
     state: &mut State,
     id: &RouterId,
     at: LinkPlace,
     claimed: Option<u32>,
 ) -> Result<(), AllocError>
-    ensures { OnOk result ((t : List Entry) → TablesFit state.old t → TablesFit state.new (puts at.conn.0 (released t at.conn.0 at.own at.handle claimed) t)) }
+    ensures { OnOk result ((t : List Entry) → TablesFit state.old t → TablesFit state.new (puts at.conn.0 (let_down t at.conn.0 at.own at.handle claimed) t)) }
 {
     let Some(delivery) = claimed else {
         return Ok(());
     };
-    if state.is_durable(at) {
-        release_unsettled(state, id, at, delivery)?;
-        return Ok(());
-    }
-    let outcome = DeliveryState::Released;
-    put_outcome(
-        state,
-        id,
-        at.conn.0,
-        at.own,
-        Role::Receiver,
-        delivery,
-        true,
-        &outcome,
-    )?;
+    let outcome = let_down_as(id.alloc(), state.goes_to_all(at))?;
+    let_down_by(state, id, at, &outcome, delivery)?;
     Ok(())
 }
 
@@ -173,8 +171,30 @@ fn ignore(
     Ok(())
 }
 
+/// Binds a message that its producer has settled to a consumer of its address: to `known`, if it was chosen before. If none is chosen, each consumer that
+/// gets a copy has one; on an address that isn't multicast there are none, and the message is dropped.
+fn pass_settled(
+    state: &mut State,
+    from: Attachment,
+    known: Option<Attachment>,
+    row: Option<RowNumber>,
+    format: u32,
+    payload: Bytes,
+) -> Result<(), AllocError>
+    ensures { OnOk result ((t : List Entry) → IsChosen t (link_of t from) known → TablesFit state.old t → TablesFit state.new (copied_to format payload (copies_for t (link_of t from)) (with_bound (binding_for t from None row format payload) t))) }
+{
+    let shared = payload.clone()?;
+    let chosen = state.pass(from, known, None, row, format, payload)?;
+    if chosen {
+        return Ok(());
+    }
+    let to = state.copies_for(from)?;
+    state.pass_copies(to, format, &shared)?;
+    Ok(())
+}
+
 /// Binds a message of the link on this handle to a consumer of its address: to `known`, if it was chosen before. If none is chosen, the delivery is
-/// released.
+/// let down, or copied if its producer has settled it.
 fn bind(
     state: &mut State,
     id: &RouterId,
@@ -185,19 +205,26 @@ fn bind(
     format: u32,
     payload: Bytes,
 ) -> Result<(), AllocError>
-    ensures { OnOk result ((t : List Entry) → IsChosen t (link_of t from) known → TablesFit state.old t → TablesFit state.new (puts from.conn.0 (unbound_put t from.conn.0 from.channel from.handle claimed (consumer_of t (link_of t from)))
-        (with_bound (binding_for t from (option_map (origin_of from) claimed) row format payload) t))) }
+    ensures { OnOk result ((t : List Entry) → IsChosen t (link_of t from) known → TablesFit state.old t → TablesFit state.new (fresh_copied t from.conn.0 from.channel from.handle format payload claimed
+        (puts from.conn.0 (unbound_put t from.conn.0 from.channel from.handle claimed (consumer_of t (link_of t from)))
+        (with_bound (binding_for t from (option_map (origin_of from) claimed) row format payload) t)))) }
 {
-    let origin = origin_of(from, claimed);
-    let chosen = state.pass(from, known, origin, row, format, payload)?;
+    let Some(delivery) = claimed else {
+        return pass_settled(state, from, known, row, format, payload);
+    };
+    let origin = Origin {
+        link: from,
+        id: delivery,
+    };
+    let chosen = state.pass(from, known, Some(origin), row, format, payload)?;
     if chosen {
         return Ok(());
     }
-    release(state, id, LinkPlace::of(from), claimed)?;
+    let_down(state, id, LinkPlace::of(from), claimed)?;
     Ok(())
 }
 
-/// A whole delivery that isn't resumed: it is bound if its link is attached and it may be, else released.
+/// A whole delivery that isn't resumed: it is bound or copied if its link is attached and it may be, else let down.
 fn pass_fresh(
     state: &mut State,
     id: &RouterId,
@@ -207,18 +234,19 @@ fn pass_fresh(
     known: Option<Attachment>,
     payload: Bytes,
 ) -> Result<(), AllocError>
-    ensures { OnOk result ((t : List Entry) → IsChosen t (link t at.conn.0 at.own at.handle) known → TablesFit state.old t → TablesFit state.new (puts at.conn.0 (unbound_put t at.conn.0 at.own at.handle (claimed_id t at.conn.0 at.own at.handle delivery.now.id) (consumer_for t at.conn.0 at.own at.handle delivery.now row))
-        (with_bound (fresh_bound t at.conn.0 at.own at.handle delivery.now row payload (link t at.conn.0 at.own at.handle)) t))) }
+    ensures { OnOk result ((t : List Entry) → IsChosen t (link t at.conn.0 at.own at.handle) known → TablesFit state.old t → TablesFit state.new (fresh_copied t at.conn.0 at.own at.handle (unwrap_or delivery.now.format 0) payload (claimed_id t at.conn.0 at.own at.handle delivery.now.id)
+        (puts at.conn.0 (unbound_put t at.conn.0 at.own at.handle (claimed_id t at.conn.0 at.own at.handle delivery.now.id) (consumer_for t at.conn.0 at.own at.handle delivery.now row))
+        (with_bound (fresh_bound t at.conn.0 at.own at.handle delivery.now row payload (link t at.conn.0 at.own at.handle)) t)))) }
 {
     let claimed = claimed_id(state, at, delivery.id);
     if !may_pass(state.is_durable(at), claimed, row) {
         drop(payload);
-        release(state, id, at, claimed)?;
+        let_down(state, id, at, claimed)?;
         return Ok(());
     }
     let Some(from) = state.attachment(at) else {
         drop(payload);
-        release(state, id, at, claimed)?;
+        let_down(state, id, at, claimed)?;
         return Ok(());
     };
     let format = delivery.format.unwrap_or(0);
@@ -270,8 +298,8 @@ fn pass_whole(
     known: Option<Attachment>,
     payload: Bytes,
 ) -> Result<(), AllocError>
-    ensures { OnOk result ((t : List Entry) → IsChosen t (link t at.conn.0 at.own at.handle) known → TablesFit state.old t → TablesFit state.new (puts at.conn.0 (whole_put book.now t at.conn.0 at.own at.handle delivery.now row)
-        (with_bound (whole_bound book.now t at.conn.0 at.own at.handle delivery.now row payload) t))) }
+    ensures { OnOk result ((t : List Entry) → IsChosen t (link t at.conn.0 at.own at.handle) known → TablesFit state.old t → TablesFit state.new (whole_copied t at.conn.0 at.own at.handle delivery.now payload
+        (puts at.conn.0 (whole_put book.now t at.conn.0 at.own at.handle delivery.now row) (with_bound (whole_bound book.now t at.conn.0 at.own at.handle delivery.now row payload) t)))) }
 {
     if delivery.resume {
         drop(payload);
@@ -284,8 +312,8 @@ fn pass_whole(
 }
 
 /// Handles what a transfer that is taken makes of its delivery, by the book after the event's acts: a whole delivery is bound to a consumer of its
-/// address, with its row if it has one, or released; one that is resumed joins its row, or is ignored; one that is too large detaches its link (AMQP
-/// 1.0 part 2, sections 2.6.12, 2.6.13, 2.7.3 and 2.7.5). If its consumer was chosen before (`State::consumer_for`), it is `known`.
+/// address, with its row if it has one, or copied for each, or let down; one that is resumed joins its row, or is ignored; one that is too large detaches
+/// its link (AMQP 1.0 part 2, sections 2.6.12, 2.6.13, 2.7.3 and 2.7.5). If its consumer was chosen before (`State::consumer_for`), it is `known`.
 pub fn take_part(
     state: &mut State,
     id: &RouterId,
@@ -295,8 +323,7 @@ pub fn take_part(
     known: Option<Attachment>,
     part: Option<Part>,
 ) -> Result<(), AllocError>
-    ensures { OnOk result ((t : List Entry) → IsChosen t (link t at.conn.0 at.own at.handle) known → TablesFit state.old t → TablesFit state.new (puts at.conn.0 (part_put book.now t at.conn.0 at.own at.handle row part)
-        (with_bound (part_bound book.now t at.conn.0 at.own at.handle row part) t))) }
+    ensures { OnOk result ((t : List Entry) → IsChosen t (link t at.conn.0 at.own at.handle) known → TablesFit state.old t → TablesFit state.new (given_after book.now t at.conn.0 at.own at.handle row part)) }
 {
     match part {
         None => {}

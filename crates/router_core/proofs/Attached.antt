@@ -4,7 +4,6 @@ use Rattle.std.specs.Prelude.{Option, Some, None, if◌then◌else◌, nat_lt}
 use Rattle.amqp_model.specs.declared.perf.Attach.{Attach as AnAttach}
 use Rattle.amqp_model.specs.declared.perf.Role.TheVariants.{Receiver}
 use Rattle.amqp_model.specs.declared.state.DeliveryState.{DeliveryState}
-use Rattle.amqp_model.specs.declared.state.DeliveryState.TheVariants as state
 use Rattle.amqp_model.specs.declared.state.UnsettledDelivery.{UnsettledDelivery}
 use Rattle.amqp_model.specs.declared.item.Item.{Item}
 use Rattle.amqp_link.specs.declared.part.Delivery.{Delivery as Told}
@@ -25,7 +24,8 @@ use Rattle.router_trace.specs.Links.{link, if_attached, last_of_key, free_handle
 use Rattle.router_trace.specs.Order.{unwritten, of_session, has_turn}
 use Rattle.router_trace.specs.Peers.{largest_frame}
 use Rattle.router_trace.specs.Settling.{unbound}
-use Rattle.reply_transfers.specs.Transfers.{claimed_id, lasts_on, consumer_for, let_go, unless_many, ignored_put, row_resumed, unless_joined, resumed_put, released_by, unbound_put, part_put, settled_answers}
+use Rattle.router_state.specs.Copying.{goes_to_all}
+use Rattle.reply_transfers.specs.Transfers.{claimed_id, lasts_on, consumer_for, let_go, unless_many, ignored_put, row_resumed, unless_joined, resumed_put, let_down_as, let_down_by, unbound_put, part_put, settled_answers}
 use Rattle.router_reply.specs.Replies.{stolen_by, with_map, attach_answer, taken, refused}
 use Rattle.state_connections.proofs.Lists.{by_test}
 use Rattle.router_core.proofs.Flowing.{AllFit, IsQuiet, fit_both}
@@ -104,16 +104,17 @@ resumed_fit : (t after : List Entry) (c own handle : ℕ) (q : Option ℕ) (r : 
 resumed_fit t after c own handle q None known begun = ignored_fit t after c own handle q known begun
 resumed_fit t after c own handle q (Some r) known begun = tt
 
-released_fit : (t after : List Entry) (c own handle : ℕ) (durable : Bool) (id : ℕ) → has c (ups t) ≡ true → of_session (wrote t c) own ≡ true
-    → AllFit t (each_to c (released_by after c own handle durable id))
-released_fit t after c own handle false id known begun = (record { known = known; turn = begun; quiet = tt }, tt)
-released_fit t after c own handle true id known begun =
-    many_fit t after c own handle (outcome_item own Receiver id false state.Released ∷ []) known begun (record { known = known; turn = begun; quiet = tt }, tt)
+let_down_fit : (t after : List Entry) (c own handle : ℕ) (durable : Bool) (outcome : DeliveryState) (id : ℕ) → has c (ups t) ≡ true → of_session (wrote t c) own ≡ true
+    → AllFit t (each_to c (let_down_by after c own handle durable outcome id))
+let_down_fit t after c own handle false outcome id known begun = (record { known = known; turn = begun; quiet = tt }, tt)
+let_down_fit t after c own handle true outcome id known begun =
+    many_fit t after c own handle (outcome_item own Receiver id false outcome ∷ []) known begun (record { known = known; turn = begun; quiet = tt }, tt)
 
 unbound_fit : (t after : List Entry) (c own handle : ℕ) (q : Option ℕ) (consumer : Option Attachment) → has c (ups t) ≡ true → of_session (wrote t c) own ≡ true
     → AllFit t (each_to c (unbound_put after c own handle q consumer))
 unbound_fit t after c own handle None None known begun = tt
-unbound_fit t after c own handle (Some id) None known begun = released_fit t after c own handle (lasts_on (link after c own handle)) id known begun
+unbound_fit t after c own handle (Some id) None known begun =
+    let_down_fit t after c own handle (lasts_on (link after c own handle)) (let_down_as (goes_to_all after (link after c own handle))) id known begun
 unbound_fit t after c own handle q (Some consumer) known begun = tt
 
 pub part_fit : (b : BookView) (t after : List Entry) (c own handle : ℕ) (row : Option RowNumber) (q : Option Part) → Ordered t → of_session (wrote t c) own ≡ true

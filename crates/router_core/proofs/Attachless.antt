@@ -7,7 +7,6 @@ use Rattle.amqp_model.specs.declared.perf.Perf.TheVariants as perf
 use Rattle.amqp_model.specs.declared.perf.Role.TheVariants.{Receiver}
 use Rattle.amqp_model.specs.declared.perf.Transfer.{Transfer}
 use Rattle.amqp_model.specs.declared.state.DeliveryState.{DeliveryState}
-use Rattle.amqp_model.specs.declared.state.DeliveryState.TheVariants as state
 use Rattle.amqp_model.specs.declared.item.Item.{Item}
 use Rattle.amqp_model.specs.declared.item.Item.TheVariants as item
 use Rattle.amqp_conn.specs.declared.conn.Conn.{Conn}
@@ -35,6 +34,7 @@ use Rattle.router_trace.specs.DeliveryFrames.{outcome_item}
 use Rattle.router_trace.specs.Settling.{ids_between, is_open_id, names_open, unbound, middle_on, part_on, part_in}
 use Rattle.router_trace.specs.Sessions.{session, theirs}
 use Rattle.state_sessions.specs.Windows.{is_narrow, flow_due, flows_below, windows_over, windows}
+use Rattle.router_state.specs.Copying.{goes_to_all}
 use Rattle.router_state.specs.Tables.{beat_if, beats_over}
 use Rattle.reply_rows.specs.declared.answer.Answer.{Answer}
 use Rattle.reply_rows.specs.declared.answer.Answer.TheVariants.{Nothing, Header, Open, Close, CloseWith, Begin, End, Flow, Attach, Refuse, Detach, LinkFlow, Taken, Settle}
@@ -42,7 +42,7 @@ use Rattle.reply_rows.specs.Rows.{Finds, said, item_reply}
 use Rattle.reply_rows.specs.Finding.{finds}
 use Rattle.reply_rows.specs.Booking.{repeats, booked_transfer}
 use Rattle.reply_rows.specs.Acts.{answer_of, book_in, found_journal}
-use Rattle.reply_transfers.specs.Transfers.{claimed_id, lasts_on, consumer_for, let_go, unless_many, ignored_put, row_resumed, unless_joined, resumed_put, released_by, unbound_put, part_put, settled_answers}
+use Rattle.reply_transfers.specs.Transfers.{claimed_id, lasts_on, consumer_for, let_go, unless_many, ignored_put, row_resumed, unless_joined, resumed_put, let_down_as, let_down_by, unbound_put, part_put, settled_answers}
 use Rattle.router_reply.specs.Replies.{closing_of, row_found, links_put, item_row, own_row}
 use Rattle.router_core.specs.Attaches.{is_attach_in, is_attach, brings_attach}
 use Rattle.state_connections.proofs.Lists.{by_test, filter_none}
@@ -99,13 +99,14 @@ less_resumed : (after : List Entry) (c own handle : ℕ) (q : Option ℕ) (r : O
 less_resumed after c own handle q None = less_ignored after c own handle q
 less_resumed after c own handle q (Some r) = tt
 
-less_released : (after : List Entry) (c own handle : ℕ) (durable : Bool) (id : ℕ) → Attachless (each_to c (released_by after c own handle durable id))
-less_released after c own handle false id = (refl, tt)
-less_released after c own handle true id = less_many after c own handle (outcome_item own Receiver id false state.Released ∷ []) (refl, tt)
+less_let_down : (after : List Entry) (c own handle : ℕ) (durable : Bool) (outcome : DeliveryState) (id : ℕ) → Attachless (each_to c (let_down_by after c own handle durable outcome id))
+less_let_down after c own handle false outcome id = (refl, tt)
+less_let_down after c own handle true outcome id = less_many after c own handle (outcome_item own Receiver id false outcome ∷ []) (refl, tt)
 
 less_unbound : (after : List Entry) (c own handle : ℕ) (q : Option ℕ) (consumer : Option Attachment) → Attachless (each_to c (unbound_put after c own handle q consumer))
 less_unbound after c own handle None None = tt
-less_unbound after c own handle (Some id) None = less_released after c own handle (lasts_on (link after c own handle)) id
+less_unbound after c own handle (Some id) None =
+    less_let_down after c own handle (lasts_on (link after c own handle)) (let_down_as (goes_to_all after (link after c own handle))) id
 less_unbound after c own handle q (Some consumer) = tt
 
 pub less_part : (b : BookView) (after : List Entry) (c own handle : ℕ) (row : Option RowNumber) (q : Option Part) → Attachless (each_to c (part_put b after c own handle row q))

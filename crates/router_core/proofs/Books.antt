@@ -31,6 +31,7 @@ use Rattle.router_core.specs.Handling.{Journals, Fits, with_admission, full_with
 use Rattle.router_core.specs.declared.router.Core.{Core}
 use Rattle.router_core.proofs.Booking.{booked_same}
 use Rattle.router_core.proofs.Committing.{chosen}
+use Rattle.router_core.proofs.Copied.{copied_same}
 use Rattle.router_core.proofs.Following.{all_keep}
 use Rattle.router_core.proofs.Resuming.{resumed_same}
 
@@ -52,7 +53,8 @@ module _ {A : Type 0} (view : List Entry → A) (out : (c : ℕ) (i : Item) (t :
   view_replied : (id : List ℕ) (t : List Entry) (e : Event) → view (replied id t (step_of e)) ≡ view (did e ∷ t)
   view_replied id t e =
       let u : List Entry = heard id t (step_of e)
-      in view_goes (own_row id t u e) (with_bound (bound_by t u e) u) ∙ view_bound (bound_by t u e) u ∙ view_ends id (due t e) (did e ∷ t)
+      in copied_same view bound t u e (goes (own_row id t u e) (with_bound (bound_by t u e) u))
+      ∙ view_goes (own_row id t u e) (with_bound (bound_by t u e) u) ∙ view_bound (bound_by t u e) u ∙ view_ends id (due t e) (did e ∷ t)
 
   pub view_answered : (id : List ℕ) (t : List Entry) (e : Event) → view (answered id t (step_of e)) ≡ view (did e ∷ t)
   view_answered id t e =

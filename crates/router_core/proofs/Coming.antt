@@ -13,6 +13,7 @@ use Rattle.router_reply.specs.Resuming.{resumed}
 use Rattle.router_core.specs.Replies.{answered, handled}
 use Rattle.router_core.specs.Moves.{with_came, ins}
 use Rattle.router_core.proofs.Booking.{booked_same}
+use Rattle.router_core.proofs.Copied.{copied_same}
 use Rattle.router_core.proofs.Following.{all_keep}
 use Rattle.router_core.proofs.Resuming.{resumed_same}
 
@@ -32,7 +33,8 @@ ins_bound (Some b) t c = refl
 pub ins_replied : (id : List ℕ) (t : List Entry) (e : Event) (c : ℕ) → ins (replied id t (step_of e)) c ≡ with_came e c (ins t c)
 ins_replied id t e c =
     let u : List Entry = heard id t (step_of e)
-    in ins_goes (own_row id t u e) (with_bound (bound_by t u e) u) c ∙ ins_bound (bound_by t u e) u c ∙ ins_ends id (due t e) (did e ∷ t) c
+    in copied_same (λ (v : List Entry). ins v c) (λ b v. refl) t u e (goes (own_row id t u e) (with_bound (bound_by t u e) u))
+    ∙ ins_goes (own_row id t u e) (with_bound (bound_by t u e) u) c ∙ ins_bound (bound_by t u e) u c ∙ ins_ends id (due t e) (did e ∷ t) c
 
 pub ins_answered : (id : List ℕ) (t : List Entry) (e : Event) (c : ℕ) → ins (answered id t (step_of e)) c ≡ with_came e c (ins t c)
 ins_answered id t e c =

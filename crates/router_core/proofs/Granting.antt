@@ -3,19 +3,17 @@ use Rattle.std.proofs.Common.{◌≡◌, refl, ℕ, ◌+◌, ◌==◌, Bool, tru
 use Rattle.std.specs.Prelude.{Option, Some, None, is_some, if◌then◌else◌}
 use Rattle.amqp_session.specs.Session.{Session}
 use Rattle.amqp_session.specs.declared.states.FlowState.{FlowState}
-use Rattle.route_credit.specs.Granting.{grants_of}
 use Rattle.router_trace.specs.declared.frames.LinkState.{LinkState}
 use Rattle.router_trace.specs.declared.handle.Attachment.{Attachment}
 use Rattle.router_trace.specs.Trace.{Entry, Put}
 use Rattle.router_trace.specs.Frames.{told_of}
 use Rattle.router_trace.specs.LinkFrames.{link_flow_item}
-use Rattle.router_trace.specs.Links.{Link, Happened, sends, receives, link, numbered, attachments}
+use Rattle.router_trace.specs.Links.{Link, Happened, sends, receives, link, numbered}
 use Rattle.router_trace.specs.Sessions.{session}
 use Rattle.router_trace.specs.Following.{link_of}
-use Rattle.state_links.specs.Looking.{numbered_link}
 use Rattle.state_messages.specs.declared.grant.LinkGrant.{LinkGrant}
-use Rattle.state_messages.specs.Figures.{figure}
-use Rattle.state_messages.specs.Messages.{pool_of, grant_by, grant_on, grant_at, grants_on, wants, lowest_below, grants_of_address, lent, owes_some, owed, or_owed, grants, grant_flow, grant_flows, grants_due}
+use Rattle.state_messages.specs.Figures.{owed_credit}
+use Rattle.state_messages.specs.Messages.{grant_by, grant_on, grant_at, grants_on, first_address, sums_at, grants_of_address, grants, grant_flow, grant_flows, grants_due}
 
 pub record IsGrant (t : List Entry) (p : Put) : Type 0 where
   pub own : ℕ
@@ -50,10 +48,10 @@ stands_if : (t : List Entry) (gs : List LinkGrant) (b : Bool) → AllStand t gs 
 stands_if t gs true stand = stand
 stands_if t gs false stand = tt
 
-stands_on : (t : List Entry) (number : ℕ) (a : Attachment) (amount : ℕ) (v : Option Link) → (is_some v ≡ true → Stands t a) → AllStand t (grant_on number a amount v)
+stands_on : (t : List Entry) (number : ℕ) (a : Attachment) (amount : ℕ) (v : Option Link) → (is_some v ≡ true → Stands t a) → AllStand t (grant_on t number a amount v)
 stands_on t number a amount None stands = tt
 stands_on t number a amount (Some l) stands =
-    stands_if t (grant_by a (l.owes_due + amount) l.happened) (l.number == number) (stands_by t a (l.owes_due + amount) l.happened (stands refl))
+    stands_if t (grant_by a (owed_credit t l + amount) l.happened) (l.number == number) (stands_by t a (owed_credit t l + amount) l.happened (stands refl))
 
 stands_at : (t : List Entry) (number amount : ℕ) (v : Option Attachment) → AllStand t (grant_at t number amount v)
 stands_at t number amount None = tt
@@ -65,22 +63,11 @@ all_on t (sum ∷ sums) = more_stand t (grant_at t sum.0 sum.1 (numbered t sum.0
 
 all_of_address : (t : List Entry) (v : Option (List ℕ)) → AllStand t (grants_of_address t v)
 all_of_address t None = tt
-all_of_address t (Some address) = all_on t (grants_of (pool_of t address))
-
-lent_stand : (t : List Entry) → AllStand t (lent t)
-unfolding lent
-lent_stand t = all_of_address t (lowest_below (attachments t + 1) (λ n. wants t (figure t n)))
-
-owed_stand : (t : List Entry) → AllStand t (owed t)
-owed_stand t =
-    stands_if t (grant_at t (attachments t) 0 (numbered t (attachments t))) (owes_some (numbered_link t (attachments t))) (stands_at t (attachments t) 0 (numbered t (attachments t)))
-
-or_stand : (t : List Entry) (gs : List LinkGrant) → AllStand t gs → AllStand t (or_owed t gs)
-or_stand t [] stand = owed_stand t
-or_stand t (g ∷ gs) stand = stand
+all_of_address t (Some address) = all_on t (sums_at t address)
 
 all_stand : (t : List Entry) → AllStand t (grants t)
-all_stand t = or_stand t (lent t) (lent_stand t)
+unfolding grants
+all_stand t = all_of_address t (first_address t)
 
 -- the flows that carry them
 

@@ -7,6 +7,7 @@ pub mod RowOrder
 pub mod ItemRows
 pub mod Following
 pub mod Resuming
+pub mod Copied
 pub mod Booking
 pub mod Books
 pub mod Machines

@@ -38,6 +38,7 @@ use Rattle.router_core.specs.Attaches.{is_attach}
 use Rattle.state_connections.proofs.Lists.{by_test}
 use Rattle.router_core.proofs.Attached.{session_known}
 use Rattle.router_core.proofs.Attachless.{Attachless, Unlinked, unlinked_goes, less_closing_of, less_said, less_part, less_settled, on_less, less_row, less_windows}
+use Rattle.router_core.proofs.Copied.{copied_keeps}
 use Rattle.router_core.proofs.Due.{tells_on, sends_on, drains_on, grants_on}
 use Rattle.router_core.proofs.Following.{Steps, passed_on, passed_keeps}
 use Rattle.router_core.proofs.ItemRows.{item_cases}
@@ -198,7 +199,8 @@ bound_lively (Some b) t was = was
 
 item_lively : (id : List ℕ) (t : List Entry) (d : ConnectionId) (i : Item) → Lively (heard id t (step_of (event.Item d i))) → Lively (replied id t (step_of (event.Item d i)))
 item_lively id t d i was =
-    by_test (is_live (found t (event.Item d i) d.0))
+    copied_keeps Lively (λ b w h. bound_lively (Some b) w h) t u (event.Item d i) (goes (own_row id t u (event.Item d i)) v)
+    (by_test (is_live (found t (event.Item d i) d.0))
     (λ q. let here : FoundLive t (event.Item d i) d.0 = found_live t (event.Item d i) d.0 q
     in let live : is_live (conn u d.0) ≡ true = ap is_live (heard_spares id t (event.Item d i) d.0 here.spared).conn ∙ q
     in let there : is_live (conn v d.0) ≡ true = ap is_live (bound_spares bound u d.0).conn ∙ live
@@ -210,7 +212,7 @@ item_lively id t d i was =
     (λ own handle row p. goes_lively _ v before (less_steady _ v (less_part (book_in t) u d.0 own handle row p)))
     (λ own s ids. goes_lively _ v before (less_steady _ v (less_settled d.0 own s ids)))
     i (answer_of t d.0 here.view.phase i)))
-    (λ q. subst (λ (s : Option Conn). Lively (goes (item_row id t u d.0 i s) v)) (sym (nothing_stands (standing (found t (event.Item d i) d.0)) q)) before)
+    (λ q. subst (λ (s : Option Conn). Lively (goes (item_row id t u d.0 i s) v)) (sym (nothing_stands (standing (found t (event.Item d i) d.0)) q)) before))
   where
     u : List Entry
     u = heard id t (step_of (event.Item d i))

@@ -38,6 +38,7 @@ use Rattle.router_core.proofs.Ordered.{Ordered, Spares, wrote, written_all, puts
 use Rattle.router_core.proofs.Told.{ToldAt, Told, goes_told_at, bound_told_at, ends_told_at, goes_strange, bound_strange, ends_strange, said_told}
 use Rattle.router_core.proofs.Flowing.{Fits, AllFit, goes_turns, beats_fit, live_some}
 use Rattle.router_core.proofs.Following.{all_keep}
+use Rattle.router_core.proofs.Copied.{copied_keeps, copied_same}
 use Rattle.router_core.proofs.Resuming.{resumed_keeps, resumed_same}
 use Rattle.router_core.proofs.PassedOrder.{followed_turns}
 use Rattle.router_core.proofs.Attached.{taken_fit, refused_fit, part_fit, settled_fit}
@@ -92,9 +93,13 @@ fit_bound None t ps fits = fits
 fit_bound (Some b) t [] fits = tt
 fit_bound (Some b) t (p ∷ ps) fits = (record { known = fits.0.known; turn = fits.0.turn; quiet = fits.0.quiet }, fit_bound (Some b) t ps fits.1)
 
+-- the items of an event's row, before copies
+abbrev put_by : List ℕ → List Entry → Event → List Entry
+put_by id t e = goes (own_row id t (heard id t (step_of e)) e) (with_bound (bound_by t (heard id t (step_of e)) e) (heard id t (step_of e)))
+
 row_turns : (id : List ℕ) (t : List Entry) (d : ConnectionId) (i : Item) → Ordered t → FoundLive t (event.Item d i) d.0
     → Ordered (heard id t (step_of (event.Item d i))) → has d.0 (ups (heard id t (step_of (event.Item d i)))) ≡ true
-    → Ordered (replied id t (step_of (event.Item d i)))
+    → Ordered (put_by id t (event.Item d i))
 row_turns id t d i ord here heard_ord there =
     let c : ℕ = d.0
     in let e : Event = event.Item d i
@@ -139,10 +144,11 @@ item_turns : (id : List ℕ) (t : List Entry) (d : ConnectionId) (i : Item) → 
     → Ordered (heard id t (step_of (event.Item d i))) → has d.0 (ups (heard id t (step_of (event.Item d i)))) ≡ true
     → Ordered (replied id t (step_of (event.Item d i)))
 item_turns id t d i ord heard_ord there =
-    by_test (is_live (found t (event.Item d i) d.0))
+    copied_keeps Ordered (λ b v h. bound_turns (Some b) v h) t u (event.Item d i) (put_by id t (event.Item d i))
+    (by_test (is_live (found t (event.Item d i) d.0))
     (λ h. row_turns id t d i ord (found_live t (event.Item d i) d.0 h) heard_ord there)
     (λ h. subst (λ (s : Option Conn). Ordered (goes (item_row id t u d.0 i s) (with_bound bound u))) (sym (nothing_stands (standing (found t (event.Item d i) d.0)) h))
-    (bound_turns bound u heard_ord))
+    (bound_turns bound u heard_ord)))
   where
     u : List Entry
     u = heard id t (step_of (event.Item d i))
@@ -224,25 +230,29 @@ event_told t (event.Item d i) ord told taken k same v is live some = told.told k
 event_told t (event.Tick ms) ord told taken k same v is live some = told.told k v (found_open (has k (due t (event.Tick ms))) (conn t k) v is live) live (same some)
 event_told t event.Start ord told taken k same v is live some = told.told k v (found_open (has k (due t event.Start)) (conn t k) v is live) live (same some)
 
+copied_told : (id : List ℕ) (t : List Entry) (e : Event) (k : ℕ) → ToldAt (put_by id t e) k → ToldAt (replied id t (step_of e)) k
+copied_told id t e k was =
+    copied_keeps (λ (v : List Entry). ToldAt v k) (λ b v h. bound_told_at (Some b) v k h) t (heard id t (step_of e)) e (put_by id t e) was
+
 -- after an event's rows, except for the item's own connection
 row_told : (id : List ℕ) (t : List Entry) (e : Event) (k : ℕ) → ToldAt (did e ∷ t) k → ToldAt (replied id t (step_of e)) k
 row_told id t e k was =
     let u : List Entry = heard id t (step_of e)
-    in goes_told_at (own_row id t u e) (with_bound (bound_by t u e) u) k (bound_told_at (bound_by t u e) u k (ends_told_at id (due t e) (did e ∷ t) k was))
+    in copied_told id t e k (goes_told_at (own_row id t u e) (with_bound (bound_by t u e) u) k (bound_told_at (bound_by t u e) u k (ends_told_at id (due t e) (did e ∷ t) k was)))
 
 opened_told : (id : List ℕ) (t : List Entry) (d : ConnectionId) (i : Item) → ((t : List Entry) (c : ℕ) (p : Conn) → Opens (answer_of t c p i))
     → ToldAt (replied id t (step_of (event.Item d i))) d.0
 opened_told id t d i opens =
     by_test (is_live (found t (event.Item d i) d.0))
     (λ h. let here : FoundLive t (event.Item d i) d.0 = found_live t (event.Item d i) d.0 h
-    in subst (λ (s : Option Conn). ToldAt (goes (item_row id t u d.0 i s) v) d.0) (sym here.phase)
+    in copied_told id t (event.Item d i) d.0 (subst (λ (s : Option Conn). ToldAt (goes (item_row id t u d.0 i s) v) d.0) (sym here.phase)
     (item_cases id t u d.0 here.view.phase (λ a ps. Opens a → ToldAt (goes ps v) d.0)
     (λ a says. said_told id here.view.phase v d.0 a says)
     (λ own ours x says. absurd says)
     (λ own handle f x says. absurd says)
     (λ own handle row q says. absurd says)
     (λ own s ids says. absurd says)
-    i (answer_of t d.0 here.view.phase i) (opens t d.0 here.view.phase)))
+    i (answer_of t d.0 here.view.phase i) (opens t d.0 here.view.phase))))
     (λ h. row_told id t (event.Item d i) d.0 (λ v is live some. absurd (true≢false (sym (lives v live) ∙ sym (ap is_live is) ∙ h))))
   where
     u : List Entry
@@ -292,7 +302,8 @@ strange_at t event.Start told taken k absent = told.strange k absent
 replied_ups : (id : List ℕ) (t : List Entry) (e : Event) → ups (replied id t (step_of e)) ≡ with_up e (ups t)
 replied_ups id t e =
     let u : List Entry = heard id t (step_of e)
-    in goes_ups (own_row id t u e) (with_bound (bound_by t u e) u) ∙ bound_ups (bound_by t u e) u ∙ ends_ups id (due t e) (did e ∷ t)
+    in copied_same ups (λ b v. refl) t u e (put_by id t e)
+    ∙ goes_ups (own_row id t u e) (with_bound (bound_by t u e) u) ∙ bound_ups (bound_by t u e) u ∙ ends_ups id (due t e) (did e ∷ t)
 
 answered_ups : (id : List ℕ) (t : List Entry) (e : Event) → ups (answered id t (step_of e)) ≡ with_up e (ups t)
 answered_ups id t e =
@@ -302,8 +313,9 @@ answered_ups id t e =
 replied_strange : (id : List ℕ) (t : List Entry) (e : Event) (k : ℕ) → terms (did e ∷ t) k ≡ None → terms (replied id t (step_of e)) k ≡ None
 replied_strange id t e k none =
     let u : List Entry = heard id t (step_of e)
-    in goes_strange (own_row id t u e) (with_bound (bound_by t u e) u) k
-    (bound_strange (bound_by t u e) u k (ends_strange id (due t e) (did e ∷ t) k none))
+    in copied_keeps (λ (v : List Entry). terms v k ≡ None) (λ b v h. bound_strange (Some b) v k h) t u e (put_by id t e)
+    (goes_strange (own_row id t u e) (with_bound (bound_by t u e) u) k
+    (bound_strange (bound_by t u e) u k (ends_strange id (due t e) (did e ∷ t) k none)))
 
 pub answered_told : (id : List ℕ) (t : List Entry) (e : Event) → Ordered t → Told t → refuses t e ≡ false → Told (answered id t (step_of e))
 answered_told id t e ord told taken = record {

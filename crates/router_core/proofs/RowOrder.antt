@@ -36,7 +36,7 @@ use Rattle.state_connections.proofs.Lists.{by_test}
 use Rattle.reply_rows.specs.declared.answer.Answer.{Answer}
 use Rattle.reply_rows.specs.declared.answer.Answer.TheVariants.{Nothing, Header, Open, Close, CloseWith, Begin, End, Flow, Attach, Refuse, Detach, LinkFlow, Taken, Settle}
 use Rattle.reply_rows.specs.Rows.{Finds, Links, said, header_reply, open_by, open_reply, begin_by, begin_reply, end_reply, echo, flow_on, flow_reply, attach_reply, transfer_reply, detach_reply, disposition_reply, close_by, close_reply, in_turn, turn_by, perf_reply, item_reply}
-use Rattle.reply_rows.specs.LinkRows.{is_multicast_link, refusal, attach_or, attach_at, session_attach_reply, session_detach_reply, link_echo, is_reached, detach_for, link_flow_reply, is_anonymous, asks, is_among, start_on, delivery_by, delivery_on, link_transfer_reply, is_unattached, session_transfer_reply, flow_on as link_flow_on}
+use Rattle.reply_rows.specs.LinkRows.{refusal, attach_or, attach_at, session_attach_reply, session_detach_reply, link_echo, is_reached, detach_for, link_flow_reply, is_anonymous, asks, is_among, start_on, delivery_by, delivery_on, link_transfer_reply, is_unattached, session_transfer_reply, flow_on as link_flow_on}
 use Rattle.reply_rows.specs.Finding.{finds}
 use Rattle.reply_rows.specs.Booking.{attach_unless, booked_attach, repeats, booked_transfer, booked_perf, booked, book_refusal}
 use Rattle.reply_rows.specs.Acts.{found_journal, full_at, answer_of}
@@ -216,13 +216,13 @@ attach_or_fits : (h : Bool) (b : ℕ → Bool) (asked : Option BeginState) (own 
 attach_or_fits h b asked own handle (Some x) begun = (refl, begun)
 attach_or_fits h b asked own handle None begun = (refl, begun)
 
-session_attach_fits : (h : Bool) (b : ℕ → Bool) (asked : Option BeginState) (own : ℕ) (at : LinkPlace) (free : Option ℕ) (multicast : Bool) (a : AnAttach) → b own ≡ true
-    → SessionFits h b asked (session_attach_reply own at free multicast a)
-session_attach_fits h b asked own at free multicast a begun = by_test (nat_lt 63 a.handle) (λ e. rw e tt) (λ e. rw e (by at free))
+session_attach_fits : (h : Bool) (b : ℕ → Bool) (asked : Option BeginState) (own : ℕ) (at : LinkPlace) (free : Option ℕ) (a : AnAttach) → b own ≡ true
+    → SessionFits h b asked (session_attach_reply own at free a)
+session_attach_fits h b asked own at free a begun = by_test (nat_lt 63 a.handle) (λ e. rw e tt) (λ e. rw e (by at free))
   where
-    by : (at : LinkPlace) (free : Option ℕ) → SessionFits h b asked (attach_at own at free multicast a)
+    by : (at : LinkPlace) (free : Option ℕ) → SessionFits h b asked (attach_at own at free a)
     by no_link None = (refl, begun)
-    by no_link (Some handle) = attach_or_fits h b asked own handle (refusal multicast a) begun
+    by no_link (Some handle) = attach_or_fits h b asked own handle (refusal a) begun
     by detaching free = tt
     by (on_link k l) free = (refl, begun)
 
@@ -286,12 +286,11 @@ session_transfer_fits h b asked own s claimed at x begun =
     by (on_link k l) = carried k l.durable l.happened
 
 -- the same by what is on the frame's channel
-attach_fits : (h : Bool) (b : ℕ → Bool) (asked : Option BeginState) (at : Place) (links : Links) (free : ℕ → Option ℕ) (multicast : List ℕ → Bool) (a : AnAttach) → PlaceFits at b
-    → SessionFits h b asked (attach_reply at links free multicast a)
-attach_fits h b asked nowhere links free multicast a place = tt
-attach_fits h b asked ending links free multicast a place = tt
-attach_fits h b asked (on own s) links free multicast a place =
-    session_attach_fits h b asked own (links own a.handle) (free own) (is_multicast_link multicast a.role a) a place
+attach_fits : (h : Bool) (b : ℕ → Bool) (asked : Option BeginState) (at : Place) (links : Links) (free : ℕ → Option ℕ) (a : AnAttach) → PlaceFits at b
+    → SessionFits h b asked (attach_reply at links free a)
+attach_fits h b asked nowhere links free a place = tt
+attach_fits h b asked ending links free a place = tt
+attach_fits h b asked (on own s) links free a place = session_attach_fits h b asked own (links own a.handle) (free own) a place
 
 detach_fits : (h : Bool) (b : ℕ → Bool) (asked : Option BeginState) (at : Place) (links : Links) (x : ADetach) → PlaceFits at b → SessionFits h b asked (detach_reply at links x)
 detach_fits h b asked nowhere links x place = tt
@@ -349,7 +348,7 @@ perf_fits h o b asked k payload channel (perf.Begin x) found =
     turn_fits h o b (Some (begin_state x)) k channel (perf.Begin x)
     (begin_fits h b (Some (begin_state x)) (k.places channel) k.free_channel channel x (found.places channel) found.room refl)
 perf_fits h o b asked k payload channel (perf.Attach x) found =
-    turn_fits h o b asked k channel (perf.Attach x) (attach_fits h b asked (k.places channel) k.links k.free_handle k.multicast x (found.places channel))
+    turn_fits h o b asked k channel (perf.Attach x) (attach_fits h b asked (k.places channel) k.links k.free_handle x (found.places channel))
 perf_fits h o b asked k payload channel (perf.Flow x) found =
     turn_fits h o b asked k channel (perf.Flow x) (flow_fits h b asked (k.places channel) k.links x (found.places channel))
 perf_fits h o b asked k payload channel (perf.Transfer x) found =

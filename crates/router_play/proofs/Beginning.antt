@@ -14,7 +14,7 @@ use Rattle.router_trace.specs.declared.event.Event.TheVariants as event
 use Rattle.router_trace.specs.Trace.{Entry, Put, did, goes, step_of}
 use Rattle.router_trace.specs.Following.{as_long_as_due, tells, sends_due, drains_due}
 use Rattle.router_trace.specs.Numbers.{first_placed, first_ranked}
-use Rattle.state_messages.specs.Messages.{lent, grants_due, lowest_below}
+use Rattle.state_messages.specs.Messages.{grants, grants_due, lent_first, lowest_below}
 use Rattle.state_sessions.specs.Windows.{windows}
 use Rattle.router_after.specs.After.{sent, drained, granted, followed}
 use Rattle.router_core.specs.Replies.{handled}
@@ -47,7 +47,7 @@ unfolding first_placed
 no_drain g = refl
 
 no_grant : (g : Beginning) → grants_due (begins g) ≡ []
-unfolding lent lowest_below
+unfolding grants lent_first lowest_below
 no_grant g = refl
 
 -- the acts of a start decide, and so they settle no row of a producer's link

@@ -42,6 +42,7 @@ use Rattle.router_core.proofs.Linked.{holder_linked}
 use Rattle.router_core.proofs.Due.{AllOnLinks, tells_on, sends_on, drains_on, grants_on}
 use Rattle.router_core.proofs.Following.{Steps, passed_on, passed_keeps, all_keep}
 use Rattle.router_core.proofs.Lively.{Lively, heard_lively, resumed_lively, lively_steps}
+use Rattle.router_core.proofs.Copied.{copied_keeps, copied_same}
 use Rattle.router_core.proofs.Resuming.{resumed_keeps, resumed_same}
 use Rattle.router_play.specs.Carrying.{is_loss_of, was_lost}
 use Rattle.state_connections.proofs.Lists.{by_test}
@@ -309,9 +310,12 @@ row_even id t (event.Item d i) c links =
     let e : Event = event.Item d i
     in let u : List Entry = heard id t (step_of e)
     in let v : List Entry = with_bound (bound_by t u e) u
-    in even_trans u v (replied id t (step_of e)) c (bound_even (bound_by t u e) u c) (goes_even (own_row id t u e) v c
+    in let w : List Entry = goes (own_row id t u e) v
+    in even_trans u w (replied id t (step_of e)) c
+    (even_trans u v w c (bound_even (bound_by t u e) u c) (goes_even (own_row id t u e) v c
     (known_on (own_row id t u e) u v (λ k. (bound_even (bound_by t u e) u k).known)
-    (item_known id t u d.0 i links (standing (found t e d.0)) (λ l. (ends_even id (due t e) (did e ∷ t) d.0).known ∙ live_known (found t e d.0) l))))
+    (item_known id t u d.0 i links (standing (found t e d.0)) (λ l. (ends_even id (due t e) (did e ∷ t) d.0).known ∙ live_known (found t e d.0) l)))))
+    (copied_keeps (λ (x : List Entry). Even w x c) (λ b x h. even_trans w x (with_bound (Some b) x) c h (bound_even (Some b) x c)) t u e w (even_refl w c))
 row_even id t (event.Up d p) c links = even_refl (heard id t (step_of (event.Up d p))) c
 row_even id t (event.Down d) c links = even_refl (heard id t (step_of (event.Down d))) c
 row_even id t (event.Tick ms) c links =
@@ -401,6 +405,7 @@ answered_lost id t e c =
     let u : List Entry = heard id t (step_of e)
     in all_keep (λ (v : List Entry). was_lost v c ≡ (is_loss_of e c || was_lost t c)) (λ ps v h. goes_lost ps v c ∙ h) (resumed t e (replied id t (step_of e)))
     (resumed_same (λ (v : List Entry). was_lost v c) (λ b v. refl) t e (replied id t (step_of e))
+    ∙ copied_same (λ (v : List Entry). was_lost v c) (λ b v. refl) t u e (goes (own_row id t u e) (with_bound (bound_by t u e) u))
     ∙ goes_lost (own_row id t u e) (with_bound (bound_by t u e) u) c ∙ bound_lost (bound_by t u e) u c ∙ ends_lost id (due t e) (did e ∷ t) c)
 
 pub handled_kept : (id : List ℕ) (t : List Entry) (e : Event) (c : ℕ) → is_loss_of e c ≡ false → was_lost (handled id t (step_of e)) c ≡ was_lost t c

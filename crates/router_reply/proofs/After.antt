@@ -20,8 +20,8 @@ use Rattle.reply_rows.specs.declared.answer.Answer.TheVariants.{Attach, Refuse, 
 use Rattle.reply_rows.specs.Rows.{said}
 use Rattle.reply_rows.specs.Acts.{answer_of, book_found, book_in}
 use Rattle.reply_rows.specs.Resuming.{key_in, attach_within, map_for}
-use Rattle.reply_transfers.specs.Transfers.{part_put, part_bound, disposition_in, given_after}
-use Rattle.router_reply.specs.Replies.{item_row, item_bound, item_put, links_put, put_for_transfer, put_for_disposition, bound_for, settled_put, put_for_attach, put_if_attach, attach_put, row_found, after_answer}
+use Rattle.reply_transfers.specs.Transfers.{part_put, part_bound, part_copied, disposition_in, given_after}
+use Rattle.router_reply.specs.Replies.{item_row, item_bound, item_copied, item_put, links_put, put_for_transfer, put_for_disposition, bound_for, copied_for, settled_put, put_for_attach, put_if_attach, attach_put, row_found, after_answer}
 use Rattle.router_reply.proofs.Puts.{goes_both}
 
 -- an answer takes no transfer, or answers no disposition
@@ -74,11 +74,17 @@ unbound : (t u : List Entry) (c : ℕ) (i : Item) (a : Answer) → NotTaken a �
 unbound t u c i (Taken own handle) none = absurd (none own handle refl)
 unbound t u c i _ none = refl
 
+uncopied : (t after : List Entry) (c : ℕ) (i : Item) (a : Answer) (u : List Entry) → NotTaken a → copied_for t after c i a u ≡ u
+uncopied t after c i (Taken own handle) u none = absurd (none own handle refl)
+uncopied t after c i _ u none = refl
+
 -- the trace after it
 pub taken_is : (id : List ℕ) (t after : List Entry) (c : ℕ) (p : Conn) (i : Item) (own handle : ℕ)
     → after_answer id t after c p i (Taken own handle) ≡ given_after (book_in t) after c own handle (row_found t) (part_of i (link_place t c own))
 taken_is id t after c p i own handle =
-    ap (λ (ps : List Put). goes ps (with_bound (part_bound (book_in t) after c own handle (row_found t) (part_of i (link_place t c own))) after)) (taken_put t after c i own handle)
+    let part = part_of i (link_place t c own) in
+    ap (λ (ps : List Put). part_copied after c own handle part (goes ps (with_bound (part_bound (book_in t) after c own handle (row_found t) part) after)))
+    (taken_put t after c i own handle)
 
 pub settled_is : (id : List ℕ) (t after : List Entry) (c : ℕ) (p : Conn) (i : Item) (own : ℕ)
     → after_answer id t after c p i (Settle own) ≡ goes (settled_put t c own (disposition_in i)) after
@@ -87,7 +93,8 @@ settled_is id t after c p i own = ap (λ (ps : List Put). goes ps after) (settle
 pub other_is : (id : List ℕ) (t after : List Entry) (c : ℕ) (p : Conn) (i : Item) (a : Answer) → NotTaken a → NotSettled a
     → after_answer id t after c p i a ≡ goes (attach_put (puts c (said id p a) after) c (map_in t c i a) i a) (puts c (said id p a) after)
 other_is id t after c p i a taken settled =
-    ap (λ (b : Option Binding). goes (item_put id t after c p i a) (with_bound b after)) (unbound t after c i a taken)
+    uncopied t after c i a (goes (item_put id t after c p i a) (with_bound (bound_for t after c i a) after)) taken
+    ∙ ap (λ (b : Option Binding). goes (item_put id t after c p i a) (with_bound b after)) (unbound t after c i a taken)
     ∙ goes_both (each_to c (said id p a)) (links_put t (puts c (said id p a) after) c i a) after
     ∙ ap (λ (ps : List Put). goes ps (puts c (said id p a) after)) (attach_by t (puts c (said id p a) after) c i a taken settled)
 
@@ -118,7 +125,7 @@ unattached t c ours _ a taken refused = refl
 
 -- the trace after an item, by what was found of its connection
 abbrev pub after_item : List ℕ → List Entry → List Entry → ℕ → Item → Option Conn → List Entry
-after_item id t after c i s = goes (item_row id t after c i s) (with_bound (item_bound t after c i s) after)
+after_item id t after c i s = item_copied t after c i s (goes (item_row id t after c i s) (with_bound (item_bound t after c i s) after))
 
 pub decided : (id : List ℕ) (t after : List Entry) (c : ℕ) (p : Conn) (i : Item) (a : Answer) (s : Option Conn) → a ≡ answer_of t c p i → Some p ≡ s
     → after_answer id t after c p i a ≡ after_item id t after c i s

@@ -30,7 +30,7 @@ use Rattle.state_messages.specs.Messages.{with_bound}
 use Rattle.reply_rows.specs.declared.answer.Answer.{Answer}
 use Rattle.reply_rows.specs.declared.answer.Answer.TheVariants.{Attach, Refuse, Taken, Settle}
 use Rattle.reply_rows.specs.Rows.{said, down_reply}
-use Rattle.reply_transfers.specs.Transfers.{settled_answers, part_put, part_bound}
+use Rattle.reply_transfers.specs.Transfers.{settled_answers, part_put, part_bound, part_copied}
 use Rattle.reply_rows.specs.Acts.{answer_of, book_found, book_in, found_acts}
 use Rattle.reply_rows.specs.Admitting.{row_in}
 use Rattle.reply_rows.specs.Asking.{key_taken}
@@ -101,6 +101,11 @@ abbrev pub bound_for : Trace → Trace → ℕ → Item → Answer → Option Bi
 bound_for t after c i (Taken own handle) = part_bound (book_in t) after c own handle (row_found t) (part_of i (link_place t c own))
 bound_for t after c i _ = None
 
+-- the trace u, with the copies of a message for the consumers of its multicast address; which ones is said by the trace after the event's entry
+abbrev pub copied_for : Trace → Trace → ℕ → Item → Answer → Trace → Trace
+copied_for t after c i (Taken own handle) u = part_copied after c own handle (part_of i (link_place t c own)) u
+copied_for t after c i _ u = u
+
 -- What an answer to an item puts into outboxes, after the closes because of full outboxes.
 abbrev pub put_for_attach : Trace → ℕ → List UnsettledDelivery → AnAttach → Answer → List Put
 put_for_attach t c ours a (Attach own) = taken t c own ours a
@@ -136,7 +141,7 @@ abbrev pub item_put : List ℕ → Trace → Trace → ℕ → Conn → Item →
 item_put id t after c p i answer = each_to c (said id p answer) ++ links_put t (puts c (said id p answer) after) c i answer
 
 abbrev pub after_answer : List ℕ → Trace → Trace → ℕ → Conn → Item → Answer → Trace
-after_answer id t after c p i answer = goes (item_put id t after c p i answer) (with_bound (bound_for t after c i answer) after)
+after_answer id t after c p i answer = copied_for t after c i answer (goes (item_put id t after c p i answer) (with_bound (bound_for t after c i answer) after))
 
 -- nothing if the connection isn't live
 abbrev pub item_row : List ℕ → Trace → Trace → ℕ → Item → Option Conn → List Put
@@ -147,10 +152,19 @@ abbrev pub item_bound : Trace → Trace → ℕ → Item → Option Conn → Opt
 item_bound t after c i None = None
 item_bound t after c i (Some p) = bound_for t after c i (answer_of t c p i)
 
+abbrev pub item_copied : Trace → Trace → ℕ → Item → Option Conn → Trace → Trace
+item_copied t after c i None u = u
+item_copied t after c i (Some p) u = copied_for t after c i (answer_of t c p i) u
+
 -- what an event binds: a message that it completes, if a consumer is chosen for it, or the row that a resumed delivery joins
 abbrev pub bound_by : Trace → Trace → Event → Option Binding
 bound_by t after (event.Item c i) = item_bound t after c.0 i (standing (found t (event.Item c i) c.0))
 bound_by t after _ = None
+
+-- the trace u with what it copies: a message that its producer has settled, of a multicast address
+abbrev pub copied_by : Trace → Trace → Event → Trace → Trace
+copied_by t after (event.Item c i) u = item_copied t after c.0 i (standing (found t (event.Item c i) c.0)) u
+copied_by t after _ u = u
 
 -- what an event's own row puts into outboxes, by what the event finds, after the closes because of full outboxes
 abbrev pub own_row : List ℕ → Trace → Trace → Event → List Put
@@ -159,9 +173,9 @@ own_row id t after (event.Down c) = each_to c.0 down_reply
 own_row id t after (event.Tick ms) = beats t (event.Tick ms) ms
 own_row id t after _ = []
 
--- the event with the effect of its rows: the closes, then the message that it binds, then what its own row puts
+-- the event with the effect of its rows: the closes, then the message that it binds, then what its own row puts, then copies
 abbrev pub replied_after : List ℕ → Trace → Trace → Event → Trace
-replied_after id t after e = goes (own_row id t after e) (with_bound (bound_by t after e) after)
+replied_after id t after e = copied_by t after e (goes (own_row id t after e) (with_bound (bound_by t after e) after))
 
 abbrev pub replied : List ℕ → Trace → Step → Trace
 replied id t s = replied_after id t (heard id t s) s.event

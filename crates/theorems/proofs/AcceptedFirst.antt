@@ -38,6 +38,7 @@ use Rattle.router_reply.specs.Replies.{closing_of, ends, heard, bound_by, own_ro
 use Rattle.router_reply.specs.Resuming.{resumed}
 use Rattle.router_core.specs.Replies.{handled}
 use Rattle.core_machine.specs.Moves.{Move, handles, takes, took_one}
+use Rattle.router_core.proofs.Copied.{copied_keeps}
 use Rattle.router_core.proofs.Following.{all_keep}
 use Rattle.router_core.proofs.Resuming.{resumed_keeps}
 use Rattle.theorems.specs.Accepting.{WasAccepted, RowsAreAcceptedByConsumers, AcceptedIsTrue, role_tells_accepted, perf_tells_accepted}
@@ -73,7 +74,8 @@ module _ (P : Trace → Type 0) (comes : (s : Step) (t : Trace) → P t → P (D
   reply : (id : List ℕ) (t : Trace) (s : Step) → P t → P (replied id t s)
   reply id t s was =
       let u : Trace = heard id t s in
-      put_all (own_row id t u s.event) (with_bound (bound_by t u s.event) u) (bind (bound_by t u s.event) u (end_all id (due t s.event) (Did s ∷ t) (comes s t was)))
+      copied_keeps P bound t u s.event (goes (own_row id t u s.event) (with_bound (bound_by t u s.event) u))
+      (put_all (own_row id t u s.event) (with_bound (bound_by t u s.event) u) (bind (bound_by t u s.event) u (end_all id (due t s.event) (Did s ∷ t) (comes s t was))))
 
   pub handled_keep : (id : List ℕ) (t : Trace) (s : Step) → P t → P (handled id t s)
   handled_keep id t s was =

@@ -17,6 +17,7 @@ use Rattle.router_core.specs.Moves.{ins, with_came}
 use Rattle.state_connections.proofs.Lists.{by_test}
 use Rattle.state_connections.proofs.Turns.{over_lives, stays}
 use Rattle.router_core.proofs.Booking.{booked_same}
+use Rattle.router_core.proofs.Copied.{copied_keeps}
 use Rattle.router_core.proofs.Following.{all_keep}
 use Rattle.router_core.proofs.Resuming.{resumed_keeps}
 
@@ -94,7 +95,8 @@ over_answered id t e c other h =
     let u : List Entry = heard id t (step_of e)
     in all_keep (λ (v : List Entry). is_live (conn v c) ≡ false) (λ ps v over. over_goes ps v c over) (resumed t e (replied id t (step_of e)))
     (resumed_keeps (λ (v : List Entry). is_live (conn v c) ≡ false) (λ b v over. over_bound (Some b) v c over) t e (replied id t (step_of e))
-    (over_goes (own_row id t u e) (with_bound (bound_by t u e) u) c (over_bound (bound_by t u e) u c (over_ends id (due t e) (did e ∷ t) c (over_did t e c other h)))))
+    (copied_keeps (λ (v : List Entry). is_live (conn v c) ≡ false) (λ b v over. over_bound (Some b) v c over) t u e (goes (own_row id t u e) (with_bound (bound_by t u e) u))
+    (over_goes (own_row id t u e) (with_bound (bound_by t u e) u) c (over_bound (bound_by t u e) u c (over_ends id (due t e) (did e ∷ t) c (over_did t e c other h))))))
 
 pub over_handled : (id : List ℕ) (t : List Entry) (e : Event) (c : ℕ) → is_about e c ≡ false → is_live (conn t c) ≡ false → is_live (conn (handled id t (step_of e)) c) ≡ false
 over_handled id t e c other h = over_answered id (booked t e) e c other (booked_same (λ (u : List Entry). is_live (conn u c)) t e (λ acts. refl) ∙ h)

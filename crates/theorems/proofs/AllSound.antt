@@ -1,6 +1,6 @@
 -- Every trace of the router satisfies the laws.
-use Rattle.std.proofs.Common.{◌≡◌, sym, refl, subst, ℕ, Bool, true, false, List, [], ◌∷◌, ◌++◌}
-use Rattle.std.specs.Prelude.{Option, Some, None, if◌then◌else◌}
+use Rattle.std.proofs.Common.{◌≡◌, sym, refl, subst, inr, ℕ, Bool, true, false, List, [], ◌∷◌, ◌++◌}
+use Rattle.std.specs.Prelude.{Option, Some, None, if◌then◌else◌, unwrap_or}
 use Rattle.amqp_model.specs.declared.perf.Perf.{Perf}
 use Rattle.amqp_model.specs.declared.perf.Perf.TheVariants as perf
 use Rattle.amqp_model.specs.declared.perf.Attach.{Attach as AnAttach}
@@ -26,11 +26,11 @@ use Rattle.router_trace.specs.Sessions.{theirs}
 use Rattle.router_trace.specs.Peers.{largest_frame}
 use Rattle.router_trace.specs.Following.{tells, sends_due, drains_due}
 use Rattle.state_sessions.specs.Windows.{windows}
-use Rattle.state_messages.specs.Messages.{grants_due, with_bound}
+use Rattle.state_messages.specs.Messages.{copy_to, grants_due, with_bound}
 use Rattle.reply_rows.specs.declared.answer.Answer.{Answer}
 use Rattle.reply_rows.specs.declared.answer.Answer.TheVariants.{Attach, Refuse, Taken, Settle}
 use Rattle.reply_rows.specs.Rows.{said}
-use Rattle.router_reply.specs.Replies.{closing_of, ends, heard, refused, map_told, bound_for, item_put, after_answer, item_bound, item_row, bound_by, own_row, replied_after, replied}
+use Rattle.router_reply.specs.Replies.{closing_of, ends, heard, refused, map_told, bound_for, item_put, item_bound, item_row, bound_by, own_row, replied_after, replied}
 use Rattle.reply_rows.specs.Acts.{found_journal, full_at, answer_of, booked}
 use Rattle.router_reply.specs.Resuming.{resumed}
 use Rattle.router_core.specs.Replies.{answered, handled}
@@ -38,14 +38,16 @@ use Rattle.core_machine.specs.Moves.{took_one}
 use Rattle.router_core.specs.Moves.{Goes, IsTrace}
 use Rattle.core_machine.specs.Moves.{Move, handles, takes}
 use Rattle.router_core.proofs.Booking.{booked_keeps}
+use Rattle.router_core.proofs.Copied.{copied_takes, made}
 use Rattle.router_core.proofs.Following.{Steps, passed_on, passed_keeps}
 use Rattle.theorems.specs.Admitted.{RowIsAdmitted}
 use Rattle.theorems.specs.Each.{EachBound}
-use Rattle.theorems.specs.Came.{Handled, just_handled, BindsByKind, CameAndWasBound}
+use Rattle.theorems.specs.Came.{Handled, just_handled, BindsAs, BindsByKind, CameAndWasBound}
 use Rattle.theorems.proofs.Bindings.{of_messages, each_bound}
+use Rattle.theorems.proofs.Copying.{copy_binds}
 use Rattle.theorems.proofs.Resumed.{resumed_takes, replied_book, replied_found}
 use Rattle.theorems.proofs.Rows.{Rows, start_rows, took_rows, resumed_rows, handled_rows}
-use Rattle.theorems.proofs.Sound.{Sound, sound_start, did_sound, took_sound, batch_sound, held_sound, taken_sound, goes_sound, quiet_sound, QuietPut, quiet_both, quiet_to, still_handled}
+use Rattle.theorems.proofs.Sound.{Sound, Answered, answer_sound, sound_start, did_sound, bound_sound, took_sound, batch_sound, held_sound, taken_sound, goes_sound, quiet_sound, QuietPut, quiet_both, quiet_to, still_handled}
 use Rattle.theorems.proofs.Quiet.{closing_of_quiet, said_quiet, taken_quiet, refused_quiet, settled_quiet, beats_quiet, windows_quiet, drains_quiet, grants_quiet}
 use Rattle.reply_rows.proofs.Transfers.{IfTaken, transfer_taken}
 use Rattle.theorems.proofs.Arriving.{transfer_sound}
@@ -89,12 +91,12 @@ ends_handled id (c ∷ cs) t v is =
 -- an answer to an item: what is bound, and what is put
 
 abbrev Behind : List ℕ → List Entry → List Entry → ℕ → Conn → Item → Answer → Type 0
-Behind id t after c p i a = Sound (after_answer id t after c p i a)
+Behind id t after c p i a = Answered after (item_put id t after c p i a) (bound_for t after c i a)
 
 quiet_answer : (id : List ℕ) (t after : List Entry) (c : ℕ) (p : Conn) (i : Item) (a : Answer) → Sound after → bound_for t after c i a ≡ None
     → QuietPut (item_put id t after c p i a) → Behind id t after c p i a
 quiet_answer id t after c p i a sound none quiet =
-    subst (λ (b : Option Binding). Sound (goes (item_put id t after c p i a) (with_bound b after))) (sym none) (quiet_sound (item_put id t after c p i a) after quiet sound)
+    subst (λ (b : Option Binding). Answered after (item_put id t after c p i a) b) (sym none) (quiet_sound (item_put id t after c p i a) after quiet sound)
 
 nothing_more : (id : List ℕ) (p : Conn) (c : ℕ) (a : Answer) → QuietPut (each_to c (said id p a) ++ [])
 nothing_more id p c a = quiet_both (each_to c (said id p a)) [] (quiet_to c (said id p a) (said_quiet id p a)) tt
@@ -154,10 +156,10 @@ item_sound id t after s from p i sound came just = by i came
 -- an event's own row
 
 row_sound : (id : List ℕ) (t after : List Entry) (s : Step) (e : Event) → Sound after → s.event ≡ e → just_handled after ≡ Some (record { step = s; found = t })
-    → Sound (replied_after id t after e)
+    → Answered after (own_row id t after e) (bound_by t after e)
 row_sound id t after s (event.Item c i) sound is just = by (standing (found t (event.Item c i) c.0))
   where
-    by : (p : Option Conn) → Sound (goes (item_row id t after c.0 i p) (with_bound (item_bound t after c.0 i p) after))
+    by : (p : Option Conn) → Answered after (item_row id t after c.0 i p) (item_bound t after c.0 i p)
     by None = sound
     by (Some p) = item_sound id t after s c p i sound is just
 row_sound id t after s (event.Down c) sound is just = sound
@@ -165,12 +167,21 @@ row_sound id t after s (event.Tick ms) sound is just = quiet_sound _ after (beat
 row_sound id t after s (event.Up c p) sound is just = sound
 row_sound id t after s event.Start sound is just = sound
 
+-- copies
+copied_sound : (id : List ℕ) (t after : List Entry) (s : Step) → just_handled after ≡ Some (record { step = s; found = t })
+    → Sound (goes (own_row id t after s.event) (with_bound (bound_by t after s.event) after)) → Sound (replied_after id t after s.event)
+copied_sound id t after s just sound =
+    let put : List Entry = goes (own_row id t after s.event) (with_bound (bound_by t after s.event) after) in
+    copied_takes Sound t after s.event put
+    (λ x before a later copies now. bound_sound (copy_to (made x before put) (unwrap_or x.message.format 0) x.payload a) (made x before put)
+    (inr (copy_binds id t after s x just before a later copies)) now) sound
+
 answered_sound : (id : List ℕ) (t : List Entry) (s : Step) → Sound t → EachBound RowIsAdmitted (resumed t s.event (replied id t s)) → Sound (answered id t s)
 answered_sound id t s sound admitted =
     let u : List Entry = heard id t s
     in let behind : Sound u = ends_sound id (due t s.event) (Did s ∷ t) (did_sound s t sound)
     in let just : just_handled u ≡ Some (record { step = s; found = t }) = ends_handled id (due t s.event) (Did s ∷ t) (Some (record { step = s; found = t })) refl
-    in let rows : Sound (replied id t s) = row_sound id t u s s.event behind refl just
+    in let rows : Sound (replied id t s) = copied_sound id t u s just (answer_sound u (own_row id t u s.event) (bound_by t u s.event) (row_sound id t u s s.event behind refl just))
     in let bound : List Entry = resumed t s.event (replied id t s)
     in let resumes : Sound bound = resumed_takes Sound t s.event (replied id t s) (λ u b takes known was. taken_sound u b takes was)
     (λ u b q to is quiet binds book was. held_sound u b q to is quiet binds was) (replied_found id t s) (replied_book id t s) rows
@@ -179,17 +190,12 @@ answered_sound id t s sound admitted =
 
 -- what an event binds before that is a message that just came
 
-each_goes : (P : List Entry → Binding → Type 0) (ps : List Put) (t : List Entry) → EachBound P (goes ps t) → EachBound P t
-each_goes P [] t each = each
-each_goes P (p ∷ ps) t each = each_goes P ps (Out p.conn p.item ∷ t) each
-
-pub event_binds : (id : List ℕ) (t : List Entry) (s : Step) (b : Binding) → Sound t → bound_by t (heard id t s) s.event ≡ Some b → BindsByKind (heard id t s) b
+pub event_binds : (id : List ℕ) (t : List Entry) (s : Step) (b : Binding) → Sound t → bound_by t (heard id t s) s.event ≡ Some b → BindsAs b.kind (heard id t s) b
 event_binds id t s b sound is =
     let u : List Entry = heard id t s
     in let behind : Sound u = ends_sound id (due t s.event) (Did s ∷ t) (did_sound s t sound)
     in let just : just_handled u ≡ Some (record { step = s; found = t }) = ends_handled id (due t s.event) (Did s ∷ t) (Some (record { step = s; found = t })) refl
-    in let rows : Sound (replied id t s) = row_sound id t u s s.event behind refl just
-    in (subst (λ (v : Option Binding). EachBound BindsByKind (with_bound v u)) is (each_goes BindsByKind (own_row id t u s.event) (with_bound (bound_by t u s.event) u) rows.binds)).0
+    in (subst (λ (v : Option Binding). Answered u (own_row id t u s.event) v) is (row_sound id t u s s.event behind refl just)).0
 
 -- moves
 

@@ -50,7 +50,7 @@ use Rattle.reply_rows.specs.declared.answer.Answer.{Answer}
 use Rattle.reply_rows.specs.declared.answer.Answer.TheVariants.{Attach, Refuse}
 use Rattle.reply_rows.specs.Booking.{refuse_on, booked_attach, book_refusal, answer_at}
 use Rattle.reply_rows.specs.Finding.{finds}
-use Rattle.reply_rows.specs.LinkRows.{refusal, attach_or, attach_fresh, attach_at, session_attach_reply, is_multicast_link}
+use Rattle.reply_rows.specs.LinkRows.{refusal, attach_or, attach_fresh, attach_at, session_attach_reply}
 use Rattle.reply_rows.specs.Rows.{Finds, Links, attach_reply, out_of_turn, turn_by, item_reply}
 use Rattle.router_trace.specs.Sessions as sessions
 use Rattle.reply_rows.specs.Acts.{book_in, booked}
@@ -181,25 +181,25 @@ attach_by_or : (free : ℕ → Option ℕ) (own handle : ℕ) (r : Option Condit
 attach_by_or free own handle None is = refl
 attach_by_or free own handle (Some x) is = (refl, is)
 
-attach_by_fresh : (free : ℕ → Option ℕ) (own : ℕ) (v : Option ℕ) (multicast : Bool) (a : AnAttach) → free own ≡ v → IfAttach false free (attach_fresh own v multicast a)
-attach_by_fresh free own None multicast a is = tt
-attach_by_fresh free own (Some handle) multicast a is = attach_by_or free own handle (refusal multicast a) is
+attach_by_fresh : (free : ℕ → Option ℕ) (own : ℕ) (v : Option ℕ) (a : AnAttach) → free own ≡ v → IfAttach false free (attach_fresh own v a)
+attach_by_fresh free own None a is = tt
+attach_by_fresh free own (Some handle) a is = attach_by_or free own handle (refusal a) is
 
-attach_by_place : (free : ℕ → Option ℕ) (own : ℕ) (place : LinkPlace) (multicast : Bool) (a : AnAttach) → IfAttach false free (attach_at own place (free own) multicast a)
-attach_by_place free own nowhere multicast a = attach_by_fresh free own (free own) multicast a refl
-attach_by_place free own detaching multicast a = tt
-attach_by_place free own (on h l) multicast a = tt
+attach_by_place : (free : ℕ → Option ℕ) (own : ℕ) (place : LinkPlace) (a : AnAttach) → IfAttach false free (attach_at own place (free own) a)
+attach_by_place free own nowhere a = attach_by_fresh free own (free own) a refl
+attach_by_place free own detaching a = tt
+attach_by_place free own (on h l) a = tt
 
-attach_by_session : (free : ℕ → Option ℕ) (own : ℕ) (place : LinkPlace) (multicast : Bool) (a : AnAttach) → IfAttach false free (session_attach_reply own place (free own) multicast a)
-attach_by_session free own place multicast a = by_test (nat_lt 63 a.handle) (λ e. rw e tt) (λ e. rw e (attach_by_place free own place multicast a))
+attach_by_session : (free : ℕ → Option ℕ) (own : ℕ) (place : LinkPlace) (a : AnAttach) → IfAttach false free (session_attach_reply own place (free own) a)
+attach_by_session free own place a = by_test (nat_lt 63 a.handle) (λ e. rw e tt) (λ e. rw e (attach_by_place free own place a))
 
-attach_by_reply : (place : sessions.Place) (links : Links) (free : ℕ → Option ℕ) (multicast : List ℕ → Bool) (a : AnAttach) → IfAttach false free (attach_reply place links free multicast a)
-attach_by_reply sessions.nowhere links free multicast a = tt
-attach_by_reply sessions.ending links free multicast a = tt
-attach_by_reply (sessions.on own h) links free multicast a = attach_by_session free own (links own a.handle) (is_multicast_link multicast a.role a) a
+attach_by_reply : (place : sessions.Place) (links : Links) (free : ℕ → Option ℕ) (a : AnAttach) → IfAttach false free (attach_reply place links free a)
+attach_by_reply sessions.nowhere links free a = tt
+attach_by_reply sessions.ending links free a = tt
+attach_by_reply (sessions.on own h) links free a = attach_by_session free own (links own a.handle) a
 
 attach_by_turn : (k : Finds) (channel : ℕ) (a : AnAttach) (r : Result (Unit {0}) ConnFault) → IfAttach false k.free_handle (turn_by k channel (perf.Attach a) r)
-attach_by_turn k channel a (Ok q) = attach_by_reply (k.places channel) k.links k.free_handle k.multicast a
+attach_by_turn k channel a (Ok q) = attach_by_reply (k.places channel) k.links k.free_handle a
 attach_by_turn k channel a (Err f) = by f
   where
     by : (f : ConnFault) → IfAttach false k.free_handle (out_of_turn f)

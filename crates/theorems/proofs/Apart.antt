@@ -20,7 +20,7 @@ use Rattle.router_state.specs.Tables.{beat_if}
 use Rattle.state_messages.specs.Messages.{grants_due, with_bound}
 use Rattle.reply_rows.specs.Finding.{finds}
 use Rattle.router_reply.specs.Resuming.{resumed}
-use Rattle.router_reply.specs.Replies.{heard, bound_by, own_row, replied}
+use Rattle.router_reply.specs.Replies.{heard, bound_by, copied_by, own_row, replied}
 use Rattle.router_after.specs.After.{widened}
 use Rattle.reply_rows.specs.Acts.{booked}
 use Rattle.router_core.specs.Replies.{answered, handled}
@@ -33,6 +33,7 @@ use Rattle.router_core.specs.Attaches.{brings_attach}
 use Rattle.state_connections.proofs.Lists.{by_test}
 use Rattle.state_connections.proofs.Turns.{due_none}
 use Rattle.router_core.proofs.Booking.{booked_keeps, booked_same, taken_booked}
+use Rattle.router_core.proofs.Copied.{copied_keeps, copied_same}
 use Rattle.router_core.proofs.Once.{NoTwice, neither, filter_has}
 use Rattle.router_core.proofs.Attachless.{said_to, row_said, less_row, less_windows, Unlinked, Unnamed, unlinked_did, unlinked_goes}
 use Rattle.theorems.proofs.MineLinks.{linkless, Unclaimed, own_finds}
@@ -194,6 +195,9 @@ record Rowed (id : List ℕ) (c : ℕ) (t : List Entry) (s : Step) : Type 0 wher
   before : Unlinked c (heard id t s)
   part : own_part c (replied id t s) ≡ goes (only c (own_row id t (heard id t s) s.event)) (own_part c (Did s ∷ t))
 
+copies_spare : (c : ℕ) (t after : List Entry) (e : Event) (u : List Entry) → Spares u (copied_by t after e u) c
+copies_spare c t after e u = copied_keeps (λ (v : List Entry). Spares u v c) (λ b v s. spares_on u v (with_bound (Some b) v) c s (bound_spares (Some b) v c)) t after e u (spares_self u c)
+
 rowed : (id : List ℕ) (c : ℕ) (t : List Entry) (s : Step) → Fine c t → refuses t s.event ≡ false → is_full (conn t c) ≡ false
     → (comes_up c s.event ≡ true → is_live (conn (Did s ∷ t) c) ≡ true) → (is_about c s.event ≡ true → brings_attach s.event ≡ false) → Rowed id c t s
 rowed id c t s fine taken roomy lives bare =
@@ -205,14 +209,17 @@ rowed id c t s fine taken roomy lives bare =
     in let spare : Spares (Did s ∷ t) u c = heard_spares id t s.event c spared
     in let spare_v : Spares (Did s ∷ t) v c = spares_on (Did s ∷ t) u v c spare (bound_spares bound u c)
     in let before : Unlinked c u = λ o h. spare.link o h ∙ unlinked_did c t s fine.unlinked o h
+    in let put : List Entry = goes row v
+    in let copies : Spares put (replied id t s) c = copies_spare c t u s.event put
     in record {
       ordered = replied_turns id t s.event fine.ordered fine.told taken;
-      eased = eased_goes c row v (eased_bound c bound u (eased_ends id (due t s.event) (Did s ∷ t) c ((spared, lives), fine.eased)));
-      unlinked = row_unlinked id t u v s.event c bare before (λ o h. spare_v.link o h ∙ unlinked_did c t s fine.unlinked o h);
-      unnamed = unnamed_goes c row v (none_row id t u s.event) (λ o n. spare_v.named o n ∙ unnamed_did c t s fine.unnamed o n);
-      unclaimed = unclaimed_goes c row v (λ o n. spare_v.claims o n (unclaimed_did c t s fine.unlinked fine.unclaimed o n));
+      eased = copied_keeps (Eased c) (λ b w h. eased_bound c (Some b) w h) t u s.event put
+          (eased_goes c row v (eased_bound c bound u (eased_ends id (due t s.event) (Did s ∷ t) c ((spared, lives), fine.eased))));
+      unlinked = λ o h. copies.link o h ∙ row_unlinked id t u v s.event c bare before (λ q k. spare_v.link q k ∙ unlinked_did c t s fine.unlinked q k) o h;
+      unnamed = λ o n. copies.named o n ∙ unnamed_goes c row v (none_row id t u s.event) (λ q k. spare_v.named q k ∙ unnamed_did c t s fine.unnamed q k) o n;
+      unclaimed = λ o n. copies.claims o n (unclaimed_goes c row v (λ q k. spare_v.claims q k (unclaimed_did c t s fine.unlinked fine.unclaimed q k)) o n);
       before = before;
-      part = own_goes c row v ∙ ap (goes (only c row)) (own_bound c bound u ∙ own_ends id (due t s.event) (Did s ∷ t) c spared);
+      part = copied_same (own_part c) (λ b w. own_bound c (Some b) w) t u s.event put ∙ own_goes c row v ∙ ap (goes (only c row)) (own_bound c bound u ∙ own_ends id (due t s.event) (Did s ∷ t) c spared);
     }
 
 -- the same once the rows are bound that the event's attach takes up: a binding changes none of it

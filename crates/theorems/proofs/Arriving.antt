@@ -1,4 +1,4 @@
--- What a transfer that is taken causes: a complete message is bound, or released.
+-- What a transfer that is taken causes: a complete message is bound, or released, or rejected on a multicast address.
 use Rattle.std.proofs.Common.{◌≡◌, ◌∙◌, sym, ap, refl, subst, inl, inr, ℕ, Bool, true, false, not, List, [], ◌∷◌, ◌++◌, length}
 use Rattle.std.proofs.lemmas.Bool.{eqb-true}
 use Rattle.std.specs.Prelude.{Option, Some, None, option_map, if◌then◌else◌, nat_lt, unwrap_or}
@@ -19,27 +19,29 @@ use Rattle.book_model.specs.declared.row.Row.{Row}
 use Rattle.book_model.specs.declared.row.RowNumber.{RowNumber}
 use Rattle.router_trace.specs.declared.binding.Binding.{Binding}
 use Rattle.router_trace.specs.declared.binding.Origin.{Origin}
-use Rattle.router_trace.specs.declared.condition.Condition.TheVariants.{MessageSizeExceeded, ResourceLimitExceeded}
+use Rattle.router_trace.specs.declared.condition.Condition.TheVariants.{MessageSizeExceeded, NotImplemented, ResourceLimitExceeded}
 use Rattle.router_trace.specs.declared.event.ConnectionId.{ConnectionId}
 use Rattle.router_trace.specs.declared.event.Event.TheVariants as event
 use Rattle.router_trace.specs.declared.handle.Attachment.{Attachment}
 use Rattle.router_trace.specs.Trace.{Entry, Step, Did, Out, Took, Bound, Booked, Began, goes, each_to}
 use Rattle.router_trace.specs.DeliveryFrames.{kept_outcome, outcome_item}
+use Rattle.router_trace.specs.Frames.{error_of}
 use Rattle.router_trace.specs.Sessions.{theirs}
 use Rattle.router_trace.specs.Claims.{Claim, claims}
 use Rattle.router_trace.specs.Links.{Link, LinkPlace, Happened, link, link_place, durable_key}
 use Rattle.router_trace.specs.Settling.{is_claimed_on, is_of_link, unbound, part_on, part_by, part_of}
-use Rattle.state_messages.specs.Messages.{consumer_of, binding_to, with_bound}
-use Rattle.reply_transfers.specs.Transfers.{claimed_id, from_link, origin_of, lasts_on, may_pass, fresh_bound, join_from, resumed_bound, resumed_put, whole_put, whole_bound, part_put, part_bound, let_go, released_by, released, unbound_put, ignored_put}
+use Rattle.state_messages.specs.Messages.{consumer_of, binding_to}
+use Rattle.router_state.specs.Copying.{goes_to_all}
+use Rattle.reply_transfers.specs.Transfers.{claimed_id, from_link, origin_of, lasts_on, may_pass, fresh_bound, join_from, resumed_bound, resumed_put, whole_put, whole_bound, part_put, part_bound, let_down, let_down_as, let_down_by, let_go, unbound_put, ignored_put}
 use Rattle.reply_transfers.specs.Joining.{row_under}
 use Rattle.reply_rows.specs.Acts.{book_in}
 use Rattle.router_reply.specs.Replies.{row_found}
 use Rattle.theorems.specs.Came.{Handled, just_handled, bound_since, CameWhole, ComesFrom, HasRowOn, JoinsRow}
-use Rattle.theorems.specs.Told.{IsUnbound}
+use Rattle.theorems.specs.Told.{IsUnbound, unbound_state}
 use Rattle.state_connections.proofs.Lists.{by_test}
 use Rattle.theorems.proofs.Claimed.{ClaimedRow, claimed_row}
 use Rattle.theorems.proofs.Tests.{some_same, none_not_some}
-use Rattle.theorems.proofs.Sound.{Sound, Lawful, AllLawful, quiet_lawful, goes_sound, bound_sound, quiet_sound, quiet_to}
+use Rattle.theorems.proofs.Sound.{Sound, Answered, answer_binds, Lawful, AllLawful, quiet_lawful, goes_sound, quiet_sound, quiet_to}
 use Rattle.theorems.proofs.Quiet.{let_go_quiet, ignored_quiet}
 use Rattle.reply_rows.proofs.Transfers.{IsOn}
 
@@ -120,7 +122,7 @@ claimed_is after c own handle (Some k) id h =
     none_some : {n : ℕ} → None ≡ Some n → ⊥
     none_some e = cc
 
--- released
+-- released, or rejected
 
 kept_released : kept_outcome state.Released ≡ state.Released
 kept_released = by (nat_lt 400 (length (state_spelling state.Released)))
@@ -129,10 +131,25 @@ kept_released = by (nat_lt 400 (length (state_spelling state.Released)))
     by true = refl
     by false = refl
 
--- a disposition that releases it
+abbrev refused : DeliveryState
+refused = state.Rejected (record { error = Some (error_of NotImplemented) })
+
+kept_rejected : kept_outcome refused ≡ refused
+kept_rejected = by (nat_lt 400 (length (state_spelling refused)))
+  where
+    by : (b : Bool) → (if b then refused else refused) ≡ refused
+    by true = refl
+    by false = refl
+
+-- what is told of it
+as_told : (to_all : Bool) → kept_outcome (let_down_as to_all) ≡ unbound_state to_all
+as_told false = kept_released
+as_told true = kept_rejected
+
+-- a disposition that says so
 releases : (after : List Entry) (c own handle : ℕ) (d : Told) (payload : List ℕ) (id : ℕ) (durable : Bool) (came : CameWhole after c own handle d payload) → d.resume ≡ false
     → claimed_id after c own handle d.id ≡ Some id → lasts_on (link after c own handle) ≡ durable → IsUnbound after (link after c own handle) (row_found came.handled.found)
-    → Lawful after c (outcome_item own Receiver id (not durable) state.Released)
+    → Lawful after c (outcome_item own Receiver id (not durable) (let_down_as (goes_to_all after (link after c own handle))))
 releases after c own handle d payload id durable came fresh claimed lasts none =
     let is = claimed_is after c own handle d.id id claimed
     in (
@@ -148,18 +165,18 @@ releases after c own handle d payload id durable came fresh claimed lasts none =
           its_id = is.0;
           unsettled = is.1;
           unbound = none;
-          told = ap (λ (s : DeliveryState). Some s) kept_released;
+          told = ap (λ (s : DeliveryState). Some s) (as_told (goes_to_all after (link after c own handle)));
           settled = sym (ap not lasts);
         });
       },
     )
 
 released_lawful : (after : List Entry) (c own handle : ℕ) (d : Told) (payload : List ℕ) (v : Option ℕ) (came : CameWhole after c own handle d payload) → d.resume ≡ false
-    → claimed_id after c own handle d.id ≡ v → IsUnbound after (link after c own handle) (row_found came.handled.found) → AllLawful after (each_to c (released after c own handle v))
+    → claimed_id after c own handle d.id ≡ v → IsUnbound after (link after c own handle) (row_found came.handled.found) → AllLawful after (each_to c (let_down after c own handle v))
 released_lawful after c own handle d payload None came fresh claimed none = tt
 released_lawful after c own handle d payload (Some id) came fresh claimed none = by (lasts_on (link after c own handle)) refl
   where
-    by : (durable : Bool) → lasts_on (link after c own handle) ≡ durable → AllLawful after (each_to c (released_by after c own handle durable id))
+    by : (durable : Bool) → lasts_on (link after c own handle) ≡ durable → AllLawful after (each_to c (let_down_by after c own handle durable (let_down_as (goes_to_all after (link after c own handle))) id))
     by false lasts = (releases after c own handle d payload id false came fresh claimed lasts none, tt)
     by true lasts =
         by_test (nat_lt 1024 (unbound after c own handle))
@@ -174,7 +191,7 @@ from_is after c own handle l d None claimed = claimed
 from_is after c own handle l d (Some id) claimed =
     let is = claimed_is after c own handle d.id id claimed in (refl, is.0, is.1)
 
-none_since : (t : List Entry) (h : Handled) → just_handled t ≡ Some h → bound_since t ≡ 0
+pub none_since : (t : List Entry) (h : Handled) → just_handled t ≡ Some h → bound_since t ≡ 0
 none_since [] h just = refl
 none_since (Did s ∷ t) h just = refl
 none_since (Out c i ∷ t) h just = none_since t h just
@@ -252,7 +269,7 @@ joins_row after c own handle d payload l id r came again at claimed joins =
 
 abbrev ResumedSound : List Entry → ℕ → ℕ → ℕ → Option ℕ → Option Link → Type 0
 ResumedSound after c own handle q v =
-    Sound (goes (each_to c (resumed_put (book_in after) after c own handle q)) (with_bound (resumed_bound (book_in after) after c own handle q v) after))
+    Answered after (each_to c (resumed_put (book_in after) after c own handle q)) (resumed_bound (book_in after) after c own handle q v)
 
 resumed_sound : (after : List Entry) (c own handle : ℕ) (d : Told) (payload : List ℕ) (v : Option Link) (q : Option ℕ) → Sound after → CameWhole after c own handle d payload → d.resume ≡ true
     → link after c own handle ≡ v → claimed_id after c own handle d.id ≡ q → ResumedSound after c own handle q v
@@ -270,7 +287,7 @@ resumed_sound after c own handle d payload v (Some id) sound came again at claim
     by None at None joins = rw joins quiet
     by None at (Some r) joins = rw joins sound
     by (Some l) at None joins = rw joins quiet
-    by (Some l) at (Some r) joins = rw joins (bound_sound (join_from after (from_link c own handle l) id r) after (joins_row after c own handle d payload l id r came again at claimed joins) sound)
+    by (Some l) at (Some r) joins = rw joins (answer_binds (join_from after (from_link c own handle l) id r) after (joins_row after c own handle d payload l id r came again at claimed joins) sound)
 
 -- a complete message, whether its link is attached or not, by whether it may be bound and the consumer chosen for it
 
@@ -281,9 +298,9 @@ bound_on after c own handle d row payload (Some l) passes x =
 
 abbrev WholeSound : List Entry → ℕ → ℕ → ℕ → Told → Option RowNumber → List ℕ → Option Link → Bool → Bool → Option Attachment → Type 0
 WholeSound after c own handle d row payload v resumed passes x =
-    Sound (goes (each_to c (if resumed then resumed_put (book_in after) after c own handle (claimed_id after c own handle d.id)
+    Answered after (each_to c (if resumed then resumed_put (book_in after) after c own handle (claimed_id after c own handle d.id)
     else unbound_put after c own handle (claimed_id after c own handle d.id) (if passes then x else None)))
-    (with_bound (if resumed then resumed_bound (book_in after) after c own handle (claimed_id after c own handle d.id) v else bound_on after c own handle d row payload v passes x) after))
+    (if resumed then resumed_bound (book_in after) after c own handle (claimed_id after c own handle d.id) v else bound_on after c own handle d row payload v passes x)
 
 whole_cases : (after : List Entry) (c own handle : ℕ) (d : Told) (row : Option RowNumber) (payload : List ℕ) (v : Option Link) (resumed passes : Bool) (x : Option Attachment)
     → Sound after → (came : CameWhole after c own handle d payload) → row ≡ row_found came.handled.found → link after c own handle ≡ v → d.resume ≡ resumed
@@ -294,17 +311,17 @@ whole_cases after c own handle d row payload v resumed passes x sound came its a
     claimed : Option ℕ
     claimed = claimed_id after c own handle d.id
 
-    let_off : d.resume ≡ false → IsUnbound after (link after c own handle) (row_found came.handled.found) → Sound (goes (each_to c (released after c own handle claimed)) after)
-    let_off fresh none = goes_sound (each_to c (released after c own handle claimed)) after (released_lawful after c own handle d payload claimed came fresh refl none) sound
+    let_off : d.resume ≡ false → IsUnbound after (link after c own handle) (row_found came.handled.found) → Sound (goes (each_to c (let_down after c own handle claimed)) after)
+    let_off fresh none = goes_sound (each_to c (let_down after c own handle claimed)) after (released_lawful after c own handle d payload claimed came fresh refl none) sound
 
     no_row : may_pass (lasts_on (link after c own handle)) claimed row ≡ false → IsUnbound after (link after c own handle) (row_found came.handled.found)
     no_row may = let is = not_passed (lasts_on (link after c own handle)) claimed row may in inr (is.0, sym its ∙ is.1)
 
     passed : (l : Link) (a : Attachment) → link after c own handle ≡ Some l → d.resume ≡ false → may_pass (lasts_on (link after c own handle)) claimed row ≡ true
         → consumer_of after (link after c own handle) ≡ Some a
-        → Sound (Bound (binding_to after (option_map (origin_of (from_link c own handle l)) claimed) row (unwrap_or d.format 0) payload a) ∷ after)
+        → Answered after [] (Some (binding_to after (option_map (origin_of (from_link c own handle l)) claimed) row (unwrap_or d.format 0) payload a))
     passed l a at fresh may chosen =
-        bound_sound (binding_to after (option_map (origin_of (from_link c own handle l)) claimed) row (unwrap_or d.format 0) payload a) after
+        answer_binds (binding_to after (option_map (origin_of (from_link c own handle l)) claimed) row (unwrap_or d.format 0) payload a) after
         (record {
           conn = c;
           own = own;
@@ -343,21 +360,21 @@ bound_there after c own handle d row payload (Some l) at = refl
 
 whole_sound : (after : List Entry) (c own handle : ℕ) (d : Told) (row : Option RowNumber) (payload : List ℕ) → Sound after → (came : CameWhole after c own handle d payload)
     → row ≡ row_found came.handled.found
-    → Sound (goes (each_to c (whole_put (book_in after) after c own handle d row)) (with_bound (whole_bound (book_in after) after c own handle d row payload) after))
+    → Answered after (each_to c (whole_put (book_in after) after c own handle d row)) (whole_bound (book_in after) after c own handle d row payload)
 whole_sound after c own handle d row payload sound came its =
-    subst (λ (b : Option Binding). Sound (goes (each_to c (whole_put (book_in after) after c own handle d row))
-    (with_bound (if d.resume then resumed_bound (book_in after) after c own handle (claimed_id after c own handle d.id) (link after c own handle) else b) after)))
+    subst (λ (b : Option Binding). Answered after (each_to c (whole_put (book_in after) after c own handle d row))
+    (if d.resume then resumed_bound (book_in after) after c own handle (claimed_id after c own handle d.id) (link after c own handle) else b))
     (sym (bound_there after c own handle d row payload (link after c own handle) refl))
     (whole_cases after c own handle d row payload (link after c own handle) d.resume (may_pass (lasts_on (link after c own handle)) (claimed_id after c own handle d.id) row)
     (consumer_of after (link after c own handle)) sound came its refl refl refl refl)
 
 part_sound : (t after : List Entry) (c own handle : ℕ) (row : Option RowNumber) (q : Option Part) → Sound after → row ≡ row_found t
     → ((d : Told) (payload : List ℕ) → q ≡ Some (part.Whole d payload) → CameAt t after c own handle d payload)
-    → Sound (goes (each_to c (part_put (book_in t) after c own handle row q)) (with_bound (part_bound (book_in t) after c own handle row q) after))
+    → Answered after (each_to c (part_put (book_in t) after c own handle row q)) (part_bound (book_in t) after c own handle row q)
 part_sound t after c own handle row (Some (part.Whole d payload)) sound its came =
     let here = came d payload refl in
     let same : book_in after ≡ book_in t = book_since after here.came.handled here.came.just ∙ ap book_in here.at in
-    subst (λ (b : BookView). Sound (goes (each_to c (whole_put b after c own handle d row)) (with_bound (whole_bound b after c own handle d row payload) after))) same
+    subst (λ (b : BookView). Answered after (each_to c (whole_put b after c own handle d row)) (whole_bound b after c own handle d row payload)) same
     (whole_sound after c own handle d row payload sound here.came (its ∙ sym (ap row_found here.at)))
 part_sound t after c own handle row (Some part.TooLarge) sound its came =
     quiet_sound (each_to c (let_go after c own handle MessageSizeExceeded)) after (quiet_to c (let_go after c own handle MessageSizeExceeded) (let_go_quiet after c own handle MessageSizeExceeded)) sound
@@ -366,8 +383,8 @@ part_sound t after c own handle row _ sound its came = sound
 pub transfer_sound : (t after : List Entry) (s : Step) (conn : ConnectionId) (sasl : Bool) (channel : ℕ) (x : Transfer) (carried : List ℕ) (own handle : ℕ) → Sound after
     → s.event ≡ event.Item conn (item.Frame sasl channel (perf.Transfer x) carried) → just_handled after ≡ Some (record { step = s; found = t })
     → IsOn sasl (theirs t conn.0 channel) (link_place t conn.0 own x.handle) own handle
-    → Sound (goes (each_to conn.0 (part_put (book_in t) after conn.0 own handle (row_found t) (part_of (item.Frame sasl channel (perf.Transfer x) carried) (link_place t conn.0 own))))
-    (with_bound (part_bound (book_in t) after conn.0 own handle (row_found t) (part_of (item.Frame sasl channel (perf.Transfer x) carried) (link_place t conn.0 own))) after))
+    → Answered after (each_to conn.0 (part_put (book_in t) after conn.0 own handle (row_found t) (part_of (item.Frame sasl channel (perf.Transfer x) carried) (link_place t conn.0 own))))
+    (part_bound (book_in t) after conn.0 own handle (row_found t) (part_of (item.Frame sasl channel (perf.Transfer x) carried) (link_place t conn.0 own)))
 transfer_sound t after s conn sasl channel x carried own handle sound came just here =
     part_sound t after conn.0 own handle (row_found t) (part_of (item.Frame sasl channel (perf.Transfer x) carried) (link_place t conn.0 own)) sound refl
     (λ d payload is. came_whole t after s conn sasl channel x carried own handle d payload came just here is)

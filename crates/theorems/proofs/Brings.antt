@@ -20,6 +20,7 @@ use Rattle.reply_rows.specs.declared.answer.Answer.{Answer}
 use Rattle.router_trace.specs.Configuration.{beginning, opened}
 use Rattle.router_trace.specs.Connection.{conn, due}
 use Rattle.router_trace.specs.Deliveries.{outcome_among, outcome_as, acts_found, bound, holds_standing, name_in, is_message, rank_in}
+use Rattle.router_trace.specs.declared.handle.Attachment.{Attachment}
 use Rattle.router_trace.specs.Trace.{Beginning, Trace, Did, Out, Took, Bound, Put, Step, did, step_of, goes, puts, each_to}
 use Rattle.router_trace.specs.declared.binding.Binding.{Binding}
 use Rattle.router_trace.specs.declared.binding.BindingKind.{BindingKind}
@@ -32,7 +33,7 @@ use Rattle.router_trace.specs.declared.binding.TakenUp.{TakenUp}
 use Rattle.router_trace.specs.declared.condition.Condition.TheVariants.{ResourceLimitExceeded}
 use Rattle.router_trace.specs.declared.event.Event.{Event}
 use Rattle.router_trace.specs.declared.event.Event.TheVariants as event
-use Rattle.state_messages.specs.Messages.{lasts, with_bound}
+use Rattle.state_messages.specs.Messages.{copy_to, lasts, with_bound}
 use Rattle.reply_rows.specs.Acts.{event_answer, answer_acts, planned_acts, finds_full, journaled, book_found, book_in, acts_of, booked}
 use Rattle.reply_rows.specs.Asking.{resumed_key}
 use Rattle.router_reply.specs.Replies.{closing_of, ends, heard, bound_by, own_row, replied}
@@ -40,9 +41,10 @@ use Rattle.router_reply.specs.Resuming.{resumed}
 use Rattle.core_machine.specs.Moves.{Move, handles, takes, took_one}
 use Rattle.router_core.specs.Moves.{Goes, IsTrace}
 use Rattle.router_core.specs.Replies.{handled}
+use Rattle.router_core.proofs.Copied.{copies_keep}
 use Rattle.router_core.proofs.Following.{all_keep}
 use Rattle.theorems.specs.Admitted.{IsAdmittedUnder}
-use Rattle.theorems.specs.Came.{last_found, TakesUp, IsOutcomeThen, BringsItsOutcome, HoldsRow, JoinsRow, SettlesRow, BindsAs, BindsByKind}
+use Rattle.theorems.specs.Came.{last_found, TakesUp, IsOutcomeThen, BringsItsOutcome, HoldsRow, JoinsRow, SettlesRow, BindsAs}
 use Rattle.theorems.specs.Each.{EachBound}
 use Rattle.theorems.proofs.Admitted.{is_taken_up, bound_not_taken, bound_row, bound_lasting as bound_lasting_as}
 use Rattle.theorems.proofs.AllSound.{acted_sound, event_binds, handled_sound}
@@ -173,7 +175,7 @@ held_brings u b q to is binds was = record {
 
 -- what an event binds before that: a message, or a row that its producer's delivery joins
 abbrev Fresh : Trace → Binding → Type 0
-Fresh t x = (is_message x.kind ≡ true → (x.lasting ≡ lasts t x.consumer) × IsAdmittedUnder t x x.row) × BindsByKind t x × (is_taken_up x.kind ≡ false)
+Fresh t x = (is_message x.kind ≡ true → (x.lasting ≡ lasts t x.consumer) × IsAdmittedUnder t x x.row) × BindsAs x.kind t x × (is_taken_up x.kind ≡ false)
 
 clash : true ≡ false → ⊥
 clash e = cc
@@ -207,6 +209,21 @@ bound_brings (Some b) t fresh was = record {
     by (kind.Joined (holding.Settled a) to) is new r named =
         held_lasts t b (holding.Settled a) (subst (λ (k : BindingKind). BindsAs k t b) is (fresh b refl).1) ordered new r named
 
+-- a copy has no row
+copy_brings : (u : Trace) (format : ℕ) (payload : List ℕ) (a : Attachment) → Brings u → Brings (Bound (copy_to u format payload a) ∷ u)
+copy_brings u format payload a was = record {
+  book = was.book;
+  brings = (λ takes. absurd (clash (sym (ap is_taken_up takes.taken))), was.brings);
+  right = (
+    record {
+      durable = λ takes. absurd (clash (sym (ap is_taken_up takes.taken)));
+      producer = λ p joins. joined_role u (copy_to u format payload a) p joins (sound_is_ordered (book_in u) was.book) was.book;
+    },
+    was.right,
+  );
+  lasting = bound_lasting (copy_to u format payload a) u (λ new r named. absurd (none_not_some named)) was.lasting;
+}
+
 booked_brings : (t : Trace) (e : Event) → Brings t → Brings (booked t e)
 booked_brings t e was =
     let ordered : IsOrdered (book_in t) = sound_is_ordered (book_in t) was.book in
@@ -234,8 +251,8 @@ handled_brings id t s sound was =
     let u : Trace = heard id at s in
     let b : Option Binding = bound_by at u s.event in
     let came : Brings u = ends_brings id (due t s.event) (Did s ∷ at) (did_brings s at (booked_brings t s.event was)) in
-    let rows : Brings (replied id at s) = goes_brings (own_row id at u s.event) (with_bound b u)
-    (bound_brings b u (λ x is. (λ message. (bound_lasting_as id t s.event x is message, bound_row id t s.event x is message), event_binds id at s x sound is, bound_not_taken id t s.event x is)) came) in
+    let rows : Brings (replied id at s) = copies_keep Brings copy_brings at u s.event (goes (own_row id at u s.event) (with_bound b u)) (goes_brings (own_row id at u s.event) (with_bound b u)
+    (bound_brings b u (λ x is. (λ message. (bound_lasting_as id t s.event x is message, bound_row id t s.event x is message), event_binds id at s x sound is, bound_not_taken id t s.event x is)) came)) in
     all_keep Brings goes_brings (resumed at s.event (replied id at s))
     (resumed_takes Brings at s.event (replied id at s) (λ v x takes known held. taken_brings id t s v x takes was known held)
     (λ v x q to is quiet binds book before. held_brings v x q to is binds before) (replied_found id at s) (replied_book id at s) rows)

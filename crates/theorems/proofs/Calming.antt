@@ -21,6 +21,7 @@ use Rattle.router_core.specs.Moves.{Goes}
 use Rattle.core_machine.specs.Moves.{Move, handles, takes}
 use Rattle.theorems.specs.Takes.{untaken}
 use Rattle.router_core.proofs.Booking.{booked_keeps, booked_same}
+use Rattle.router_core.proofs.Copied.{copied_keeps}
 use Rattle.router_core.proofs.Following.{all_keep}
 use Rattle.router_core.proofs.Resuming.{resumed_keeps}
 use Rattle.theorems.proofs.Plain.{Calm, stood}
@@ -64,8 +65,10 @@ answered_before : (id : List ℕ) (t : List Entry) (s : Step) → Calm (answered
 answered_before id t s calm =
     let u : List Entry = heard id t s
     in let behind : Calm (replied id t s) = resumed_before t s.event (replied id t s) (followed_before (resumed t s.event (replied id t s)) calm)
+    in let put : List Entry = goes (own_row id t u s.event) (with_bound (bound_by t u s.event) u)
+    in let copied : Calm put = copied_keeps (λ (v : List Entry). Calm v → Calm put) (λ b v before calm. before (bound_before (Some b) v calm)) t u s.event put (λ calm. calm) behind
     in ends_before id (due t s.event) (Did s ∷ t)
-    (bound_before (bound_by t u s.event) u (goes_before (own_row id t u s.event) (with_bound (bound_by t u s.event) u) behind))
+    (bound_before (bound_by t u s.event) u (goes_before (own_row id t u s.event) (with_bound (bound_by t u s.event) u) copied))
 
 pub handled_before : (id : List ℕ) (t : List Entry) (s : Step) → Calm (handled id t s) → ((c : ℕ) → is_full (conn t c) ≡ false) × Calm t
 handled_before id t s calm =

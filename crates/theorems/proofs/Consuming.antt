@@ -59,7 +59,7 @@ by_view t address id a (Some l) at there e =
     (λ is. record { at = l; there = there; number = eqb-true l.number id is ∙ sym (number_is t id a at); way = by_happened t address l l.happened (rw is at e) })
     (λ is. absurd (clash (sym (rw is at e))))
 
-by_number : (t : Trace) (address : List ℕ) (id : ℕ) (a : Attachment) → numbered t id ≡ Some a → is_some (offer_at address (figure t id)) ≡ true → Sends t a
+pub by_number : (t : Trace) (address : List ℕ) (id : ℕ) (a : Attachment) → numbered t id ≡ Some a → is_some (offer_at address (figure t id)) ≡ true → Sends t a
 by_number t address id a at e = by_view t address id a (link_of t a) at refl (ap (λ (v : Option Attachment). is_some (offer_at address (figure_at t id v))) (sym at) ∙ e)
 
 offers : (t : Trace) (address : List ℕ) (id : ℕ) → choice (pool_of t address) ≡ Some id → is_some (offer_at address (figure t id)) ≡ true

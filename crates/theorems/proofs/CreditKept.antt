@@ -25,6 +25,7 @@ use Rattle.core_machine.specs.Moves.{took_one}
 use Rattle.router_core.specs.Moves.{Goes, IsTrace}
 use Rattle.core_machine.specs.Moves.{Move, handles, takes}
 use Rattle.theorems.specs.Credit.{credit_left, unless_going_on, starts_within, within_credit, WithinCredit}
+use Rattle.router_core.proofs.Copied.{copied_keeps}
 use Rattle.router_core.proofs.Due.{Takes, AllSent, sends_sent}
 use Rattle.router_core.proofs.Following.{Steps, passed_on, passed_keeps}
 use Rattle.router_core.proofs.Resuming.{resumed_keeps}
@@ -104,7 +105,8 @@ answered_within id t s within =
     let u : List Entry = heard id t s
     in let behind : WithinCredit u = ends_within id (due t s.event) (Did s ∷ t) within
     in let rows : WithinCredit (replied id t s)
-    = bare_goes (own_row id t u s.event) (with_bound (bound_by t u s.event) u) (none_row id t u s.event) (bound_within (bound_by t u s.event) u behind)
+    = copied_keeps WithinCredit (λ b v w. bound_within (Some b) v w) t u s.event (goes (own_row id t u s.event) (with_bound (bound_by t u s.event) u))
+    (bare_goes (own_row id t u s.event) (with_bound (bound_by t u s.event) u) (none_row id t u s.event) (bound_within (bound_by t u s.event) u behind))
     in let next : List Entry = resumed t s.event (replied id t s)
     in let all : WithinCredit (passed_on next)
     = passed_keeps WithinCredit passed_within next (resumed_keeps WithinCredit (λ b v w. bound_within (Some b) v w) t s.event (replied id t s) rows)

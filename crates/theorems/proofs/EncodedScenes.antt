@@ -28,6 +28,7 @@ use Rattle.core_player.specs.declared.script.Step.TheVariants as step
 use Rattle.router_core.specs.Replies.{handled}
 use Rattle.router_core.proofs.Booking.{booked_keeps}
 use Rattle.router_core.proofs.Books.{started_handled}
+use Rattle.router_core.proofs.Copied.{copied_keeps}
 use Rattle.router_core.proofs.Following.{all_keep}
 use Rattle.router_core.proofs.Resuming.{resumed_keeps}
 use Rattle.router_play.specs.Script.{Scene, refused, say, say_all, out_line, with_socket, with_trace, stream_of, hand, judged_by, enter_at, enter_by, enter, enter_all, Reads, BytesCome, new_socket, made, make, told, lose_by, lose, Takes, is_last, close_if, take_one, take_all, Plays}
@@ -69,7 +70,8 @@ handled_encoded id t s came was = all_keep FramesAreEncoded goes_encoded (resume
     here = ends_encoded id (due t e) (Did s ∷ at) (came, booked_keeps FramesAreEncoded t e (λ acts w. w) was)
 
     rows : FramesAreEncoded (replied id at s)
-    rows = goes_encoded (own_row id at u e) (with_bound (bound_by at u e) u) (bound_encoded (bound_by at u e) u here)
+    rows = copied_keeps FramesAreEncoded (λ b v w. w) at u e (goes (own_row id at u e) (with_bound (bound_by at u e) u))
+        (goes_encoded (own_row id at u e) (with_bound (bound_by at u e) u) (bound_encoded (bound_by at u e) u here))
 
     taken : FramesAreEncoded (resumed at e (replied id at s))
     taken = resumed_keeps FramesAreEncoded (λ b v w. w) at e (replied id at s) rows

@@ -33,7 +33,7 @@ use Rattle.router_after.specs.After.{followed}
 use Rattle.reply_rows.specs.Rows.{said}
 use Rattle.reply_transfers.specs.Transfers.{part_put, settled_answers}
 use Rattle.router_reply.specs.Resuming.{resumed}
-use Rattle.router_reply.specs.Replies.{closing_of, ends, heard, stolen_by, refused, bound_by, item_row, own_row, replied}
+use Rattle.router_reply.specs.Replies.{closing_of, ends, heard, stolen_by, refused, bound_by, copied_by, item_row, own_row, replied}
 use Rattle.reply_rows.specs.Acts.{answer_of, book_in, booked}
 use Rattle.router_core.specs.Replies.{answered, handled}
 use Rattle.core_machine.specs.Moves.{waiting_of, took_one}
@@ -46,6 +46,7 @@ use Rattle.state_connections.proofs.Turns.{due_none}
 use Rattle.router_core.proofs.Attachless.{Unlinked}
 use Rattle.router_core.proofs.Booking.{booked_keeps, taken_booked}
 use Rattle.router_core.proofs.Coming.{ins_answered}
+use Rattle.router_core.proofs.Copied.{copied_keeps, copied_same}
 use Rattle.router_core.proofs.Due.{AllOnLinks, tells_on, sends_on, drains_on, grants_on}
 use Rattle.router_core.proofs.Following.{Steps, passed_on, passed_keeps, all_keep}
 use Rattle.router_core.proofs.ItemRows.{item_cases}
@@ -269,13 +270,17 @@ first_followed t c h = all_keep (λ (u : List Entry). HeaderFirst (outs u c)) (�
 first_resumed : (t : List Entry) (e : Event) (u : List Entry) (c : ℕ) → HeaderFirst (outs u c) → HeaderFirst (outs (resumed t e u) c)
 first_resumed t e u c h = resumed_keeps (λ (v : List Entry). HeaderFirst (outs v c)) (λ b v first. first) t e u h
 
+first_copied : (t after : List Entry) (e : Event) (u : List Entry) (c : ℕ) → HeaderFirst (outs u c) → HeaderFirst (outs (copied_by t after e u) c)
+first_copied t after e u c h = copied_keeps (λ (v : List Entry). HeaderFirst (outs v c)) (λ b v first. first) t after e u h
+
 first_answered : (id : List ℕ) (t : List Entry) (e : Event) (c : ℕ) → HeaderFirst (outs t c) → HeaderFirst (outs (answered id t (step_of e)) c)
 first_answered id t e c h =
     let u : List Entry = heard id t (step_of e)
     in first_followed (resumed t e (replied id t (step_of e))) c
     (first_resumed t e (replied id t (step_of e)) c
+    (first_copied t u e (goes (own_row id t u e) (with_bound (bound_by t u e) u)) c
     (first_goes (own_row id t u e) (with_bound (bound_by t u e) u) c
-    (subst (λ (is : List Item). HeaderFirst is) (sym (bound_outs (bound_by t u e) u c)) (first_ends id (due t e) (did e ∷ t) c h))))
+    (subst (λ (is : List Item). HeaderFirst is) (sym (bound_outs (bound_by t u e) u c)) (first_ends id (due t e) (did e ∷ t) c h)))))
 
 silent_heard : (id : List ℕ) (t : List Entry) (e : Event) (c : ℕ) → outs t c ≡ [] → outs (heard id t (step_of e)) c ≡ []
 silent_heard id t e c h = (ends_spares id (due t e) (did e ∷ t) c (not_due t e c h)).outs ∙ h
@@ -289,7 +294,8 @@ silent_answered id t e c ord next came h =
     in let behind : List Entry = passed_on w
     in let none : outs u c ≡ [] = silent_heard id t e c h
     in let rows : outs (replied id t (step_of e)) c ≡ []
-    = (goes_spares (own_row id t u e) v c (own_without id t u e c ord none came)).outs ∙ bound_outs (bound_by t u e) u c ∙ none
+    = copied_same (λ (x : List Entry). outs x c) (λ b x. refl) t u e (goes (own_row id t u e) v)
+    ∙ (goes_spares (own_row id t u e) v c (own_without id t u e c ord none came)).outs ∙ bound_outs (bound_by t u e) u c ∙ none
     in let taken : outs w c ≡ [] = resumed_same (λ (x : List Entry). outs x c) (λ b x. refl) t e (replied id t (step_of e)) ∙ rows
     in let passed : Mute c behind
     = passed_keeps (Mute c) (mute_steps c) w (record { ordered = resumed_turns t e (replied id t (step_of e)) next; none = taken })
@@ -334,8 +340,9 @@ first_item id t d i ord taken none is =
     in let v : List Entry = with_bound (bound_by t u e) u
     in first_followed (resumed t e (replied id t (step_of e))) d.0
     (first_resumed t e (replied id t (step_of e)) d.0
+    (first_copied t u e (goes (own_row id t u e) v) d.0
     (subst (λ (ps : List Put). HeaderFirst (outs (goes ps v) d.0)) (sym row)
-    (put_first (outs v d.0) (d.0 == d.0) (eq-eqb d.0 d.0 refl) (bound_outs (bound_by t u e) u d.0 ∙ silent_heard id t e d.0 none))))
+    (put_first (outs v d.0) (d.0 == d.0) (eq-eqb d.0 d.0 refl) (bound_outs (bound_by t u e) u d.0 ∙ silent_heard id t e d.0 none)))))
   where
     put_first : (is : List Item) (b : Bool) → b ≡ true → is ≡ [] → HeaderFirst (if b then is ++ header_item ∷ [] else is)
     put_first is b e h = rw (e, h) refl

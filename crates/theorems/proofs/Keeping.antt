@@ -58,6 +58,7 @@ use Rattle.core_machine.specs.Moves.{Move, handles, takes}
 use Rattle.router_core.specs.Replies.{handled}
 use Rattle.core_machine.specs.Moves.{took_one}
 use Rattle.router_core.proofs.Attachless.{Attachless, less_closing_of, less_said, on_less, less_row, less_windows}
+use Rattle.router_core.proofs.Copied.{copied_keeps}
 use Rattle.router_core.proofs.Due.{tells_on, sends_on, drains_on, grants_on}
 use Rattle.router_core.proofs.Following.{Steps, passed_on, passed_keeps}
 use Rattle.router_core.proofs.Replied.{FoundLive, found_live}
@@ -475,7 +476,9 @@ handled_kept id t s was =
     let at : List Entry = booked t s.event in
     let u : List Entry = heard id at s in
     let b : Option Binding = bound_by at u s.event in
-    let rows : Kept (replied id at s) = row_kept id t s s.event refl b (bound_kept b u (ends_kept id (due t s.event) (Did s ∷ at) was)) in
+    let rows : Kept (replied id at s) =
+    copied_keeps Kept (λ x v kept. kept) at u s.event (goes (own_row id at u s.event) (with_bound b u))
+    (row_kept id t s s.event refl b (bound_kept b u (ends_kept id (due t s.event) (Did s ∷ at) was))) in
     let resumes : List Entry = resumed at s.event (replied id at s) in
     let behind : List Entry = passed_on resumes in
     goes_kept (windows behind) behind (less_windows behind)

@@ -1,7 +1,7 @@
 -- In every trace of the router in which no event is declined, the outcome of a delivery with a row stands in the book before it is told, and each row is decided
 -- at most once.
 use Rattle.std.proofs.Common.{◌≡◌, ◌∙◌, sym, ap, refl, subst, ◌⊎◌, inl, inr, ℕ, ◌+◌, ◌≤◌, ◌<◌, ◌^◌, ◌||◌, Bool, true, false, List, [], ◌∷◌, ◌++◌, arith}
-use Rattle.std.specs.Prelude.{Option, Some, None, is_none, option_map, map, if◌then◌else◌}
+use Rattle.std.specs.Prelude.{Option, Some, None, is_none, option_map, map, if◌then◌else◌, unwrap_or}
 use Rattle.amqp_model.specs.declared.perf.Attach.{Attach as AnAttach}
 use Rattle.amqp_model.specs.declared.perf.Perf.{Perf}
 use Rattle.amqp_model.specs.declared.perf.Perf.TheVariants as perf
@@ -33,7 +33,7 @@ use Rattle.router_trace.specs.Clocks.{terms, written, needs_beat}
 use Rattle.router_trace.specs.Refusing.{refuses}
 use Rattle.router_trace.specs.DeliveryFrames.{kept_outcome}
 use Rattle.router_trace.specs.Deliveries.{Delivery, bindings, counters, delivery, outcome_as, outcome_or}
-use Rattle.router_trace.specs.Links.{link_place, free_handle}
+use Rattle.router_trace.specs.Links.{link, link_place, free_handle}
 use Rattle.router_trace.specs.Peers.{largest_frame}
 use Rattle.router_trace.specs.Sessions.{theirs}
 use Rattle.router_trace.specs.Settling.{part_of}
@@ -46,7 +46,7 @@ use Rattle.router_state.specs.Tables.{beat_if, beats_over}
 use Rattle.reply_rows.specs.Acts.{live_answer, finds_full, journaled, book_in, acts_of, booked, answer_of}
 use Rattle.reply_rows.specs.Deciding.{ended_by, lost}
 use Rattle.router_reply.specs.Resuming.{resumed}
-use Rattle.router_reply.specs.Replies.{closing_of, ends, heard, map_told, bound_for, item_put, item_bound, item_row, bound_by, own_row, replied_after, replied}
+use Rattle.router_reply.specs.Replies.{closing_of, ends, heard, map_told, bound_for, item_put, item_bound, item_row, bound_by, copied_by, own_row, replied_after, replied}
 use Rattle.router_core.specs.declared.driving.Sent.{Sent}
 use Rattle.router_core.specs.Moves.{Goes, IsTrace}
 use Rattle.core_machine.specs.Moves.{Move, handles, takes}
@@ -56,6 +56,7 @@ use Rattle.core_machine.specs.Moves.{Taking, took_one}
 use Rattle.core_machine.specs.Turns.{is_out_of_turn, is_started, declines}
 use Rattle.router_core.proofs.Booking.{booked_keeps}
 use Rattle.router_core.proofs.Books.{started_handled}
+use Rattle.router_core.proofs.Copied.{CopyStep, all_copied, copied_alone, copied_keeps, copied_takes, made}
 use Rattle.router_core.proofs.Following.{all_keep}
 use Rattle.router_core.proofs.Resuming.{resumed_keeps}
 use Rattle.theorems.specs.Carried.{HasSmallNumbers}
@@ -83,13 +84,14 @@ use Rattle.theorems.proofs.Keeps.{Kept, Ahead, PlainPut, plain_both, plain_goes,
 use Rattle.theorems.proofs.Once.{Decides, decides_once}
 use Rattle.theorems.proofs.Held.{can_have}
 use Rattle.theorems.proofs.Resumed.{ends_book, resumed_takes, replied_book, replied_found}
+use Rattle.theorems.proofs.Copying.{copy_sends}
 use Rattle.theorems.proofs.Giving.{IsKept, given_kept}
 use Rattle.theorems.proofs.Facts.{KeptAs}
 use Rattle.theorems.proofs.KeptForm.{kept_form, kept_again}
 use Rattle.theorems.proofs.Rows.{Rows, no_rows, start_rows, opened_rows, handled_rows, took_rows, cut_rows}
-use Rattle.theorems.proofs.Rowing.{Holds, MayBind, bound_kept, Receives, plain_row, disposed_row, taken_row, taken_up_kept}
+use Rattle.theorems.proofs.Rowing.{Holds, MayBind, bound_kept, copy_kept, Receives, plain_row, disposed_row, taken_row, taken_up_kept}
 use Rattle.theorems.proofs.Sound.{Sound, none_sound, opened_sound, sound_start, did_sound, took_sound, batch_sound}
-use Rattle.theorems.proofs.Standing.{began_standing, booked_standing}
+use Rattle.theorems.proofs.Standing.{Sends, began_standing, booked_standing}
 use Rattle.theorems.proofs.Tests.{none_not_some}
 use Rattle.reply_rows.proofs.Transfers.{IfTaken, transfer_taken}
 
@@ -198,7 +200,7 @@ beats_plain t now (c ∷ cs) =
 
 event_rows : (id : List ℕ) (t : Trace) (s : Step) (e : Event) → s.event ≡ e → MayBind (ends id (due t e) (Did s ∷ booked t e)) (bound_by (booked t e) (ends id (due t e) (Did s ∷ booked t e)) e)
     → Kept (ends id (due t e) (Did s ∷ booked t e)) (answer_rest t e) → Kept (replied_after id (booked t e) (ends id (due t e) (Did s ∷ booked t e)) e) []
-event_rows id t s (event.Item from i) is may was = by (standing (found t e from.0)) refl may was
+event_rows id t s (event.Item from i) is may was = copied_takes (λ (w : Trace). Kept w []) at u e put copied (by (standing (found t e from.0)) refl may was)
   where
     e : Event
     e = event.Item from i
@@ -211,6 +213,17 @@ event_rows id t s (event.Item from i) is may was = by (standing (found t e from.
 
     full : Bool
     full = finds_full (journaled t) t e
+
+    put : Trace
+    put = goes (own_row id at u e) (with_bound (bound_by at u e) u)
+
+    -- a copy goes to a link on which the router sends
+    copied : CopyStep at u e put (λ (w : Trace). Kept w [])
+    copied x before a later copies now =
+        copy_kept (made x before put) (unwrap_or x.message.format 0) x.payload a
+        (all_copied (λ (w : Trace). Sends w a) (λ b w sends. record { at = sends.at; there = sends.there; number = sends.number; way = sends.way }) (unwrap_or x.message.format 0) x.payload before put
+        (subst (λ (w : Trace). Sends w a) (sym (copied_alone id at u e x before a later copies)) (copy_sends u (link u x.conn.0 x.own x.handle) before a later copies)))
+        now
 
     by : (v : Option Conn) → standing (found t e from.0) ≡ v → MayBind u (item_bound at u from.0 i v) → Kept u (ended_by t from.0 i (live_answer full (book_in t) t from.0 i v))
         → Kept (goes (item_row id at u from.0 i v) (with_bound (item_bound at u from.0 i v) u)) []
@@ -310,12 +323,15 @@ ends_small id (c ∷ cs) w small =
     let items : List Item = closing_of id (conn w c) ResourceLimitExceeded in
     small_before (each_to c items) w (ends_small id cs (puts c items w) small)
 
+copied_small : (at u : Trace) (e : Event) (w : Trace) → HasSmallNumbers (copied_by at u e w) → HasSmallNumbers w
+copied_small at u e w = copied_keeps (λ (v : Trace). HasSmallNumbers v → HasSmallNumbers w) (λ b v before small. before (bound_small (Some b) v small)) at u e w (λ small. small)
+
 replied_small : (id : List ℕ) (t : Trace) (s : Step) → HasSmallNumbers (replied id (booked t s.event) s) → HasSmallNumbers t
 replied_small id t s small =
     let at : Trace = booked t s.event in
     let u : Trace = heard id at s in
     let b : Option Binding = bound_by at u s.event in
-    ends_small id (due t s.event) (Did s ∷ at) (bound_small b u (small_before (own_row id at u s.event) (with_bound b u) small))
+    ends_small id (due t s.event) (Did s ∷ at) (bound_small b u (small_before (own_row id at u s.event) (with_bound b u) (copied_small at u s.event (goes (own_row id at u s.event) (with_bound b u)) small)))
 
 -- the book has of a row that is taken up what its binding brings
 brought_holds : (o how now : Option DeliveryState) (theirs : Option DeliveryState → Option DeliveryState) → ((s : DeliveryState) → theirs None ≡ Some s → IsKept s)
@@ -553,7 +569,9 @@ handled_once first id t s was =
     let b : Option Binding = bound_by at u s.event in
     let came : Once first u = ends_once first id (due t s.event) (Did s ∷ at) (did_once first s at (booked_once first t s.event was)) in
     all_keep (Once first) (goes_once first) (resumed at s.event (replied id at s))
-    (resumed_keeps (Once first) (λ x v. bound_once first (Some x) v) at s.event (replied id at s) (goes_once first (own_row id at u s.event) (with_bound b u) (bound_once first b u came)))
+    (resumed_keeps (Once first) (λ x v. bound_once first (Some x) v) at s.event (replied id at s)
+    (copied_keeps (Once first) (λ x v. bound_once first (Some x) v) at u s.event (goes (own_row id at u s.event) (with_bound b u))
+    (goes_once first (own_row id at u s.event) (with_bound b u) (bound_once first b u came))))
 
 pub none_once : Once empty_book []
 none_once = record { ordered = empty_ordered; once = λ n. record { once = zero_one; waits = λ might. refl; before = λ shut. refl }; stays = λ n shut. shut }

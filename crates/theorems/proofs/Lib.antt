@@ -116,6 +116,8 @@ pub mod Apart
 -- Pieces.
 pub mod Calming
 pub mod Courses
+pub mod Copying
+pub mod CopiedAll
 pub mod Shadows
 pub mod Shadowing
 pub mod Streaming

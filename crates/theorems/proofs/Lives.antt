@@ -7,6 +7,7 @@ use Rattle.router_trace.specs.Configuration.{opened}
 use Rattle.reply_rows.specs.Acts.{book_in, booked}
 use Rattle.core_machine.specs.Moves.{Move}
 use Rattle.router_core.proofs.Booking.{booked_keeps}
+use Rattle.theorems.specs.Came.{CopiesAreForAll, start}
 use Rattle.theorems.specs.Carried.{HasSmallNumbers}
 use Rattle.theorems.specs.Credit.{WithinCredit}
 use Rattle.theorems.specs.Each.{EachOut}
@@ -18,6 +19,7 @@ use Rattle.theorems.specs.OwnRow.{TellsItsOwnRow}
 use Rattle.theorems.specs.Windows.{WindowKept}
 use Rattle.theorems.proofs.AllSound.{moves_sound}
 use Rattle.theorems.proofs.Brings.{Brings, no_brings, opened_brings, moves_brings, cut_brings}
+use Rattle.theorems.proofs.CopiedAll.{cut_made, moves_made, opened_made}
 use Rattle.theorems.proofs.CreditKept.{moves_within}
 use Rattle.theorems.proofs.Keeping.{moves_kept}
 use Rattle.theorems.proofs.KeptFirst.{Past, no_past, moves_past, cut_past, Once, none_once, opened_once, moves_once, cut_once}
@@ -52,15 +54,20 @@ lives_keep_links_first =
 
 -- (what the pass over moves carries)
 abbrev Passed : Trace → Type 0
-Passed t = Rows t × Sound t × Brings t × Mapped t
+Passed t = Rows t × Sound t × Brings t × Mapped t × CopiesAreForAll t
 
 lives_all : InLives Passed
 lives_all =
-    lives_keep Passed (λ g below book was. (opened_rows g below book was.0, opened_sound g below was.1, opened_brings g below book was.2, was.3))
-    (λ id ms t u was went. let led = goes id ms t u went in
-    (moves_rows id ms t u was.0 led, moves_sound id ms t u was.0 was.1 led, moves_brings id ms t u was.0 was.1 was.2 led, moves_mapped id ms t u was.0 was.1 was.2 was.3 led))
-    (λ t e was. (cut_rows t e was.0, did_sound (step_of e) (booked t e) (booked_keeps Sound t e (λ acts w. batch_sound t acts w) was.1), cut_brings t e was.2, was.3))
-    (no_rows, none_sound, no_brings, tt)
+    lives_keep Passed (λ g below book was. (opened_rows g below book was.0, opened_sound g below was.1, opened_brings g below book was.2, was.3, opened_made g below was.4))
+    (λ id ms t u was went. let led = goes id ms t u went in (
+      moves_rows id ms t u was.0 led,
+      moves_sound id ms t u was.0 was.1 led,
+      moves_brings id ms t u was.0 was.1 was.2 led,
+      moves_mapped id ms t u was.0 was.1 was.2 was.3 led,
+      moves_made id ms t u was.0 was.1 was.4 led,
+    ))
+    (λ t e was. (cut_rows t e was.0, did_sound (step_of e) (booked t e) (booked_keeps Sound t e (λ acts w. batch_sound t acts w) was.1), cut_brings t e was.2, was.3, cut_made t e was.4))
+    (no_rows, none_sound, no_brings, tt, start)
 
 pub lives_rows : InLives Rows
 lives_rows id lives u all = (lives_all id lives u all).0
@@ -73,6 +80,9 @@ lives_brings id lives u all = (lives_all id lives u all).2
 
 pub lives_mapped : InLives (EachOut MapIsOfBook)
 lives_mapped id lives u all = (lives_all id lives u all).3
+
+pub lives_copied : InLives CopiesAreForAll
+lives_copied id lives u all = (lives_all id lives u all).4
 
 pub lives_once : InLives RowsAreDecidedOnce
 lives_once = λ id lives u all.

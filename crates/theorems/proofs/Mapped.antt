@@ -63,6 +63,7 @@ use Rattle.router_core.specs.Moves.{Goes, IsTrace}
 use Rattle.core_machine.specs.Moves.{Move, handles, takes, took_one}
 use Rattle.router_core.specs.Replies.{handled}
 use Rattle.router_core.proofs.Attachless.{Attachless, less_closing_of, less_said, on_less, less_row, less_windows}
+use Rattle.router_core.proofs.Copied.{copied_keeps}
 use Rattle.router_core.proofs.Due.{tells_on, sends_on, drains_on, grants_on}
 use Rattle.router_core.proofs.Following.{Steps, passed_on, passed_keeps}
 use Rattle.router_core.proofs.Resuming.{resumed_keeps}
@@ -597,7 +598,8 @@ handled_mapped id t s brings was =
     let u : Trace = heard id at s in
     let b : Option Binding = bound_by at u s.event in
     let rows : Mapped (replied id at s) =
-    row_mapped id t s s.event refl b brings (bound_mapped b u (ends_mapped id (due t s.event) (Did s ∷ at) was)) in
+    copied_keeps Mapped (λ x v kept. kept) at u s.event (goes (own_row id at u s.event) (with_bound b u))
+    (row_mapped id t s s.event refl b brings (bound_mapped b u (ends_mapped id (due t s.event) (Did s ∷ at) was))) in
     let resumes : Trace = resumed at s.event (replied id at s) in
     let behind : Trace = passed_on resumes in
     goes_mapped (windows behind) behind (less_windows behind)

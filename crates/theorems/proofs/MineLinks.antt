@@ -7,13 +7,11 @@ use Rattle.router_trace.specs.declared.handle.PeerHandle.{PeerHandle}
 use Rattle.router_trace.specs.declared.event.Event.{Event}
 use Rattle.router_trace.specs.declared.event.Event.TheVariants as event
 use Rattle.router_trace.specs.Trace.{Entry, Did, Out, Took, Bound, Booked, Began}
-use Rattle.route_table.specs.Places.{distribution_of}
-use Rattle.router_trace.specs.Configuration.{routing, is_multicast}
 use Rattle.router_trace.specs.Links.{asked, asked_at, is_lost, answers_by, answered_handle, their_handle_at, their_handle_after, their_handle, link_place_by, handle_max_at, told_handle_max, most_after, highest_handle, is_free_handle, first_free_below, free_handle}
 use Rattle.router_trace.specs.Claims.{claims}
 use Rattle.router_trace.specs.Sessions.{unless_close, place}
 use Rattle.reply_rows.specs.Rows.{Finds}
-use Rattle.reply_rows.specs.Finding.{finds, free_for, multicast_of}
+use Rattle.reply_rows.specs.Finding.{finds, free_for}
 use Rattle.theorems.specs.Alone.{is_about, own_part}
 use Rattle.state_connections.proofs.Lists.{by_test}
 use Rattle.router_core.proofs.Attachless.{Unlinked}
@@ -116,15 +114,6 @@ own_free_handle : (t : List Entry) (c o : ℕ) → free_handle t c o ≡ free_ha
 unfolding free_handle
 own_free_handle t c o = λ j. first_free_below 64 (is_free_handle (unwrap_or (own_highest t c o j) 63) (λ h. own_answers t c o h j)) 0
 
-own_routing : (t : List Entry) (c : ℕ) → routing t ≡ routing (own_part c t)
-own_routing [] c = refl
-own_routing (Did s ∷ t) c = by_test (is_about c s.event) (λ e. rw e (own_routing t c)) (λ e. rw e (own_routing t c))
-own_routing (Out d i ∷ t) c = by_test (d == c) (λ e. rw e (own_routing t c)) (λ e. rw e (own_routing t c))
-own_routing (Took d n ∷ t) c = own_routing t c
-own_routing (Bound b ∷ t) c = own_routing t c
-own_routing (Booked acts full ∷ t) c = own_routing t c
-own_routing (Began g ∷ t) c = refl
-
 -- what an item finds on a connection without links
 abbrev pub linkless : List Entry → ℕ → Finds
 linkless t c = record {
@@ -133,7 +122,6 @@ linkless t c = record {
   links = λ o p. link_place_by (their_handle t c o p) (λ h. None);
   free_handle = free_handle t c;
   claimed = λ o id. false;
-  multicast = multicast_of t;
 }
 
 -- the peer has no unsettled delivery there
@@ -147,5 +135,4 @@ own_finds t c none unclaimed = λ j. record {
   links = λ o p. link_place_by (own_handle t c o p j) (λ h. none o h j);
   free_handle = λ o. own_free_handle t c o j;
   claimed = λ o id. is_some (unclaimed o id j);
-  multicast = λ address. is_multicast (distribution_of (own_routing t c j) address);
 }

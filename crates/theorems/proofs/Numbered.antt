@@ -9,11 +9,12 @@ use Rattle.book_model.specs.declared.row.RowNumber.{RowNumber}
 use Rattle.book_model.specs.Book.{BookView, effect, effects}
 use Rattle.router_trace.specs.Configuration.{beginning}
 use Rattle.router_trace.specs.Connection.{conn, due}
+use Rattle.router_trace.specs.declared.handle.Attachment.{Attachment}
 use Rattle.router_trace.specs.Trace.{Beginning, Entry, Did, Out, Bound, Put, Step, goes, puts, each_to}
 use Rattle.router_trace.specs.declared.binding.Binding.{Binding}
 use Rattle.router_trace.specs.Deliveries.{is_message}
 use Rattle.router_trace.specs.declared.condition.Condition.TheVariants.{ResourceLimitExceeded}
-use Rattle.state_messages.specs.Messages.{with_bound}
+use Rattle.state_messages.specs.Messages.{copy_to, with_bound}
 use Rattle.reply_rows.specs.Acts.{book_in, acts_of, booked}
 use Rattle.reply_rows.specs.Admitting.{row_in}
 use Rattle.router_reply.specs.Replies.{closing_of, ends, heard, bound_by, own_row, replied}
@@ -23,6 +24,7 @@ use Rattle.router_core.specs.Moves.{Goes, IsTrace}
 use Rattle.core_machine.specs.Moves.{Move, handles, takes}
 use Rattle.router_core.specs.Replies.{handled}
 use Rattle.core_machine.specs.Moves.{took_one}
+use Rattle.router_core.proofs.Copied.{copies_keep}
 use Rattle.router_core.proofs.Following.{all_keep}
 use Rattle.theorems.specs.Admitted.{is_row, times_bound, AreBoundSince}
 use Rattle.theorems.proofs.Admitted.{row_of_bound, BindsNext, binds_next}
@@ -78,6 +80,14 @@ again_stays n times book u b again was = (ap (λ (q : Bool). times_bound u n + (
     nothing : (k : ℕ) → k + 0 ≡ k
     nothing k = omega arith
 
+-- nor has a copy a row
+copy_stays : (n times : ℕ) (book : BookView) (u : List Entry) (format : ℕ) (payload : List ℕ) (a : Attachment)
+    → Stays n times book u → Stays n times book (Bound (copy_to u format payload a) ∷ u)
+copy_stays n times book u format payload a was = (nothing (times_bound u n) ∙ was.0, was.1)
+  where
+    nothing : (k : ℕ) → k + 0 ≡ k
+    nothing k = omega arith
+
 handled_stays : (id : List ℕ) (t : List Entry) (s : Step) (n : ℕ)
     → Stays n (times_bound t n + times_of (bound_by (booked t s.event) (heard id (booked t s.event) s) s.event) n) (effects (book_in t) (acts_of t s.event)) (handled id t s)
 handled_stays id t s n =
@@ -89,7 +99,8 @@ handled_stays id t s n =
     let times : ℕ = times_bound t n + times_of b n in
     all_keep (Stays n times book) (goes_stays n times book) (resumed at s.event (replied id at s))
     (resumed_marked (Stays n times book) (again_stays n times book) at s.event (replied id at s) (replied_book id at s) (replied_found id at s)
-    (goes_stays n times book (own_row id at u s.event) (with_bound b u) (bound_stays n (times_bound t n) book b u came)))
+    (copies_keep (Stays n times book) (λ v format payload a now. copy_stays n times book v format payload a now) at u s.event (goes (own_row id at u s.event) (with_bound b u))
+    (goes_stays n times book (own_row id at u s.event) (with_bound b u) (bound_stays n (times_bound t n) book b u came))))
 
 -- a number of a row that was given is that of one bound
 

@@ -328,8 +328,13 @@ goes_to_own t c own x payload all carries r name = by message.binding.kind refl
     row : message.binding.row ≡ Some r
     row = named_row message.binding.row _ r (sym message.name ∙ name)
 
-    binds : BindsByKind message.before message.binding
-    binds = each_bound BindsByKind message.later message.before message.binding (subst (λ (u : Trace). EachBound BindsByKind u) message.trace all.binds)
+    -- a copy has no row
+    no_copy : BindsByKind message.before message.binding → BindsAs message.binding.kind message.before message.binding
+    no_copy (inl binds) = binds
+    no_copy (inr copy) = absurd (none_not_some (sym (ap (λ (b : Binding). b.row) copy.copy) ∙ row))
+
+    binds : BindsAs message.binding.kind message.before message.binding
+    binds = no_copy (each_bound BindsByKind message.later message.before message.binding (subst (λ (u : Trace). EachBound BindsByKind u) message.trace all.binds))
 
     admitted : RowIsAdmitted message.before message.binding
     admitted = each_bound RowIsAdmitted message.later message.before message.binding (subst (λ (u : Trace). EachBound RowIsAdmitted u) message.trace all.admitted)

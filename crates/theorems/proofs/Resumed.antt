@@ -54,6 +54,7 @@ use Rattle.reply_rows.specs.Asking.{held_key}
 use Rattle.router_reply.specs.Replies.{closing_of, ends, heard, bound_by, own_row, replied}
 use Rattle.reply_rows.specs.Resuming.{resumed_key, attach_in, rows_at, rows_for}
 use Rattle.router_reply.specs.Resuming.{rows_taken, bound_to, bound_if, with_rows, resumed}
+use Rattle.router_core.proofs.Copied.{copied_same}
 use Rattle.router_core.proofs.Resuming.{with_held_keep, with_rows_keep}
 use Rattle.theorems.specs.Came.{last_found, HoldsRow, SettlesRow, TakesUp}
 use Rattle.theorems.proofs.Tests.{none_not_some, some_same}
@@ -394,7 +395,8 @@ pub replied_book : (id : List ℕ) (t : Trace) (s : Step) → book_in (replied i
 replied_book id t s =
     let u : Trace = heard id t s in
     let b : Option Binding = bound_by t u s.event in
-    ap (λ j. j.book) (goes_book (own_row id t u s.event) (with_bound b u) ∙ bound_book b u ∙ ends_book id (due t s.event) (Did s ∷ t))
+    ap (λ j. j.book) (copied_same journaled (λ x v. refl) t u s.event (goes (own_row id t u s.event) (with_bound b u))
+    ∙ goes_book (own_row id t u s.event) (with_bound b u) ∙ bound_book b u ∙ ends_book id (due t s.event) (Did s ∷ t))
 
 -- the trace that the event found
 
@@ -416,7 +418,8 @@ pub replied_found : (id : List ℕ) (t : Trace) (s : Step) → last_found (repli
 replied_found id t s =
     let u : Trace = heard id t s in
     let b : Option Binding = bound_by t u s.event in
-    goes_found (own_row id t u s.event) (with_bound b u) ∙ bound_found b u ∙ ends_found id (due t s.event) (Did s ∷ t)
+    copied_same last_found (λ x v. refl) t u s.event (goes (own_row id t u s.event) (with_bound b u))
+    ∙ goes_found (own_row id t u s.event) (with_bound b u) ∙ bound_found b u ∙ ends_found id (due t s.event) (Did s ∷ t)
 
 -- the delivery that has a name now is one with that name
 

@@ -31,12 +31,13 @@ use Rattle.router_trace.specs.LinkFrames.{detach_item}
 use Rattle.router_trace.specs.Links.{Link, link, link_place, has_number, is_attached, if_attached, last_of_key}
 use Rattle.router_trace.specs.Settling.{open_ids, part_of, unbound}
 use Rattle.state_messages.specs.Asking.{is_consumer, if_consumer, consumer_with}
-use Rattle.state_messages.specs.Messages.{with_bound}
+use Rattle.state_messages.specs.Messages.{copy_to, with_bound}
 use Rattle.reply_rows.specs.declared.answer.Answer.{Answer}
 use Rattle.reply_rows.specs.declared.answer.Answer.TheVariants.{Taken, Settle}
 use Rattle.reply_rows.specs.Rows.{said}
 use Rattle.reply_rows.specs.Acts.{book_in}
-use Rattle.reply_transfers.specs.Transfers.{claimed_id, lasts_on, let_go, unless_many, ignored_put, row_resumed, unless_joined, resumed_put, released_by, released, unbound_put, consumer_for, whole_put, part_put, settled_answers}
+use Rattle.router_state.specs.Copying.{goes_to_all}
+use Rattle.reply_transfers.specs.Transfers.{claimed_id, lasts_on, let_go, unless_many, ignored_put, row_resumed, unless_joined, resumed_put, let_down_as, let_down_by, let_down, unbound_put, consumer_for, whole_put, part_put, settled_answers}
 use Rattle.reply_rows.specs.Deciding.{ended_by}
 use Rattle.router_reply.specs.Replies.{row_found, bound_for, links_put, item_put}
 use Rattle.theorems.specs.Came.{TakesUp, BindsMessage, ComesFrom}
@@ -122,11 +123,11 @@ ignored_kept : (w after : Trace) (c own handle : ℕ) (v : Option ℕ) → Recei
 ignored_kept w after c own handle None at was = was
 ignored_kept w after c own handle (Some id) at was = many_kept w after c own handle [] at tt was
 
-released_kept : (w after : Trace) (c own handle : ℕ) (v : Option ℕ) → Receives w c own handle → Kept w [] → Kept (goes (each_to c (released after c own handle v)) w) []
-released_kept w after c own handle None at was = was
-released_kept w after c own handle (Some id) at was = by (lasts_on (link after c own handle))
+let_down_kept : (w after : Trace) (c own handle : ℕ) (v : Option ℕ) → Receives w c own handle → Kept w [] → Kept (goes (each_to c (let_down after c own handle v)) w) []
+let_down_kept w after c own handle None at was = was
+let_down_kept w after c own handle (Some id) at was = by (lasts_on (link after c own handle))
   where
-    by : (durable : Bool) → Kept (goes (each_to c (released_by after c own handle durable id)) w) []
+    by : (durable : Bool) → Kept (goes (each_to c (let_down_by after c own handle durable (let_down_as (goes_to_all after (link after c own handle))) id)) w) []
     by false = plain_kept c _ w refl was
     by true = many_kept w after c own handle _ at (refl, tt) was
 
@@ -140,7 +141,7 @@ whole_kept b w after c own handle d row at was = by d.resume (consumer_for after
     by : (resumed : Bool) (consumer : Option Attachment)
         → Kept (goes (each_to c (if resumed then resumed_put b after c own handle (claimed_id after c own handle d.id) else unbound_put after c own handle (claimed_id after c own handle d.id) consumer)) w) []
     by true consumer = resumed_put_kept w after c own handle (claimed_id after c own handle d.id) (row_resumed b after c own (claimed_id after c own handle d.id)) at was
-    by false None = released_kept w after c own handle (claimed_id after c own handle d.id) at was
+    by false None = let_down_kept w after c own handle (claimed_id after c own handle d.id) at was
     by false (Some a) = was
 
 part_kept : (b : BookView) (w after : Trace) (c own handle : ℕ) (row : Option RowNumber) (q : Option Part) → Receives w c own handle → Kept w [] → Kept (goes (each_to c (part_put b after c own handle row q)) w) []
@@ -180,6 +181,16 @@ bound_kept b u can was = record {
   ordered = was.ordered;
   owned = bound_owned b u [] was.owned;
 }
+
+-- a copy of a message, to a link on which the router sends
+pub copy_kept : (u : Trace) (format : ℕ) (payload : List ℕ) (a : Attachment) → Sends u a → Kept u [] → Kept (Bound (copy_to u format payload a) ∷ u) []
+copy_kept u format payload a sends was =
+    bound_kept (copy_to u format payload a) u (record {
+      consumer = λ undecided. sends;
+      producer = λ p from. absurd (none_not_some from);
+      new = λ new r named. absurd (none_not_some named);
+      joined = λ r q d joins. absurd (none_not_some joins);
+    }) was
 
 -- a row that is taken up
 

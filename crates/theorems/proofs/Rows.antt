@@ -10,12 +10,13 @@ use Rattle.book_model.specs.declared.row.RowNumber.{RowNumber}
 use Rattle.book_model.specs.Book.{BookView, effect, effects}
 use Rattle.router_trace.specs.Configuration.{beginning, opened}
 use Rattle.router_trace.specs.Connection.{conn, due}
+use Rattle.router_trace.specs.declared.handle.Attachment.{Attachment}
 use Rattle.router_trace.specs.Trace.{Beginning, Entry, Did, Out, Took, Bound, Booked, Began, Put, Step, did, goes, puts, each_to}
 use Rattle.router_trace.specs.declared.binding.Binding.{Binding}
 use Rattle.router_trace.specs.Deliveries.{is_message}
 use Rattle.router_trace.specs.declared.event.Event.{Event}
 use Rattle.router_trace.specs.declared.condition.Condition.TheVariants.{ResourceLimitExceeded}
-use Rattle.state_messages.specs.Messages.{with_bound}
+use Rattle.state_messages.specs.Messages.{copy_to, with_bound}
 use Rattle.reply_rows.specs.Acts.{book_in, booked}
 use Rattle.router_reply.specs.Replies.{closing_of, ends, heard, bound_by, own_row, replied}
 use Rattle.router_reply.specs.Resuming.{resumed}
@@ -25,6 +26,7 @@ use Rattle.core_machine.specs.Moves.{Move, handles, takes}
 use Rattle.router_core.specs.Replies.{handled}
 use Rattle.core_machine.specs.Moves.{took_one}
 use Rattle.router_core.proofs.Booking.{booked_keeps}
+use Rattle.router_core.proofs.Copied.{copies_keep}
 use Rattle.router_core.proofs.Following.{all_keep}
 use Rattle.theorems.specs.Came.{Handled, just_handled}
 use Rattle.theorems.specs.Each.{EachBound}
@@ -211,6 +213,11 @@ again_rows : (u : List Entry) (b : Binding) → is_message b.kind ≡ false → 
 again_rows u b marked was =
     record { admitted = (subst (λ (q : Bool). IsAdmittedIf q u b) (sym marked) tt, was.admitted); once = again_once u b marked was.once; before = tt }
 
+-- a copy has no row
+copy_rows : (u : List Entry) (format : ℕ) (payload : List ℕ) (a : Attachment) → Rows u → Rows (Bound (copy_to u format payload a) ∷ u)
+copy_rows u format payload a was =
+    record { admitted = (tt, was.admitted); once = λ n. as_before u (copy_to u format payload a) n refl (was.once n); before = tt }
+
 bound_rows : (u : List Entry) (b : Option Binding) → ((x : Binding) → b ≡ Some x → is_message x.kind ≡ true → IsAdmittedUnder u x x.row) → Rows u → Rows (with_bound b u)
 bound_rows u None is was = was
 bound_rows u (Some x) is was =
@@ -235,7 +242,9 @@ resumed_rows id t s was =
     let u : List Entry = heard id at s in
     let came : Rows u = ends_rows id (due t s.event) (Did s ∷ at) (did_rows s at (booked_keeps Rows t s.event (λ acts w. batch_rows t acts w) was)) in
     let bound : Rows (with_bound (bound_by at u s.event) u) = bound_rows u (bound_by at u s.event) (λ x is fresh. bound_row id t s.event x is fresh) came in
-    resumed_marked Rows again_rows at s.event (replied id at s) (replied_book id at s) (replied_found id at s) (goes_rows (own_row id at u s.event) (with_bound (bound_by at u s.event) u) bound)
+    resumed_marked Rows again_rows at s.event (replied id at s) (replied_book id at s) (replied_found id at s)
+    (copies_keep Rows copy_rows at u s.event (goes (own_row id at u s.event) (with_bound (bound_by at u s.event) u))
+    (goes_rows (own_row id at u s.event) (with_bound (bound_by at u s.event) u) bound))
 
 pub handled_rows : (id : List ℕ) (t : List Entry) (s : Step) → Rows t → Rows (handled id t s)
 handled_rows id t s was =

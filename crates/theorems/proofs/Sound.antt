@@ -1,6 +1,6 @@
 -- What the laws require of each entry, and that they still hold after an entry that satisfies it.
-use Rattle.std.proofs.Common.{◌≡◌, sym, subst, ◌⊎◌, ℕ, Bool, true, false, List, [], ◌∷◌, ◌++◌}
-use Rattle.std.specs.Prelude.{Option, None}
+use Rattle.std.proofs.Common.{◌≡◌, sym, subst, ◌⊎◌, inl, ℕ, Bool, true, false, List, [], ◌∷◌, ◌++◌}
+use Rattle.std.specs.Prelude.{Option, Some, None}
 use Rattle.amqp_model.specs.declared.perf.Disposition.{Disposition}
 use Rattle.amqp_model.specs.declared.perf.Perf.{Perf}
 use Rattle.amqp_model.specs.declared.perf.Perf.TheVariants as perf
@@ -19,6 +19,7 @@ use Rattle.router_trace.specs.declared.binding.JoinedTo.{JoinedTo}
 use Rattle.router_trace.specs.Deliveries.{resumed_held}
 use Rattle.book_model.specs.declared.act.Act.{Act}
 use Rattle.router_trace.specs.Trace.{Entry, Put, Did, Out, Took, Bound, Booked, Step, goes, each_to}
+use Rattle.state_messages.specs.Messages.{with_bound}
 use Rattle.theorems.specs.Each.{EachOut, EachBound}
 use Rattle.theorems.specs.Carried.{CarriesWhatWasBound}
 use Rattle.theorems.specs.Came.{Handled, just_handled, HoldsRow, JoinsAs, SettlesRow, TakesUp, BindsAs, BindsByKind}
@@ -60,16 +61,16 @@ pub bound_sound : (b : Binding) (t : List Entry) → BindsByKind t b → Sound t
 bound_sound b t is sound = record { carries = sound.carries; tells = sound.tells; binds = (is, sound.binds); unstarted = bound_unstarted t b sound.unstarted }
 
 -- a row that is taken up
-joins_as : (t : List Entry) (b : Binding) (q : Holding) → resumed_held q ≡ None → HoldsRow t b q ⊎ SettlesRow t b q → JoinsAs q t b
+pub joins_as : (t : List Entry) (b : Binding) (q : Holding) → resumed_held q ≡ None → HoldsRow t b q ⊎ SettlesRow t b q → JoinsAs q t b
 joins_as t b (holding.Resumed p) quiet binds = absurd (none_not_some (sym quiet))
 joins_as t b (holding.Unresumed a) quiet binds = binds
 joins_as t b (holding.Settled a) quiet binds = binds
 
 pub held_sound : (t : List Entry) (b : Binding) (q : Holding) (to : JoinedTo) → b.kind ≡ kind.Joined q to → resumed_held q ≡ None → HoldsRow t b q ⊎ SettlesRow t b q → Sound t → Sound (Bound b ∷ t)
-held_sound t b q to is quiet binds sound = bound_sound b t (subst (λ (k : BindingKind). BindsAs k t b) (sym is) (joins_as t b q quiet binds)) sound
+held_sound t b q to is quiet binds sound = bound_sound b t (inl (subst (λ (k : BindingKind). BindsAs k t b) (sym is) (joins_as t b q quiet binds))) sound
 
 pub taken_sound : (t : List Entry) (b : Binding) → TakesUp t b → Sound t → Sound (Bound b ∷ t)
-taken_sound t b takes sound = bound_sound b t (subst (λ (k : BindingKind). BindsAs k t b) (sym takes.taken) takes) sound
+taken_sound t b takes sound = bound_sound b t (inl (subst (λ (k : BindingKind). BindsAs k t b) (sym takes.taken) takes)) sound
 
 -- an item that satisfies the laws
 
@@ -143,6 +144,18 @@ quiet_lawful (p ∷ ps) t quiet = (quiet_item p.item t p.conn quiet.0, quiet_law
 
 pub quiet_sound : (ps : List Put) (t : List Entry) → QuietPut ps → Sound t → Sound (goes ps t)
 quiet_sound ps t quiet sound = goes_sound ps t (quiet_lawful ps t quiet) sound
+
+-- What an event's answer binds, if it binds anything, is what it says, and the laws hold with the items that it puts.
+abbrev pub Answered : List Entry → List Put → Option Binding → Type 0
+Answered t ps None = Sound (goes ps t)
+Answered t ps (Some b) = BindsAs b.kind t b × Sound (goes ps (Bound b ∷ t))
+
+pub answer_binds : (b : Binding) (t : List Entry) → BindsAs b.kind t b → Sound t → Answered t [] (Some b)
+answer_binds b t is sound = (is, bound_sound b t (inl is) sound)
+
+pub answer_sound : (t : List Entry) (ps : List Put) (b : Option Binding) → Answered t ps b → Sound (goes ps (with_bound b t))
+answer_sound t ps None answered = answered
+answer_sound t ps (Some b) answered = answered.1
 
 -- items don't change the last event handled
 pub still_handled : (ps : List Put) (t : List Entry) (v : Option Handled) → just_handled t ≡ v → just_handled (goes ps t) ≡ v

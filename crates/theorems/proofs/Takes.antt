@@ -16,9 +16,9 @@ use Rattle.router_state.specs.Tables.{beats_over}
 use Rattle.reply_rows.specs.declared.answer.Answer.{Answer}
 use Rattle.reply_rows.specs.declared.answer.Answer.TheVariants.{Nothing}
 use Rattle.reply_rows.specs.Rows.{down_reply}
-use Rattle.router_reply.specs.Replies.{ends, row_found, item_put, item_row, own_row, bound_for, item_bound, bound_by, replied_after}
+use Rattle.router_reply.specs.Replies.{ends, row_found, item_put, item_row, own_row, bound_for, item_bound, bound_by, copied_for, item_copied, copied_by, replied_after}
 use Rattle.router_after.specs.After.{widened, followed}
-use Rattle.reply_rows.specs.Acts.{journaled, book_in, booked, found_acts, found_journal, full_at, answer_by, answer_to_event}
+use Rattle.reply_rows.specs.Acts.{journaled, book_in, booked, found_acts, found_journal, full_at, answer_by, answer_of, answer_to_event}
 use Rattle.router_reply.specs.Holding.{freed, with_held}
 use Rattle.reply_rows.specs.Asking.{held_key}
 use Rattle.router_reply.specs.Resuming.{attached_by, rows_taken, with_rows, resumed_by, resumed}
@@ -31,9 +31,10 @@ use Rattle.theorems.specs.Takes.{untaken, events_of, NeverFull}
 use Rattle.router_core.proofs.Booking.{booked_keeps}
 use Rattle.theorems.proofs.Untaken.{untaken_goes, same_outs, same_journaled, same_beats, same_windows}
 use Rattle.theorems.proofs.UntakenPassed.{untaken_bound, untaken_freed, untaken_held, untaken_rows, same_passed}
-use Rattle.theorems.proofs.UntakenRows.{same_put, same_bound_for, same_held_key, same_resumed_key}
+use Rattle.theorems.proofs.UntakenRows.{same_put, same_bound_for, same_copied_for, same_held_key, same_resumed_key}
 use Rattle.theorems.proofs.UntakenActs.{plain_acts, plain_full_at, plain_answer_of, same_full, same_acts, same_answer}
 use Rattle.router_core.proofs.Following.{passed_on, each_keeps, all_keep}
+use Rattle.router_core.proofs.Copied.{copied_keeps}
 use Rattle.router_core.proofs.Resuming.{resumed_keeps}
 use Rattle.theorems.proofs.Plain.{plain, plain_live, Calm, calm_goes, none_due, same_live, stood_found, live_found}
 
@@ -64,6 +65,14 @@ abbrev pub plain_bound : List Entry → List Entry → Event → Option Binding
 plain_bound x after (event.Item c i) = plain_item_bound x after c.0 i (plain x c.0)
 plain_bound x after _ = None
 
+abbrev pub plain_item_copied : List Entry → List Entry → ℕ → Item → Option Conn → List Entry → List Entry
+plain_item_copied x after c i None u = u
+plain_item_copied x after c i (Some p) u = copied_for x after c i (plain_answer_of x c p i) u
+
+abbrev pub plain_copied : List Entry → List Entry → Event → List Entry → List Entry
+plain_copied x after (event.Item c i) u = plain_item_copied x after c.0 i (plain x c.0) u
+plain_copied x after _ u = u
+
 abbrev pub plain_widened : List Entry → List Entry
 plain_widened x = goes (windows_over x (plain_live x)) x
 
@@ -71,7 +80,8 @@ abbrev pub plain_followed : List Entry → List Entry
 plain_followed x = plain_widened (passed_on x)
 
 abbrev pub plain_replied : List ℕ → List Entry → Step → List Entry
-plain_replied id x s = goes (plain_row id x (Did s ∷ x) s.event) (with_bound (plain_bound x (Did s ∷ x) s.event) (Did s ∷ x))
+plain_replied id x s =
+    plain_copied x (Did s ∷ x) s.event (goes (plain_row id x (Did s ∷ x) s.event) (with_bound (plain_bound x (Did s ∷ x) s.event) (Did s ∷ x)))
 
 abbrev pub plain_answer_by : List Entry → ℕ → Item → Option Conn → Answer
 plain_answer_by x c i None = Nothing
@@ -127,6 +137,23 @@ same_bound t u (event.Tick ms) calm none same = refl
 same_bound t u (event.Up c p) calm none same = refl
 same_bound t u event.Start calm none same = refl
 
+-- copies
+
+same_item_copied : (t u : List Entry) (c : ℕ) (i : Item) (v : Option Conn) (w : List Entry) → FindsAlike t (event.Item (record { 0 = c }) i)
+    → untaken (item_copied t u c i v w) ≡ plain_item_copied (untaken t) (untaken u) c i v (untaken w)
+same_item_copied t u c i None w same = refl
+same_item_copied t u c i (Some p) w same =
+    same_copied_for t u c i (answer_of t c p i) w
+    ∙ ap (λ (a : Answer). copied_for (untaken t) (untaken u) c i a (untaken w)) (same_answer t c p i same.journal same.full)
+
+same_copied : (t u : List Entry) (e : Event) (w : List Entry) → Calm t → due t e ≡ [] → FindsAlike t e → untaken (copied_by t u e w) ≡ plain_copied (untaken t) (untaken u) e (untaken w)
+same_copied t u (event.Item c i) w calm none same =
+    ap (λ (p : Option Conn). untaken (item_copied t u c.0 i p w)) (stood_found t (event.Item c i) calm none c.0) ∙ same_item_copied t u c.0 i (plain (untaken t) c.0) w same
+same_copied t u (event.Down c) w calm none same = refl
+same_copied t u (event.Tick ms) w calm none same = refl
+same_copied t u (event.Up c p) w calm none same = refl
+same_copied t u event.Start w calm none same = refl
+
 -- the rows that its attach takes up
 
 same_answer_by : (t : List Entry) (c : ℕ) (i : Item) (v : Option Conn) → FindsAlike t (event.Item (record { 0 = c }) i) → answer_by t c i v ≡ plain_answer_by (untaken t) c i v
@@ -177,16 +204,17 @@ same_answered id t s calm roomy same =
     in let u : List Entry = Did s ∷ t
     in let bound : Option Binding = bound_by t u s.event
     in let row : List Put = own_row id t u s.event
-    in let behind : List Entry = goes row (with_bound bound u)
-    in let calm_row : Calm behind = calm_goes row (with_bound bound u) (calm_bound bound u (roomy, calm))
+    in let put : List Entry = goes row (with_bound bound u)
+    in let behind : List Entry = copied_by t u s.event put
+    in let calm_row : Calm behind = copied_keeps Calm (λ b v calm. calm) t u s.event put (calm_goes row (with_bound bound u) (calm_bound bound u (roomy, calm)))
     in let bound_rows : List Entry = resumed t s.event behind
     in let calm_rows : Calm bound_rows = resumed_keeps Calm (λ b v calm. calm) t s.event behind calm_row
     in let both : Calm (followed bound_rows) × (untaken (followed bound_rows) ≡ plain_answered id (untaken t) s) = (
       all_keep Calm calm_goes bound_rows calm_rows,
       same_followed bound_rows calm_rows
           ∙ ap plain_followed (same_resumed t behind s.event calm none same
-          ∙ ap (plain_resumed (untaken t) s.event) (untaken_goes row (with_bound bound u)
-          ∙ (λ j. goes (same_row id t u s.event calm none same j) ((untaken_bound bound u ∙ ap (λ (b : Option Binding). with_bound b (untaken u)) (same_bound t u s.event calm none same)) j)))),
+          ∙ ap (plain_resumed (untaken t) s.event) (same_copied t u s.event put calm none same ∙ ap (plain_copied (untaken t) (untaken u) s.event) (untaken_goes row (with_bound bound u)
+          ∙ (λ j. goes (same_row id t u s.event calm none same j) ((untaken_bound bound u ∙ ap (λ (b : Option Binding). with_bound b (untaken u)) (same_bound t u s.event calm none same)) j))))),
     )
     in subst (λ (x : List Entry). Calm (followed (resumed t s.event (replied_after id t x s.event))) × (untaken (followed (resumed t s.event (replied_after id t x s.event))) ≡ plain_answered id (untaken t) s))
     (sym (ap (λ (ks : List ℕ). ends id ks (Did s ∷ t)) none)) both

@@ -34,7 +34,7 @@ use Rattle.reply_rows.specs.declared.answer.Answer.TheVariants.{Attach}
 use Rattle.reply_rows.specs.Booking.{wanted_key, wants_durable}
 use Rattle.reply_rows.specs.Acts.{booked, answer_of, answer_by, answer_to_event}
 use Rattle.reply_rows.specs.Asking.{receives, if_receives, key_taken, resumed_key}
-use Rattle.router_reply.specs.Replies.{ends, with_map, map_told, attach_answer, taken_after, taken, stolen_by, bound_for, item_put, item_bound, item_row, replied_after, replied}
+use Rattle.router_reply.specs.Replies.{ends, with_map, map_told, attach_answer, taken_after, taken, stolen_by, bound_for, copied_for, item_put, item_bound, item_copied, item_row, replied_after, replied}
 use Rattle.theorems.proofs.Answering.{attach_finds}
 use Rattle.theorems.proofs.Attaching.{AttachAt, attached_link, held_is, held_where, numbered_link, detached_none}
 use Rattle.theorems.proofs.Keeping.{outlives_same, mapped_key}
@@ -233,8 +233,8 @@ event_durable id t s (event.Item from (item.Frame false channel (perf.Attach a) 
     u = ends id (due t e) (Did s ∷ at)
 
     by_answer : (p : Conn) → standing (found t e from.0) ≡ Some p → (y : Answer) → if_receives (Some a) (key_taken at from.0 a y) ≡ Some k
-        → consumer_with (goes (item_put id at u from.0 p i y) (with_bound (bound_for at u from.0 i y) u)) k ≡ Some x
-        → lasts (goes (item_put id at u from.0 p i y) (with_bound (bound_for at u from.0 i y) u)) x ≡ true
+        → consumer_with (copied_for at u from.0 i y (goes (item_put id at u from.0 p i y) (with_bound (bound_for at u from.0 i y) u))) k ≡ Some x
+        → lasts (copied_for at u from.0 i y (goes (item_put id at u from.0 p i y) (with_bound (bound_for at u from.0 i y) u))) x ≡ true
     by_answer p here (Attach own) keyed held =
         let wished = wish (wants_durable a) (receives a.role) (wanted_key t from.0 a) k keyed in
         let v : Trace = goes (taken u from.0 own (map_told at from.0 a (Attach own)) a) u in
@@ -243,8 +243,8 @@ event_durable id t s (event.Item from (item.Frame false channel (perf.Attach a) 
     by_answer p here _ keyed held = absurd (no_key (receives a.role) k keyed)
 
     by : (v : Option Conn) → standing (found t e from.0) ≡ v → resumed_key at e (answer_by at from.0 i v) ≡ Some k
-        → consumer_with (goes (item_row id at u from.0 i v) (with_bound (item_bound at u from.0 i v) u)) k ≡ Some x
-        → lasts (goes (item_row id at u from.0 i v) (with_bound (item_bound at u from.0 i v) u)) x ≡ true
+        → consumer_with (item_copied at u from.0 i v (goes (item_row id at u from.0 i v) (with_bound (item_bound at u from.0 i v) u))) k ≡ Some x
+        → lasts (item_copied at u from.0 i v (goes (item_row id at u from.0 i v) (with_bound (item_bound at u from.0 i v) u))) x ≡ true
     by None here keyed held = absurd (no_key (receives a.role) k keyed)
     by (Some p) here keyed held = by_answer p here (answer_of at from.0 p i) keyed held
 event_durable id t s (event.Item from (item.Frame sasl channel _ payload)) is k x keyed held = absurd (none_not_some keyed)

@@ -29,7 +29,7 @@ use Rattle.router_trace.specs.Connection.{conn, due}
 use Rattle.router_trace.specs.Deliveries.{Delivery, acts_found, outcome_held, outcome_in, joined_by, joined_to, called, terminal, decision, failed}
 use Rattle.router_trace.specs.DeliveryFrames.{kept_outcome}
 use Rattle.router_trace.specs.Trace.{Beginning, Entry, Trace, Did, Out, Took, Bound, Booked, Began, Put, Step, step_of, goes, puts, each_to}
-use Rattle.state_messages.specs.Messages.{with_bound}
+use Rattle.state_messages.specs.Messages.{copy_to, with_bound}
 use Rattle.resume_core.specs.Resuming.{entries_of, told_in, told_of, outcome_told, outcome_given, either_outcome, row_tag}
 use Rattle.reply_rows.specs.Acts.{acts_of, book_found, book_in, booked}
 use Rattle.reply_rows.specs.Asking.{attach_in}
@@ -39,9 +39,10 @@ use Rattle.core_machine.specs.Moves.{Move, handles, takes, took_one}
 use Rattle.router_core.specs.Moves.{Goes}
 use Rattle.router_core.specs.Replies.{handled}
 use Rattle.router_core.proofs.Booking.{booked_keeps}
+use Rattle.router_core.proofs.Copied.{copies_keep}
 use Rattle.router_core.proofs.Following.{all_keep}
 use Rattle.theorems.specs.AsTold.{HasEntry, IsEncoded, IsKeptAsTold, EventIsEncoded, FramesAreEncoded, RowHas, role_is_in_row, OutcomeIsInRow, RowsHaveWhatIsTold}
-use Rattle.theorems.specs.Came.{last_found, HoldsRow, SettlesRow, TakesUp, BindsAs, BindsByKind}
+use Rattle.theorems.specs.Came.{last_found, HoldsRow, SettlesRow, TakesUp, BindsAs}
 use Rattle.theorems.specs.Decided.{given_by_consumer, given_by_attach, link_lost, link_ended, sent_settled, DecidesFound, IsFoundByConsumer, DecidedByConsumer}
 use Rattle.theorems.specs.Each.{EachOut}
 use Rattle.theorems.specs.Kept.{IsDecidedAs, RowIsDecided, OutcomeIsKept, role_is_decided}
@@ -158,7 +159,7 @@ held_told u b q forms (inl holds) s is = joined_told u b q holds.row s forms hol
 held_told u b q forms (inr settles) s is =
     absurd (none_not_some (held_known q (called u (Row settles.row)) None s (ap (λ (x : Binding). outcome_in x.kind) (sym settles.settles) ∙ is)))
 
-fresh_told : (u : Trace) (b : Binding) → AreForms (book_in u).rows → BindsByKind u b → is_taken_up b.kind ≡ false → (s : DeliveryState) → outcome_in b.kind ≡ Some s → IsKeptAsTold s
+fresh_told : (u : Trace) (b : Binding) → AreForms (book_in u).rows → BindsAs b.kind u b → is_taken_up b.kind ≡ false → (s : DeliveryState) → outcome_in b.kind ≡ Some s → IsKeptAsTold s
 fresh_told u b forms binds not_taken s is = by b.kind refl binds is
   where
     by : (k : BindingKind) → b.kind ≡ k → BindsAs k u b → outcome_in k ≡ Some s → IsKeptAsTold s
@@ -169,7 +170,7 @@ fresh_told u b forms binds not_taken s is = by b.kind refl binds is
     by (kind.Joined (holding.Unresumed a) to) at binds is = held_told u b (holding.Unresumed a) forms binds s (ap outcome_in at ∙ is)
     by (kind.Joined (holding.Settled a) to) at binds is = held_told u b (holding.Settled a) forms binds s (ap outcome_in at ∙ is)
 
-bind_during : (s : Step) (b : Option Binding) (u : Trace) → ((x : Binding) → b ≡ Some x → BindsByKind u x × (is_taken_up x.kind ≡ false)) → During s u → During s (with_bound b u)
+bind_during : (s : Step) (b : Option Binding) (u : Trace) → ((x : Binding) → b ≡ Some x → BindsAs x.kind u x × (is_taken_up x.kind ≡ false)) → During s u → During s (with_bound b u)
 bind_during s None u fresh was = was
 bind_during s (Some b) u fresh was =
     let new = fresh b refl in
@@ -250,8 +251,11 @@ handled_kept id t s sound was = (all_keep (During s) (goes_during s) (resumed at
     came = ends_during s id (due t e) (Did s ∷ at) (did_kept s at (booked_kept t e was), λ encoded. encoded.0)
 
     rows : During s (replied id at s)
-    rows = goes_during s (own_row id at u e) (with_bound (bound_by at u e) u)
-        (bind_during s (bound_by at u e) u (λ x is. (event_binds id at s x sound is, bound_not_taken id t e x is)) came)
+    rows = copies_keep (During s)
+        (λ v format payload a held. (bound_kept (copy_to v format payload a) v (λ encoded o is. absurd (none_not_some is)) held.0, held.1)) at u e
+        (goes (own_row id at u e) (with_bound (bound_by at u e) u))
+        (goes_during s (own_row id at u e) (with_bound (bound_by at u e) u)
+        (bind_during s (bound_by at u e) u (λ x is. (event_binds id at s x sound is, bound_not_taken id t e x is)) came))
 
     taken : During s (resumed at e (replied id at s))
     taken = resumed_takes (During s) at e (replied id at s)

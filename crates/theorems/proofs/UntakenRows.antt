@@ -9,7 +9,7 @@ use Rattle.amqp_model.specs.declared.perf.Perf.{Perf}
 use Rattle.amqp_model.specs.declared.perf.Perf.TheVariants as perf
 use Rattle.amqp_model.specs.declared.perf.Role.TheVariants.{Receiver}
 use Rattle.amqp_model.specs.declared.perf.Transfer.{Transfer as ATransfer}
-use Rattle.amqp_model.specs.declared.state.DeliveryState.TheVariants as state
+use Rattle.amqp_model.specs.declared.state.DeliveryState.{DeliveryState}
 use Rattle.amqp_model.specs.declared.item.Item.{Item}
 use Rattle.amqp_model.specs.declared.item.Item.TheVariants as item
 use Rattle.amqp_conn.specs.declared.conn.Conn.{Conn}
@@ -23,13 +23,14 @@ use Rattle.amqp_link.specs.declared.part.Part.TheVariants as part
 use Rattle.router_trace.specs.declared.binding.Holding.TheVariants as holding
 use Rattle.router_trace.specs.declared.binding.BindingKind.TheVariants as kind
 use Rattle.router_trace.specs.declared.binding.DeliveryName.TheVariants as name
+use Rattle.router_trace.specs.declared.binding.Binding.{Binding}
 use Rattle.router_trace.specs.declared.binding.Origin.{Origin}
 use Rattle.router_trace.specs.declared.condition.Condition.{Condition}
 use Rattle.router_trace.specs.declared.condition.Condition.TheVariants.{NotAllowed, ResourceLimitExceeded, MessageSizeExceeded}
 use Rattle.router_trace.specs.declared.handle.Attachment.{Attachment}
 use Rattle.router_trace.specs.declared.event.Event.{Event}
 use Rattle.router_trace.specs.declared.event.Event.TheVariants as event
-use Rattle.router_trace.specs.Trace.{Entry, Put, goes, puts, each_to}
+use Rattle.router_trace.specs.Trace.{Entry, Bound, Put, goes, puts, each_to}
 use Rattle.router_trace.specs.Configuration.{is_multicast}
 use Rattle.router_trace.specs.LinkFrames.{plain_answer, answer_to, detach_item}
 use Rattle.router_trace.specs.Links.{Link, link, free_handle, holder, key_at, link_place, durable_key}
@@ -38,22 +39,23 @@ use Rattle.router_trace.specs.Deliveries.{joined_to, joining, terminal, last_of,
 use Rattle.router_trace.specs.DeliveryFrames.{outcome_item}
 use Rattle.router_trace.specs.Numbers.{count_below, first_below}
 use Rattle.router_trace.specs.Settling.{ids_between, is_open_as, names_open, is_open_id, is_of_link, is_unbound_on, unbound, is_tagged_on, uses_tag, middle_on, part_of}
-use Rattle.state_messages.specs.Messages.{consumer_of, lasts, binding_to, binding_for}
+use Rattle.state_messages.specs.Messages.{consumer_of, copies_for, lasts, binding_to, binding_for, copy_to}
+use Rattle.router_state.specs.Copying.{copied_to, goes_to_all}
 use Rattle.reply_rows.specs.declared.answer.Answer.{Answer}
 use Rattle.reply_rows.specs.declared.answer.Answer.TheVariants.{Attach, Detach, Refuse, Taken, Settle}
 use Rattle.reply_rows.specs.Rows.{Finds, said, item_reply}
 use Rattle.reply_rows.specs.Finding.{finds}
 use Rattle.reply_rows.specs.Booking.{wants_durable, wanted_address, new_terminus, has_room, durable_refusal, book_refusal, booked_attach, stands_from, repeats, booked_transfer, booked, answer_at}
-use Rattle.reply_transfers.specs.Transfers.{claimed_id, settled_answers, from_link, origin_of, lasts_on, may_pass, consumer_for, fresh_bound, row_resumed, join_from, joined_on, joined_if, resumed_bound, unless_joined, resumed_put, whole_bound, let_go, unless_many, ignored_put, released_by, released, unbound_put, whole_put, part_put, part_bound}
+use Rattle.reply_transfers.specs.Transfers.{claimed_id, settled_answers, from_link, origin_of, lasts_on, may_pass, consumer_for, fresh_bound, row_resumed, join_from, joined_on, joined_if, resumed_bound, unless_joined, resumed_put, whole_bound, let_go, unless_many, ignored_put, let_down_as, let_down_by, let_down, unbound_put, whole_put, part_put, part_bound, fresh_copied, whole_copied, part_copied}
 use Rattle.reply_transfers.specs.Joining.{row_joined, row_claimed, row_under}
 use Rattle.reply_rows.specs.Acts.{book_in, found_journal}
 use Rattle.reply_rows.specs.Asking.{held_key, if_sends}
 use Rattle.reply_rows.specs.Resuming.{asked_key, key_taken, key_by, key_in, taken_key, attach_in, if_receives, resumed_key, map_for}
-use Rattle.router_reply.specs.Replies.{map_told, stolen_by, attach_answer, taken_after, taken, refused, row_found, bound_for, links_put, item_put}
+use Rattle.router_reply.specs.Replies.{map_told, stolen_by, attach_answer, taken_after, taken, refused, row_found, bound_for, copied_for, links_put, item_put}
 use Rattle.theorems.specs.Takes.{untaken}
 use Rattle.theorems.proofs.Untaken.{untaken_goes, same_place, same_free, same_journaled}
 use Rattle.theorems.proofs.UntakenDeliveries.{same_named, same_delivery, same_called, same_claims, same_numbered}
-use Rattle.theorems.proofs.UntakenGrants.{same_distribution, same_choice}
+use Rattle.theorems.proofs.UntakenGrants.{same_distribution, same_choice, same_copies}
 use Rattle.theorems.proofs.UntakenLinks.{same_key_at, same_largest, same_free_handle, same_link, same_link_place, same_holder}
 
 same_finds : (t : List Entry) (c : ℕ) → finds t c ≡ finds (untaken t) c
@@ -63,7 +65,6 @@ same_finds t c = λ j. record {
   links = λ o p. same_link_place t c o p j;
   free_handle = λ o. same_free_handle t c o j;
   claimed = λ o id. is_some (same_claims t c o id j);
-  multicast = λ address. is_multicast (same_distribution t address j);
 }
 
 -- the answer to an item, if the journal is full or not
@@ -173,19 +174,26 @@ same_ignored_put : (t : List Entry) (c own handle : ℕ) (q : Option ℕ) → ig
 same_ignored_put t c own handle None = refl
 same_ignored_put t c own handle (Some id) = same_many t c own handle []
 
-same_released_by : (t : List Entry) (c own handle : ℕ) (durable : Bool) (id : ℕ) → released_by t c own handle durable id ≡ released_by (untaken t) c own handle durable id
-same_released_by t c own handle false id = refl
-same_released_by t c own handle true id = same_many t c own handle (outcome_item own Receiver id false state.Released ∷ [])
+same_goes_to_all : (t : List Entry) (l : Option Link) → goes_to_all t l ≡ goes_to_all (untaken t) l
+same_goes_to_all t None = refl
+same_goes_to_all t (Some l) = ap is_multicast (same_distribution t l.address)
 
-same_released : (t : List Entry) (c own handle : ℕ) (q : Option ℕ) → released t c own handle q ≡ released (untaken t) c own handle q
-same_released t c own handle None = refl
-same_released t c own handle (Some id) =
-    ap (λ (l : Option Link). released_by t c own handle (lasts_on l) id) (same_link t c own handle)
-    ∙ same_released_by t c own handle (lasts_on (link (untaken t) c own handle)) id
+same_let_down_by : (t : List Entry) (c own handle : ℕ) (durable : Bool) (outcome : DeliveryState) (id : ℕ)
+    → let_down_by t c own handle durable outcome id ≡ let_down_by (untaken t) c own handle durable outcome id
+same_let_down_by t c own handle false outcome id = refl
+same_let_down_by t c own handle true outcome id = same_many t c own handle (outcome_item own Receiver id false outcome ∷ [])
+
+same_let_down : (t : List Entry) (c own handle : ℕ) (q : Option ℕ) → let_down t c own handle q ≡ let_down (untaken t) c own handle q
+same_let_down t c own handle None = refl
+same_let_down t c own handle (Some id) =
+    let there = link (untaken t) c own handle in
+    ap (λ (l : Option Link). let_down_by t c own handle (lasts_on l) (let_down_as (goes_to_all t l)) id) (same_link t c own handle)
+    ∙ ap (λ (b : Bool). let_down_by t c own handle (lasts_on there) (let_down_as b) id) (same_goes_to_all t there)
+    ∙ same_let_down_by t c own handle (lasts_on there) (let_down_as (goes_to_all (untaken t) there)) id
 
 same_unbound_put : (t : List Entry) (c own handle : ℕ) (q : Option ℕ) (consumer : Option Attachment)
     → unbound_put t c own handle q consumer ≡ unbound_put (untaken t) c own handle q consumer
-same_unbound_put t c own handle q None = same_released t c own handle q
+same_unbound_put t c own handle q None = same_let_down t c own handle q
 same_unbound_put t c own handle q (Some x) = refl
 
 same_consumer_for : (t : List Entry) (c own handle : ℕ) (d : Told) (row : Option RowNumber) → consumer_for t c own handle d row ≡ consumer_for (untaken t) c own handle d row
@@ -332,3 +340,43 @@ same_bound_for t u c i (Taken own handle) rows =
     (λ j. part_bound (same_book t j) u c own handle (rows j) (part_of i (λ p. same_link_place t c own p j)))
     ∙ same_part_bound (book_in (untaken t)) u c own handle (row_found (untaken t)) (part_of i (link_place (untaken t) c own))
 same_bound_for t u c i _ rows = refl
+
+-- copies
+
+untaken_copied_to : (format : ℕ) (payload : List ℕ) (ats : List Attachment) (u : List Entry) → untaken (copied_to format payload ats u) ≡ copied_to format payload ats (untaken u)
+untaken_copied_to format payload [] u = refl
+untaken_copied_to format payload (at ∷ ats) u =
+    untaken_copied_to format payload ats (Bound (copy_to u format payload at) ∷ u)
+    ∙ ap (λ (b : Binding). copied_to format payload ats (Bound b ∷ untaken u)) (same_binding u None None format payload at)
+
+same_fresh_copied : (t : List Entry) (c own handle format : ℕ) (payload : List ℕ) (q : Option ℕ) (u : List Entry)
+    → untaken (fresh_copied t c own handle format payload q u) ≡ fresh_copied (untaken t) c own handle format payload q (untaken u)
+same_fresh_copied t c own handle format payload None u =
+    untaken_copied_to format payload (copies_for t (link t c own handle)) u
+    ∙ ap (λ (ats : List Attachment). copied_to format payload ats (untaken u))
+    ((λ j. copies_for t (same_link t c own handle j)) ∙ same_copies t (link (untaken t) c own handle))
+same_fresh_copied t c own handle format payload (Some id) u = refl
+
+same_whole_copied : (t : List Entry) (c own handle : ℕ) (d : Told) (payload : List ℕ) (u : List Entry)
+    → untaken (whole_copied t c own handle d payload u) ≡ whole_copied (untaken t) c own handle d payload (untaken u)
+same_whole_copied t c own handle d payload u = by d.resume
+  where
+    by : (b : Bool)
+        → untaken (if b then u else fresh_copied t c own handle (unwrap_or d.format 0) payload (claimed_id t c own handle d.id) u)
+        ≡ (if b then untaken u else fresh_copied (untaken t) c own handle (unwrap_or d.format 0) payload (claimed_id (untaken t) c own handle d.id) (untaken u))
+    by true = refl
+    by false =
+        same_fresh_copied t c own handle (unwrap_or d.format 0) payload (claimed_id t c own handle d.id) u
+        ∙ ap (λ (q : Option ℕ). fresh_copied (untaken t) c own handle (unwrap_or d.format 0) payload q (untaken u)) (same_claimed_id t c own handle d.id)
+
+same_part_copied : (t : List Entry) (c own handle : ℕ) (q : Option Part) (u : List Entry)
+    → untaken (part_copied t c own handle q u) ≡ part_copied (untaken t) c own handle q (untaken u)
+same_part_copied t c own handle (Some (part.Whole d payload)) u = same_whole_copied t c own handle d payload u
+same_part_copied t c own handle _ u = refl
+
+pub same_copied_for : (t after : List Entry) (c : ℕ) (i : Item) (a : Answer) (u : List Entry)
+    → untaken (copied_for t after c i a u) ≡ copied_for (untaken t) (untaken after) c i a (untaken u)
+same_copied_for t after c i (Taken own handle) u =
+    same_part_copied after c own handle (part_of i (link_place t c own)) u
+    ∙ (λ j. part_copied (untaken after) c own handle (part_of i (λ p. same_link_place t c own p j)) (untaken u))
+same_copied_for t after c i _ u = refl

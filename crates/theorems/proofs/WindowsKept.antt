@@ -9,7 +9,6 @@ use Rattle.amqp_model.specs.declared.item.Item.TheVariants as item
 use Rattle.amqp_conn.specs.declared.conn.Conn.{Conn}
 use Rattle.amqp_model.specs.declared.perf.Role.TheVariants.{Receiver}
 use Rattle.amqp_model.specs.declared.state.DeliveryState.{DeliveryState}
-use Rattle.amqp_model.specs.declared.state.DeliveryState.TheVariants as state
 use Rattle.amqp_model.specs.declared.state.UnsettledDelivery.{UnsettledDelivery}
 use Rattle.amqp_link.specs.declared.part.Delivery.{Delivery as Told}
 use Rattle.amqp_link.specs.declared.part.Part.{Part}
@@ -46,7 +45,8 @@ use Rattle.state_messages.specs.Messages.{grants_due, with_bound}
 use Rattle.reply_rows.specs.declared.answer.Answer.{Answer}
 use Rattle.reply_rows.specs.declared.answer.Answer.TheVariants.{Nothing, Header, Open, Close, CloseWith, Begin, End, Flow, Attach, Refuse, Detach, LinkFlow, Taken, Settle}
 use Rattle.reply_rows.specs.Rows.{said}
-use Rattle.reply_transfers.specs.Transfers.{claimed_id, lasts_on, consumer_for, let_go, unless_many, ignored_put, row_resumed, unless_joined, resumed_put, released_by, unbound_put, whole_put, part_put, settled_answers}
+use Rattle.router_state.specs.Copying.{goes_to_all}
+use Rattle.reply_transfers.specs.Transfers.{claimed_id, lasts_on, consumer_for, let_go, unless_many, ignored_put, row_resumed, unless_joined, resumed_put, let_down_as, let_down_by, unbound_put, whole_put, part_put, settled_answers}
 use Rattle.router_reply.specs.Resuming.{resumed}
 use Rattle.router_reply.specs.Replies.{closing_of, ends, heard, stolen_by, with_map, attach_answer, refused, bound_by, item_row, own_row, replied}
 use Rattle.reply_rows.specs.Acts.{answer_of, book_in, booked}
@@ -57,6 +57,7 @@ use Rattle.router_core.specs.Moves.{Goes, IsTrace}
 use Rattle.core_machine.specs.Moves.{Move, handles, takes}
 use Rattle.theorems.specs.Windows.{has_room, keeps_window, WindowKept}
 use Rattle.state_connections.proofs.Lists.{by_test}
+use Rattle.router_core.proofs.Copied.{copied_keeps}
 use Rattle.router_core.proofs.Due.{AllSent, sends_sent}
 use Rattle.router_core.proofs.Following.{Steps, passed_on, passed_keeps}
 use Rattle.router_core.proofs.Granting.{AllGrants, all_grants}
@@ -165,13 +166,14 @@ none_ignored : (after : List Entry) (c own handle : ℕ) (q : Option ℕ) → No
 none_ignored after c own handle None = tt
 none_ignored after c own handle (Some id) = none_many after c own handle [] tt
 
-none_released : (after : List Entry) (c own handle : ℕ) (durable : Bool) (id : ℕ) → NoTransfer (released_by after c own handle durable id)
-none_released after c own handle false id = (refl, tt)
-none_released after c own handle true id = none_many after c own handle (outcome_item own Receiver id false state.Released ∷ []) (refl, tt)
+none_let_down : (after : List Entry) (c own handle : ℕ) (durable : Bool) (outcome : DeliveryState) (id : ℕ) → NoTransfer (let_down_by after c own handle durable outcome id)
+none_let_down after c own handle false outcome id = (refl, tt)
+none_let_down after c own handle true outcome id = none_many after c own handle (outcome_item own Receiver id false outcome ∷ []) (refl, tt)
 
 none_unbound : (after : List Entry) (c own handle : ℕ) (q : Option ℕ) (consumer : Option Attachment) → NoTransfer (unbound_put after c own handle q consumer)
 none_unbound after c own handle None None = tt
-none_unbound after c own handle (Some id) None = none_released after c own handle (lasts_on (link after c own handle)) id
+none_unbound after c own handle (Some id) None =
+    none_let_down after c own handle (lasts_on (link after c own handle)) (let_down_as (goes_to_all after (link after c own handle))) id
 none_unbound after c own handle q (Some consumer) = tt
 
 none_resumed : (after : List Entry) (c own handle : ℕ) (q : Option ℕ) (r : Option Row) → NoTransfer (unless_joined r (ignored_put after c own handle q))
@@ -320,7 +322,8 @@ answered_keeps id t s kept =
     let behind : WindowKept (heard id t s) = ends_keep id (due t s.event) (Did s ∷ t) kept
     in let bound : List Entry = with_bound (bound_by t (heard id t s) s.event) (heard id t s)
     in let rows : WindowKept (replied id t s)
-    = goes_keeps (own_row id t (heard id t s) s.event) bound (none_row id t (heard id t s) s.event) (bound_keeps (bound_by t (heard id t s) s.event) (heard id t s) behind)
+    = copied_keeps WindowKept (λ b u k. bound_keeps (Some b) u k) t (heard id t s) s.event (goes (own_row id t (heard id t s) s.event) bound)
+    (goes_keeps (own_row id t (heard id t s) s.event) bound (none_row id t (heard id t s) s.event) (bound_keeps (bound_by t (heard id t s) s.event) (heard id t s) behind))
     in let next : List Entry = resumed t s.event (replied id t s)
     in let all : WindowKept (passed_on next)
     = passed_keeps WindowKept passed_kept next (resumed_keeps WindowKept (λ b u k. bound_keeps (Some b) u k) t s.event (replied id t s) rows)

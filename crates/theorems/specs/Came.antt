@@ -1,6 +1,6 @@
 -- Messages received (AMQP 1.0 part 2, sections 2.6.14 and 2.7.5): a producer's delivery is complete with the frame that says that no more
 -- are to come.
-use Rattle.std.specs.Prelude.{◌≡◌, ◌⊎◌, ℕ, ◌+◌, Bool, true, false, is_some, List, [], ◌∷◌, ◌++◌, Option, Some, None, unwrap_or, option_map}
+use Rattle.std.specs.Prelude.{◌≡◌, ◌⊎◌, ◌==◌, ℕ, ◌+◌, Bool, true, false, if◌then◌else◌, is_some, List, [], ◌∷◌, ◌++◌, Option, Some, None, unwrap_or, option_map}
 use Rattle.amqp_model.specs.declared.perf.Perf.TheVariants as perf
 use Rattle.amqp_model.specs.declared.perf.Transfer.{Transfer}
 use Rattle.amqp_model.specs.declared.item.Item.TheVariants as item
@@ -27,16 +27,18 @@ use Rattle.router_trace.specs.declared.channel.PeerChannel.TheVariants.{Mapped}
 use Rattle.router_trace.specs.declared.event.ConnectionId.{ConnectionId}
 use Rattle.journal_store.specs.Acting.{journal_outcome}
 use Rattle.router_trace.specs.declared.event.Event.TheVariants as event
-use Rattle.router_trace.specs.Trace.{Trace, Did, Out, Took, Bound, Booked, Began, Step}
+use Rattle.router_trace.specs.Trace.{Trace, Entry, Did, Out, Took, Bound, Booked, Began, Step}
 use Rattle.router_trace.specs.declared.binding.DeliveryName.TheVariants.{Row}
 use Rattle.router_trace.specs.declared.binding.TakenUp.{TakenUp}
 use Rattle.router_trace.specs.Deliveries.{Delivery, delivery as delivery_in, origin_of, joined_by, acts_found, called, outcome_among, outcome_as, origin_in, told_in, early_in, owned_in}
+use Rattle.router_trace.specs.Configuration.{distribution, is_multicast}
 use Rattle.router_trace.specs.Sessions.{theirs}
 use Rattle.router_trace.specs.Links.{Link, receives, link, link_place, on, durable_key, holder}
 use Rattle.router_trace.specs.Claims.{claims, Claim}
 use Rattle.router_trace.specs.Settling.{is_claimed_on}
 use Rattle.state_messages.specs.Asking.{consumer_with}
-use Rattle.state_messages.specs.Messages.{consumer_of, lasts, payload_as}
+use Rattle.state_messages.specs.Messages.{consumer_of, copies_for, copy_to, lasts, payload_as}
+use Rattle.router_state.specs.Copying.{copied_to}
 use Rattle.reply_transfers.specs.Transfers.{claimed_id, from_link, lasts_on}
 use Rattle.reply_rows.specs.Acts.{book_found, book_in, found_acts}
 use Rattle.router_reply.specs.Holding.{as_held}
@@ -67,6 +69,16 @@ bound_since (Took c n ∷ t) = bound_since t
 bound_since (Bound b ∷ t) = bound_since t + 1
 bound_since (Booked acts full ∷ t) = bound_since t
 bound_since (Began g ∷ t) = 0
+
+-- and how many of them to the link of a consumer, by its number
+abbrev pub bound_to_since : Trace → ℕ → ℕ
+bound_to_since [] n = 0
+bound_to_since (Did s ∷ t) n = 0
+bound_to_since (Out c i ∷ t) n = bound_to_since t n
+bound_to_since (Took c k ∷ t) n = bound_to_since t n
+bound_to_since (Bound b ∷ t) n = bound_to_since t n + (if b.consumer.number == n then 1 else 0)
+bound_to_since (Booked acts full ∷ t) n = bound_to_since t n
+bound_to_since (Began g ∷ t) n = 0
 
 -- A message is complete, on a link of a connection on which the peer is the sender, by the router's channel and handle: the frame just received,
 -- on the session and the handle of the link, is the last of its delivery; the message is what its frames carry, in order.
@@ -119,6 +131,38 @@ pub record BindsMessage (t : Trace) (b : Binding) : Type 0 where
   pub from : ComesFrom (origin_of b.kind) t conn own handle producer message
   pub has_row : HasRowOn (lasts_on (Some producer)) (origin_of b.kind) b.row
   pub lasting : b.lasting ≡ lasts t b.consumer
+
+-- A message of an address whose messages go to every consumer is copied when it is just complete, as it was received, if its producer has settled it: a copy
+-- is bound for each consumer that has free credit then, one after another. No message was bound after that event before.
+pub record IsCopied (whole : Trace) : Type 0 where
+  pub conn : ℕ
+  pub own : ℕ
+  pub handle : ℕ
+  pub message : Told
+  pub payload : List ℕ
+  pub came : CameWhole whole conn own handle message payload
+  pub none_before : bound_since whole ≡ 0
+  pub not_resumed : message.resume ≡ false
+  pub settled : claimed_id whole conn own handle message.id ≡ None
+  pub producer : Link
+  pub attached : link whole conn own handle ≡ Some producer
+  pub to_all : is_multicast (distribution whole producer.address) ≡ true
+
+-- the trace with its copies for these consumers
+abbrev pub with_copies : (whole : Trace) → IsCopied whole → List Attachment → Trace
+with_copies whole x consumers = copied_to (unwrap_or x.message.format 0) x.payload consumers whole
+
+-- A copy is bound after those for the consumers before its own, and after nothing else since that event. No other is bound to its consumer. It has no row, and
+-- no outcome of it is reported (`copy_to`).
+pub record BindsCopy (t : Trace) (b : Binding) : Type 0 where
+  pub whole : Trace
+  pub copied : IsCopied whole
+  pub before : List Attachment
+  pub later : List Attachment
+  pub consumers : copies_for whole (Some copied.producer) ≡ before ++ b.consumer ∷ later
+  pub earlier : t ≡ with_copies whole copied before
+  pub once : bound_to_since t b.consumer.number ≡ 0
+  pub copy : b ≡ copy_to t (unwrap_or copied.message.format 0) copied.payload b.consumer
 
 -- the trace that the last event found
 abbrev pub last_found : Trace → Trace
@@ -229,16 +273,29 @@ abbrev pub JoinsAs : Holding → Trace → Binding → Type 0
 JoinsAs (holding.Resumed origin) t b = JoinsRow t b origin
 JoinsAs q t b = HoldsRow t b q ⊎ SettlesRow t b q
 
--- What is bound is a message, or a row that is taken up again, or a row that is joined to its producer's link: by a delivery, or without one.
+-- What is bound is a message, or a row that is taken up again, or a row that is joined to its producer's link: by a delivery, or without one. Or it is a copy
+-- of a message.
 abbrev pub BindsAs : BindingKind → Trace → Binding → Type 0
 BindsAs (kind.Message origin) t b = BindsMessage t b
 BindsAs (kind.TakenUp brought) t b = TakesUp t b
 BindsAs (kind.Joined q to) t b = JoinsAs q t b
 
 abbrev pub BindsByKind : Trace → Binding → Type 0
-BindsByKind t b = BindsAs b.kind t b
+BindsByKind t b = BindsAs b.kind t b ⊎ BindsCopy t b
 
--- So each delivery is of a message that was received completely and was bound, or of a row that was bound again.
+-- No consumer is left out: in a trace of the router the copies of a message are bound all together, for each consumer that gets one (`copies`). What is bound
+-- by itself is no copy (`alone`), and no other entry binds anything (`entry`).
+abbrev pub is_binding : Entry → Bool
+is_binding (Bound b) = true
+is_binding _ = false
+
+pub data CopiesAreForAll : Trace → Type 0 where
+  start : CopiesAreForAll []
+  entry : (x : Entry) (t : Trace) → is_binding x ≡ false → CopiesAreForAll t → CopiesAreForAll (x ∷ t)
+  alone : (b : Binding) (t : Trace) → BindsAs b.kind t b → CopiesAreForAll t → CopiesAreForAll (Bound b ∷ t)
+  copies : (whole : Trace) (x : IsCopied whole) → CopiesAreForAll whole → CopiesAreForAll (with_copies whole x (copies_for whole (Some x.producer)))
+
+-- So each delivery is of a message that was received completely and was bound or copied, or of a row that was bound again.
 pub record CameAndWasBound (u : Trace) (n : ℕ) (d : Delivery) : Type 0 where
   pub message : IsOfMessage u n d
   pub binds : BindsByKind message.before message.binding

@@ -17,7 +17,7 @@ use Rattle.theorems.specs.Durable.{IsKeptFirst, RowIsAdmitted, EachRowIsBoundOnc
 use Rattle.theorems.specs.Each.{EachOut, EachBound}
 use Rattle.theorems.specs.Lives.{InLives, InSmallLives}
 use Rattle.theorems.specs.Locked.{Kind, UnderTheLock, UnderTheLockIfSmall}
-use Rattle.theorems.specs.Messages.{BindsByKind, BringsItsOutcome, EachDeliveryCame, StaysWithConsumer, NeverComesBack, OfMessages, CarriesWhatWasBound, FramesJoin, OutcomesAreGiven, OutcomesAreOfConsumers, ToldAtMostOnce, ToldAnew, TellsAsGiven}
+use Rattle.theorems.specs.Messages.{BindsByKind, BringsItsOutcome, CopiesAreForAll, EachDeliveryCame, StaysWithConsumer, NeverComesBack, OfMessages, CarriesWhatWasBound, FramesJoin, OutcomesAreGiven, OutcomesAreOfConsumers, ToldAtMostOnce, ToldAnew, TellsAsGiven}
 use Rattle.theorems.specs.Order.{KeepsOrder, BeginsWithHeaders}
 use Rattle.theorems.specs.Scripts.{InSmallScripts, InSmallRuns}
 use Rattle.theorems.specs.Stops.{Stopping, AnyMomentLeavesAPrefix, TheEndLeavesAll, AFaultLeavesAllAnswered, EndsALife, EndsALifeAnswered, GoesOnFrom}
@@ -48,10 +48,10 @@ abbrev pub FramesCarryWhatWasBound : Type 0
 FramesCarryWhatWasBound = Always (EachOut CarriesWhatWasBound) × Always FramesJoin
 
 -- A message is bound when it has come whole, as it came, and only once, except that its row may be taken up again, with
--- the outcome that the book has of it.
+-- the outcome that the book has of it; or, on a multicast address, once for each consumer that has free credit then.
 abbrev pub MessagesAreBoundOnce : Type 0
 MessagesAreBoundOnce =
-    Always (EachBound BindsByKind) × Always EachDeliveryCame × AlwaysOnSound (EachBound BringsItsOutcome)
+    Always (EachBound BindsByKind) × Always CopiesAreForAll × Always EachDeliveryCame × AlwaysOnSound (EachBound BringsItsOutcome)
 
 -- An outcome is what the consumer gave, or what the end of its link gives; or its message came settled, and was sent.
 abbrev pub OutcomesAreAsGiven : Type 0

@@ -15,10 +15,13 @@ use Rattle.router_trace.specs.declared.binding.DeliveryName.{DeliveryName}
 use Rattle.router_trace.specs.declared.binding.Origin.{Origin}
 use Rattle.router_trace.specs.Trace.{Trace, Did, Out, Took, Bound, Booked, Began, IsOneRun}
 use Rattle.router_trace.specs.Deliveries.{Delivery, has_row, same_name, joins_standing, name_in, bindings, delivery, is_meant, origin_id}
+use Rattle.router_trace.specs.declared.condition.Condition.TheVariants.{NotImplemented}
 use Rattle.router_trace.specs.DeliveryFrames.{kept_outcome}
+use Rattle.router_trace.specs.Frames.{error_of}
 use Rattle.router_trace.specs.Links.{Link, link}
 use Rattle.router_trace.specs.Settling.{is_claimed_on}
 use Rattle.state_messages.specs.Messages.{consumer_of}
+use Rattle.router_state.specs.Copying.{goes_to_all}
 use Rattle.reply_transfers.specs.Transfers.{lasts_on}
 use Rattle.router_reply.specs.Replies.{row_found}
 use Rattle.theorems.specs.OneConsumer.{WhileThere, joined_in}
@@ -90,8 +93,13 @@ pub record TellsOutcome (t : Trace) (c own : ℕ) (x : Disposition) : Type 0 whe
 abbrev pub IsUnbound : Trace → Option Link → Option RowNumber → Type 0
 IsUnbound t l row = (consumer_of t l ≡ None) ⊎ ((lasts_on l ≡ true) × (row ≡ None))
 
--- Or a message that is just complete is released: it is bound to none, as no consumer is chosen for it, or its link is durable and it got no row. A
--- durable link's isn't settled by that: its producer settles it.
+-- what its producer is told: that it is released, or rejected as not implemented, on an address whose messages go to every consumer
+abbrev pub unbound_state : Bool → DeliveryState
+unbound_state false = state.Released
+unbound_state true = state.Rejected (record { error = Some (error_of NotImplemented) })
+
+-- Or a message that is just complete is released, or rejected on a multicast address: it is bound to none, as no consumer is chosen for it, or its link is
+-- durable and it got no row. A durable link's isn't settled by that: its producer settles it.
 pub record ReleasesMessage (t : Trace) (c own : ℕ) (x : Disposition) : Type 0 where
   pub handle : ℕ
   pub message : Told
@@ -101,10 +109,10 @@ pub record ReleasesMessage (t : Trace) (c own : ℕ) (x : Disposition) : Type 0 
   pub its_id : message.id ≡ Some x.first
   pub unsettled : is_claimed_on t c own handle x.first ≡ true
   pub unbound : IsUnbound t (link t c own handle) (row_found came.handled.found)
-  pub told : x.state ≡ Some state.Released
+  pub told : x.state ≡ Some (unbound_state (goes_to_all t (link t c own handle)))
   pub settled : x.settled ≡ not (lasts_on (link t c own handle))
 
--- A disposition of the router as a receiver is for one delivery: it reports an outcome, or releases a message.
+-- A disposition of the router as a receiver is for one delivery: it reports an outcome, or releases a message, or rejects it.
 pub record TellsProducer (t : Trace) (c own : ℕ) (x : Disposition) : Type 0 where
   pub one : x.last ≡ None
   pub of : TellsOutcome t c own x ⊎ ReleasesMessage t c own x

@@ -90,8 +90,9 @@ pub fn frames_carry_what_was_bound()
 
 /// In every trace of the router a message is bound when it is complete: the last frame of its delivery has just been
 /// received. What is bound is what its frames carried, and it is bound once, with the row that the acts of that event
-/// admit; on a durable link it has one, unless its producer has settled it. A row that a consumer's durable link takes
-/// up again is bound once more, to that link: the attach found it in the book for that link, and it is bound as it stood
+/// admit; on a durable link it has one, unless its producer has settled it. On a multicast address one that its producer
+/// has settled is bound once for each consumer that has free credit then, all these copies one after another, and no
+/// consumer gets two. A row that a consumer's durable link takes up again is bound once more, to that link: the attach found it in the book for that link, and it is bound as it stood
 /// there, with its outcome if it is decided, or the one that the acts of the attach give it (where the router was opened
 /// on a sound book, or after other runs). A row that the book has for a producer's durable link is joined to that link,
 /// by a delivery that it resumes or without one, and nothing is sent for it. So each delivery is of such a message, or of
@@ -112,9 +113,9 @@ pub fn outcomes_are_as_given()
 /// The producer of each delivery is sent its outcome at most once; another outcome with the same delivery-id belongs
 /// to a message that was bound later. In every trace of the router each disposition as a receiver is for one
 /// delivery: it reports the outcome that was given, for the first time, or releases a message that is just complete
-/// and isn't bound: no consumer is chosen for it, or its link is durable and it got no row. It settles a delivery
-/// unless that is the producer's to do, on a durable link (AMQP 1.0 part 2, sections 2.6.12 and 2.7.6). Lists of
-/// events have such traces.
+/// and isn't bound: no consumer is chosen for it, or its link is durable and it got no row. On a multicast address it
+/// rejects it instead, with amqp:not-implemented. It settles a delivery unless that is the producer's to do, on a durable
+/// link (AMQP 1.0 part 2, sections 2.6.12 and 2.7.6). Lists of events have such traces.
 pub fn outcomes_are_told_once()
     ensures { OutcomesAreToldOnce }
 {}

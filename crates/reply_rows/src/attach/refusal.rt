@@ -1,6 +1,6 @@
 //! Why a link is refused for its terminus at the router's side.
 ghost use Rattle.std.specs.Prelude.{◌≡◌};
-ghost use Rattle.reply_rows.specs.LinkRows.{address_refusal, terminus_refusal, source_refusal, target_refusal, side_refusal, refusal};
+ghost use Rattle.reply_rows.specs.LinkRows.{address_refusal, terminus_refusal, source_refusal, target_refusal, refusal};
 
 use amqp_model::{Address, Attach, Role, SourceTerminus, TargetTerminus, Text};
 use router_trace::Condition;
@@ -62,22 +62,11 @@ fn target_refusal(target: &Option<TargetTerminus>, name: &Text) -> Option<Condit
 }
 
 /// Why a link is refused for its terminus at the router's side, if it is.
-fn side_refusal(attach: &Attach) -> Option<Condition>
-    ensures { result ≡ side_refusal attach.now.role attach.now }
+pub(crate) fn refusal(attach: &Attach) -> Option<Condition>
+    ensures { result ≡ refusal attach.now }
 {
     match attach.role {
         Role::Sender => target_refusal(&attach.target, &attach.name),
         Role::Receiver => source_refusal(&attach.source, &attach.name),
-    }
-}
-
-/// Why a link is refused, if it is: for its terminus at the router's side, or as its address is a multicast one.
-pub(crate) fn refusal(multicast: bool, attach: &Attach) -> Option<Condition>
-    ensures { result ≡ refusal multicast attach.now }
-{
-    match side_refusal(attach) {
-        Some(condition) => Some(condition),
-        None if multicast => Some(Condition::NotImplemented),
-        None => None,
     }
 }
