@@ -300,6 +300,7 @@ fn counted<
     write_lines(rt, &program.state.lines)?;
     program.state.lines.say(rt, task.journal);
     tell_limits(rt, &program.state);
+    tell_routes(rt, &program.state);
     program.start(rt);
     listen(
         rt,
@@ -320,6 +321,16 @@ fn tell_limits<R: Wait + Clock>(rt: &R, state: &ProgramState) {
         "up to {CONNECTIONS} connections are served at once, and up to {THREADS} are taken with those that are at their doors"
     ) {
         state.lines.say(rt, &line);
+    }
+}
+
+/// Reports that link routes aren't followed, if the configuration has any.
+fn tell_routes<R: Wait + Clock>(rt: &R, state: &ProgramState) {
+    if !state.config.link_routes().is_empty() {
+        state.lines.say(
+            rt,
+            "link routes aren't followed yet: a link of such an address ends at this router",
+        );
     }
 }
 
