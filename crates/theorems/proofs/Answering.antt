@@ -82,10 +82,10 @@ clash e = cc
 
 -- what the closes of other connections leave of one
 
-record SameView (t u : Trace) (c : ℕ) : Type 0 where
-  links : (o h : ℕ) → link u c o h ≡ link t c o h
-  answered : (o h : ℕ) → answered_handle u c o h ≡ answered_handle t c o h
-  came : asked u c ≡ asked t c
+pub record SameView (t u : Trace) (c : ℕ) : Type 0 where
+  pub links : (o h : ℕ) → link u c o h ≡ link t c o h
+  pub answered : (o h : ℕ) → answered_handle u c o h ≡ answered_handle t c o h
+  pub came : asked u c ≡ asked t c
 
 view_it : (t : Trace) (c : ℕ) → SameView t t c
 view_it t c = record { links = λ o h. refl; answered = λ o h. refl; came = refl }
@@ -100,7 +100,7 @@ view_puts : (is : List Item) (t : Trace) (d c : ℕ) → (d == c) ≡ false → 
 view_puts [] t d c apart = view_it t c
 view_puts (i ∷ is) t d c apart = view_on t (Out d i ∷ t) (puts d is (Out d i ∷ t)) c (view_beside t d c i apart) (view_puts is (Out d i ∷ t) d c apart)
 
-ends_view : (id : List ℕ) (ds : List ℕ) (t : Trace) (c : ℕ) → has c ds ≡ false → SameView t (ends id ds t) c
+pub ends_view : (id : List ℕ) (ds : List ℕ) (t : Trace) (c : ℕ) → has c ds ≡ false → SameView t (ends id ds t) c
 ends_view id [] t c spared = view_it t c
 ends_view id (d ∷ ds) t c spared =
     let items : List Item = closing_of id (conn t d) ResourceLimitExceeded in

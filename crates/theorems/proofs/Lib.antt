@@ -94,7 +94,9 @@ pub mod Alike
 pub mod Doored
 pub mod AtDoor
 -- Windows and credit.
+pub mod Bare
 pub mod WindowsKept
+pub mod Echoed
 pub mod CreditKept
 -- Takes.
 pub mod Untaken

@@ -1,6 +1,6 @@
 -- A router's journal that stands: any two files that a stop leaves open to the book of the router's trace. And what a stop leaves at any
 -- moment is the book of the runs so far.
-use Rattle.std.proofs.Common.{◌≡◌, refl, sym, subst, ℕ, List, [], ◌∷◌, ◌++◌, append-nil, Option, Some, None, IfSome}
+use Rattle.std.proofs.Common.{◌≡◌, refl, sym, ap, subst, ℕ, suc, List, [], ◌∷◌, ◌++◌, length, append-nil, Option, Some, None, IfSome, Vec, Global}
 use Rattle.book_model.specs.Book.{BookView}
 use Rattle.disk_core.specs.Twin.{Contents}
 use Rattle.journal_store.specs.Store.{OpensTo, Stands, twin_of}
@@ -16,7 +16,7 @@ use Rattle.router_core.specs.declared.driving.Sent.{Sent}
 use Rattle.router_core.specs.declared.router.Core.{Core}
 use Rattle.router_core.specs.Handling.{Fits, store_of}
 use Rattle.router_core.specs.Leaving.{IsLeftAfter, IsLeftBy, LeftBy}
-use Rattle.router_core.specs.Runs.{Run}
+use Rattle.router_core.specs.Runs.{Run, events_of}
 use Rattle.theorems.specs.Lives.{Life, Lives, CutOff, GoesInTurn}
 use Rattle.theorems.specs.Stops.{IsUnderWay, EndsLife, EndsAnswered, stopped}
 use Rattle.theorems.proofs.KeptFirst.{LeadsInTurn, leads_on, turns_on, run_leads, steps_lead}
@@ -51,20 +51,21 @@ ends_life id life lives t groups way contents left =
 
 -- of a run that met a fault
 pub ends_answered : (id : List ℕ) (life : Life) (lives : List Life) (t : Trace) (groups : List (List Event)) (handled : ℕ) (xs : List Sent) → IsUnderWay id life lives t
-    → (contents : Contents) → IsLeftAfter id t groups handled xs contents → EndsAnswered id life lives t groups xs contents
+    → (contents : Contents) → IsLeftAfter id t groups handled xs contents → EndsAnswered id life lives t groups handled xs contents
 ends_answered id life lives t groups handled xs way contents is =
     let run = goes_to id life lives t groups is.book way is.left in
     record {
       ends = record { book = is.book; left = is.left; more = run.0; ended = run.1; opens = is.opens };
+      count = is.count;
       last = is.last;
       items = is.items;
       answered = is.answered;
     }
 
 -- of a run that met none
-pub ends_all : (id : List ℕ) (life : Life) (lives : List Life) (t : Trace) (groups : List (List Event)) (xs : List Sent) (u : Trace) → IsUnderWay id life lives t
-    → Run id 0 t groups xs u → (contents : Contents) → OpensTo contents (book_in u) → EndsAnswered id life lives t groups xs contents
-ends_all id life lives t groups xs u way run contents opens =
+pub ends_all : (id : List ℕ) (life : Life) (lives : List Life) (t : Trace) (groups : List (List Event)) (handled : ℕ) (xs : List Sent) (u : Trace) → IsUnderWay id life lives t → handled ≡ length groups
+    → Run id 0 t groups xs u → (contents : Contents) → OpensTo contents (book_in u) → EndsAnswered id life lives t groups handled xs contents
+ends_all id life lives t groups handled xs u way count run contents opens =
     let left : IsLeftBy id t groups (book_in u) = record {
       first = groups;
       rest = [];
@@ -77,17 +78,24 @@ ends_all id life lives t groups xs u way run contents opens =
     let more = goes_to id life lives t groups (book_in u) way left in
     record {
       ends = record { book = book_in u; left = left; more = more.0; ended = more.1; opens = opens };
+      count = count;
       last = [];
       items = sym (append-nil xs);
       answered = λ some. refl;
     }
 
+-- as many groups of events as groups
+pub count_of : (groups : List (Vec Event Global)) → length (events_of groups) ≡ length groups
+count_of [] = refl
+count_of (g ∷ gs) = ap suc (count_of gs)
+
 -- whether it met one or not
 pub end_answered : (id : List ℕ) (life : Life) (lives : List Life) (t : Trace) (groups : List (List Event)) (driven : Driven) (P : Type 0) → IsUnderWay id life lives t → (contents : Contents)
+    → (driven.fault ≡ None → driven.handled ≡ length groups)
     → (driven.fault ≡ None → (u : Trace) × Run id 0 t groups driven.taken.items u × OpensTo contents (book_in u))
-    → (P → IsLeftAfter id t groups driven.handled driven.taken.items contents) → IfSome driven.fault (λ f. P) → EndsAnswered id life lives t groups driven.taken.items contents
-end_answered id life lives t groups driven P way contents none after some = by driven.fault refl some
+    → (P → IsLeftAfter id t groups driven.handled driven.taken.items contents) → IfSome driven.fault (λ f. P) → EndsAnswered id life lives t groups driven.handled driven.taken.items contents
+end_answered id life lives t groups driven P way contents all none after some = by driven.fault refl some
   where
-    by : (o : Option CoreFault) → driven.fault ≡ o → IfSome o (λ f. P) → EndsAnswered id life lives t groups driven.taken.items contents
-    by None is h = let w = none is in ends_all id life lives t groups driven.taken.items w.0 way w.1 contents w.2
+    by : (o : Option CoreFault) → driven.fault ≡ o → IfSome o (λ f. P) → EndsAnswered id life lives t groups driven.handled driven.taken.items contents
+    by None is h = let w = none is in ends_all id life lives t groups driven.handled driven.taken.items w.0 way (all is) w.1 contents w.2
     by (Some f) is h = ends_answered id life lives t groups driven.handled driven.taken.items way contents (after h)

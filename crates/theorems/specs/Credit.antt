@@ -2,7 +2,8 @@
 use Rattle.std.specs.Prelude.{◌≤◌, ℕ, Bool, true, false, [], ◌∷◌, Option, Some, None}
 use Rattle.amqp_model.specs.declared.perf.Perf.{Perf}
 use Rattle.amqp_model.specs.declared.perf.Perf.TheVariants as perf
-use Rattle.amqp_link.specs.Credit.{credit}
+use Rattle.amqp_session.specs.Serials.{distance}
+use Rattle.amqp_link.specs.Credit.{count, credit}
 use Rattle.amqp_model.specs.declared.item.Item.{Item}
 use Rattle.amqp_model.specs.declared.item.Item.TheVariants as item
 use Rattle.router_trace.specs.Trace.{Trace, Did, Out, Took, Bound, Booked, Began}
@@ -22,8 +23,25 @@ abbrev pub starts_within : Option Link → Type 0
 starts_within None = ⊥
 starts_within (Some l) = unless_going_on l.going_on l.happened
 
+-- Each flow put out for a link is on an attached link, too. If the router is the sender there, the flow has a
+-- delivery-count, and that is the link's, or ahead of it by at most the credit left: a drain moves it forward, and no
+-- flow moves it back (2.6.7).
+abbrev pub counts_on : Option ℕ → Happened → Type 0
+counts_on (Some n) (sends list) = distance (count list) n ≤ credit list
+counts_on None (sends list) = ⊥
+counts_on n (receives list) = Unit {0}
+
+abbrev pub counts_within : Option ℕ → Option Link → Type 0
+counts_within n None = ⊥
+counts_within n (Some l) = counts_on n l.happened
+
+abbrev pub flow_within : Option ℕ → Option ℕ → (ℕ → Option Link) → Type 0
+flow_within n None known = Unit {0}
+flow_within n (Some handle) known = counts_within n (known handle)
+
 abbrev pub perf_within : Perf → ℕ → (ℕ → ℕ → Option Link) → Type 0
 perf_within (perf.Transfer x) own known = starts_within (known own x.handle)
+perf_within (perf.Flow f) own known = flow_within f.delivery_count f.handle (known own)
 perf_within _ own known = Unit {0}
 
 abbrev pub within_credit : Item → (ℕ → ℕ → Option Link) → Type 0

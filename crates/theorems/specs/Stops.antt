@@ -1,6 +1,6 @@
 -- What a stop leaves of the journal, at any moment of a call that handles groups of events: a crash, or the end of the program; and how
 -- the next router goes on.
-use Rattle.std.specs.Prelude.{◌≡◌, ◌≢◌, ℕ, List, [], ◌∷◌, ◌++◌, None, IfSome}
+use Rattle.std.specs.Prelude.{◌≡◌, ◌≢◌, ℕ, List, [], ◌∷◌, ◌++◌, length, None, IfSome}
 use Rattle.disk_core.specs.Disk.{LeavesOnly}
 use Rattle.disk_core.specs.Twin.{Contents}
 use Rattle.book_model.specs.Book.{BookView}
@@ -88,10 +88,12 @@ EndsALife d old groups new =
     (life : Life) (lives : List Life) (t : Trace) → IsUnderWay (id_of old) life lives t → Fits old t → JournalStands d old
     → LeavesOnly d.moment d.left_since (twin_of (store_of old)) (twin_of (store_of new)) (EndsLife (id_of old) life lives t groups)
 
--- So they do at the end of the call, after which these items had been taken. An item that isn't of the groups before the
--- one that met a fault was put out by that one, or before all of them; then the book is the one after all of its events.
-pub record EndsAnswered (id : List ℕ) (life : Life) (lives : List Life) (t : Trace) (groups : List (List Event)) (xs : List Sent) (contents : Contents) : Type 0 where
+-- So they do at the end of the call, which handled this many groups, and after which these items had been taken. An item
+-- that isn't of the groups before the one that met a fault was put out by that one, or before all of them; then the book
+-- is the one after all of its events.
+pub record EndsAnswered (id : List ℕ) (life : Life) (lives : List Life) (t : Trace) (groups : List (List Event)) (handled : ℕ) (xs : List Sent) (contents : Contents) : Type 0 where
   pub ends : EndsLife id life lives t groups contents
+  pub count : handled ≡ length ends.left.first
   pub last : List Sent
   pub items : xs ≡ ends.left.taken ++ last
   pub answered : last ≢ [] → ends.left.within.others ≡ []
@@ -99,7 +101,7 @@ pub record EndsAnswered (id : List ℕ) (life : Life) (lives : List Life) (t : T
 abbrev pub EndsALifeAnswered : {T : Type 0} → Stopping T → Core T → List (List Event) → Core T → Driven → Type 0
 EndsALifeAnswered d old groups new driven =
     (life : Life) (lives : List Life) (t : Trace) → IsUnderWay (id_of old) life lives t → Fits old t → JournalStands d old
-    → (contents : Contents) → d.may_leave (twin_of (store_of new)) contents → EndsAnswered (id_of old) life lives t groups driven.taken.items contents
+    → (contents : Contents) → d.may_leave (twin_of (store_of new)) contents → EndsAnswered (id_of old) life lives t groups driven.handled driven.taken.items contents
 
 -- a run that has just begun
 abbrev pub born : Beginning → Life

@@ -35,7 +35,8 @@ AStopLeavesAPrefix d old groups new x =
 abbrev pub ARouterGoesOn : {T : Type 0} → Stopping T → List ℕ → Beginning → Contents → Core T → Type 0
 ARouterGoesOn d id opening contents core = GoesOnFrom d id opening contents core
 
--- A transfer goes to an attached link, and starts a delivery only where the link has credit left.
+-- A transfer goes to an attached link, and starts a delivery only where the link has credit left; a flow moves the link's
+-- delivery-count forward only, by at most that credit.
 abbrev pub NoDeliveryStartsBeyondCredit : Type 0
 NoDeliveryStartsBeyondCredit = Always WithinCredit
 

@@ -68,7 +68,9 @@ pub fn a_router_goes_on<T: Twin>(
 }
 
 /// In every trace of the router each transfer is put out on an attached link, and before each that starts a delivery
-/// the link's remaining credit is at least 1 (AMQP 1.0 part 2, section 2.6.7). Groups of events have such traces.
+/// the link's remaining credit is at least 1. Each flow of a link is put out on an attached one, and where the router
+/// is the sender it has the link's delivery-count, or one ahead of it by at most the remaining credit (AMQP 1.0 part 2,
+/// section 2.6.7). Groups of events have such traces.
 pub fn no_delivery_starts_beyond_credit()
     ensures { NoDeliveryStartsBeyondCredit }
 {}
@@ -209,7 +211,8 @@ pub fn scripts_keep_order()
 
 /// In every script of bytes, whatever the peers send, the session's remote-incoming-window is at least 1 before each
 /// transfer that is put out; each is put out on an attached link, and before each that starts a delivery the link's
-/// remaining credit is at least 1 (AMQP 1.0 part 2, sections 2.5.6 and 2.6.7).
+/// remaining credit is at least 1; and flows tell delivery-counts as in `no_delivery_starts_beyond_credit` (AMQP 1.0
+/// part 2, sections 2.5.6 and 2.6.7).
 pub fn scripts_keep_windows_and_credit()
     ensures { ScriptsKeepWindowsAndCredit }
 {}

@@ -1,6 +1,7 @@
+use Rattle.std.proofs.Common.{◌∙◌, sym}
 use Rattle.disk_core.specs.DiskLaws.{widened}
 use Rattle.router_core.specs.Runs.{events_of}
-use Rattle.theorems.proofs.Stops.{opens_to_book, ends_life, end_answered}
+use Rattle.theorems.proofs.Stops.{opens_to_book, ends_life, count_of, end_answered}
 use Rattle.theorems.proofs.theorems.a_stop_leaves_a_prefix.Goals as goal
 
 pub returns : goal.returns
@@ -18,6 +19,7 @@ returns g c = (
       widened g.T.Twin.moment g.T.Twin.left_since _ _ _ _ (c.drive.ensures.any_moment t f s) (ends_life _ life lives t (events_of c.args.groups.items) way),
   λ life lives t way f s contents left.
       end_answered _ life lives t (events_of c.args.groups.items) c.drive.result _ way contents
+      (λ none. c.drive.ensures.all none ∙ sym (count_of c.args.groups.items))
       (λ none.
       let w = c.drive.ensures.ran none t f
       in let stands = c.drive.ensures.stands none s
