@@ -9,3 +9,6 @@ pub mod Steps
 pub mod Streams
 pub mod Written
 pub mod Rooms
+pub mod Shorts
+pub mod ShortPlaces
+pub mod ShortPerfs

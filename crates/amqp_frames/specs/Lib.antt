@@ -5,3 +5,4 @@ pub mod Frames
 pub mod Laws
 pub mod SpellsItem
 pub mod Within
+pub mod Shorts

@@ -8,6 +8,8 @@ pub mod laws;
 mod read;
 pub mod reader;
 pub mod room;
+mod short_fields;
+mod short_read;
 pub mod write;
 
 pub use amqp_model::{FrameFault, Item};

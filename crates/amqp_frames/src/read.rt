@@ -1,8 +1,11 @@
 //! What the bytes of one item mean.
 ghost use Rattle.std.specs.Prelude.{◌≡◌, ◌+◌, ◌*◌, ◌≤◌, IsTrue, ◌↔◌, length, drop, IfOk};
+ghost use Rattle.amqp_perf.specs.Contract.{Gives};
+ghost use Rattle.amqp_perf.specs.Performative.{performative};
 ghost use Rattle.amqp_frames.specs.Contract.{Reads, loaded};
 ghost use Rattle.amqp_frames.specs.Frames.{frame, item_of, may_carry};
 
+use crate::short_read::read_short;
 use amqp_model::{FrameFault, Item, Perf, PerfFault};
 use amqp_perf::read_perf;
 use bytes::Bytes;
@@ -54,7 +57,7 @@ fn read_frame(
     if body.is_empty() && !sasl {
         return Ok((Item::Beat { channel }, text.len()));
     }
-    let (perf, behind) = read_perf(alloc, body)?;
+    let (perf, behind) = read_body(alloc, body)?;
     let payload = from_place(body, behind);
     if !payload.is_empty() && !carries_payload(&perf) {
         drop(perf);
@@ -68,6 +71,17 @@ fn read_frame(
         payload: Bytes::new(),
     };
     Ok((item, payload_at))
+}
+
+/// Reads the performative at the front of a body: at once where it stands there in its usual spelling.
+fn read_body(alloc: Global, body: &[u8]) -> Result<(Perf, usize), PerfFault>
+    ensures exact { Gives result (performative body.now) }
+    ensures within { IfOk result (λ read. read.1 ≤ length body.now) }
+{
+    match read_short(body) {
+        Some(read) => Ok(read),
+        None => read_perf(alloc, body),
+    }
 }
 
 /// Only a transfer has a payload.
