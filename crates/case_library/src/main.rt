@@ -1,5 +1,5 @@
-//! Tries the cases that ask one library: values, performatives, frames, configurations, books, disks, twins and journals on disks
-//! and twins.
+//! Tries the cases that ask one library: values, performatives, frames, the delivery-ids of routed links, configurations, books, disks,
+//! twins and journals on disks and twins.
 //! `docs/cases.md` describes their form.
 #![tactic(auto)]
 
@@ -9,6 +9,7 @@ mod books;
 mod configurations;
 mod disks;
 mod frames;
+mod ids;
 mod journals;
 mod performatives;
 mod scene;

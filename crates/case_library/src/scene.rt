@@ -3,9 +3,10 @@ use crate::disks::{self, AnyDisk};
 use crate::journals::{self, StopDisk};
 use crate::twin_journals::{self, StopTwin};
 use crate::twins::{self, AnyTwin};
-use crate::{books, configurations, frames, performatives, values};
+use crate::{books, configurations, frames, ids, performatives, values};
 use book_core::Book;
 use case_files::{Case, CaseFault, Scene};
+use route_links::Ids;
 use route_table::Config;
 use std::alloc::Global;
 
@@ -18,6 +19,8 @@ pub enum Subject {
     Performatives,
     /// Streams of frames; nothing is kept between questions.
     Frames,
+    /// The delivery-ids of a routed link, on which nothing came at first.
+    Ids(Ids),
     /// The configuration that was read last.
     Configuration(Option<Config>),
     /// A book, empty at first.
@@ -38,6 +41,7 @@ impl Scene for Subject {
             "values" => Some(Subject::Values),
             "performatives" => Some(Subject::Performatives),
             "frames" => Some(Subject::Frames),
+            "ids" => Some(Subject::Ids(Ids::new(alloc))),
             "configurations" => Some(Subject::Configuration(None)),
             "books" => Some(Subject::Book(Book::empty(alloc))),
             "disks" => Some(Subject::Disk(None)),
@@ -54,6 +58,7 @@ impl Scene for Subject {
             Subject::Values => values::answer(alloc, case),
             Subject::Performatives => performatives::answer(alloc, case),
             Subject::Frames => frames::answer(alloc, case),
+            Subject::Ids(ids) => ids::answer(alloc, ids, case),
             Subject::Configuration(scene) => configurations::answer(alloc, scene, case),
             Subject::Book(book) => books::answer(alloc, book, case),
             Subject::Disk(scene) => disks::answer(rt, scene, case),

@@ -32,6 +32,7 @@ pub record Passes (a : Allowed) (leg : Held) (q : List Passing) (f : Passing) (n
   pub free : one (is_start f) ≤ a.free_ids
   pub id : is_start f ≡ true → id_of f ≡ Some a.next_id
   pub fits : FitsFrame a.largest f
+  pub begins : is_transfer f ≡ true → is_start f ≡ starts leg.went
   pub shorter : length now.queue + 1 ≤ length q + one (is_transfer f)
 
 -- what a transfer that isn't held back may use
@@ -118,6 +119,7 @@ whole_passes a leg c fs is fits =
       credit = uses a m a.credit is.credit;
       free = uses a m a.free_ids is.free;
       id = id_is a m;
+      begins = λ is_one. start_is a m;
       fits = le_of _ _ fits;
       shorter = shorter_whole (length fs);
     }
@@ -142,6 +144,7 @@ pieces_pass a leg c fs is can =
       credit = uses a m a.credit is.credit;
       free = uses a m a.free_ids is.free;
       id = id_is a m;
+      begins = λ is_one. start_is a m;
       fits = piece_fits a.largest x c.payload can;
       shorter = shorter_piece (length fs);
     }
@@ -172,6 +175,7 @@ other_passes a leg f g fs no_transfer no_start fits stays h =
       credit = subst (λ (b : Bool). one b ≤ a.credit) (sym no_start) (none_used a.credit);
       free = subst (λ (b : Bool). one b ≤ a.free_ids) (sym no_start) (none_used a.free_ids);
       id = λ is. absurd (true≢false (sym is ∙ no_start));
+      begins = λ is. absurd (true≢false (sym is ∙ no_transfer));
       fits = fits;
       shorter = subst (λ (b : Bool). length fs + 1 ≤ length (f ∷ fs) + one b) (sym no_transfer) (shorter_other (length fs));
     })
