@@ -2,7 +2,7 @@
 use Rattle.std.specs.Prelude.{Bool, true, false, not, ◌||◌, [], ◌∷◌}
 use Rattle.router_trace.specs.declared.event.Event.{Event}
 use Rattle.router_trace.specs.declared.event.Event.TheVariants as event
-use Rattle.router_trace.specs.Trace.{Trace, Did, Out, Took, Bound, Booked, Began}
+use Rattle.router_trace.specs.Trace.{Trace, Did, Out, Took, Bound, Booked, Routed, Began}
 use Rattle.router_trace.specs.Refusing.{refuses}
 
 -- Start comes first, and once.
@@ -17,6 +17,7 @@ is_started (Out c i ∷ t) = is_started t
 is_started (Took c n ∷ t) = is_started t
 is_started (Bound x ∷ t) = is_started t
 is_started (Booked acts full ∷ t) = is_started t
+is_started (Routed passage ∷ t) = is_started t
 is_started (Began g ∷ t) = false
 
 abbrev pub is_out_of_turn : Trace → Event → Bool

@@ -66,15 +66,15 @@ open_here : (here : ℕ → Bool) (x : AnOpen) (r : Result (Unit {0}) ConnFault)
 open_here here x (Ok q) = by_test (nat_lt 1024 (length x.container_id)) (λ e. rw e tt) (λ e. rw e tt)
 open_here here x (Err f) = tt
 
-begin_here : (here : ℕ → Bool) (at : Place) (free : Option ℕ) (theirs : ℕ) (x : ABegin) → IsHere here (begin_reply at free theirs x)
-begin_here here nowhere free theirs x = by free x.remote_channel
+begin_here : (here : ℕ → Bool) (at : Place) (free : Option ℕ) (awaits : ℕ → Bool) (theirs : ℕ) (x : ABegin) → IsHere here (begin_reply at free awaits theirs x)
+begin_here here nowhere free awaits theirs x = by free x.remote_channel
   where
-    by : (free m : Option ℕ) → IsHere here (begin_by theirs free m)
-    by free (Some channel) = tt
+    by : (free m : Option ℕ) → IsHere here (begin_by theirs free awaits m)
+    by free (Some own) = by_test (awaits own) (λ e. rw e tt) (λ e. rw e tt)
     by None None = tt
     by (Some own) None = tt
-begin_here here ending free theirs x = tt
-begin_here here (on own s) free theirs x = tt
+begin_here here ending free awaits theirs x = tt
+begin_here here (on own s) free awaits theirs x = tt
 
 end_here : (here : ℕ → Bool) (at : Place) → IsHere here (end_reply at)
 end_here here nowhere = tt
@@ -174,7 +174,7 @@ turn_here here k channel body (Ok q) it = it
 turn_here here k channel body (Err f) it = out_of_turn_here here f
 
 in_turn_here : (here : ℕ → Bool) (k : Finds) (channel : ℕ) (body : Perf) → PlaceIsHere here (k.places channel) → IsHere here (in_turn k channel body)
-in_turn_here here k channel (perf.Begin x) place = begin_here here (k.places channel) k.free_channel channel x
+in_turn_here here k channel (perf.Begin x) place = begin_here here (k.places channel) k.free_channel k.awaits channel x
 in_turn_here here k channel (perf.Attach x) place = attach_here here (k.places channel) k.links k.free_handle x
 in_turn_here here k channel (perf.Flow x) place = flow_here here (k.places channel) k.links x
 in_turn_here here k channel (perf.Transfer x) place = transfer_here here (k.places channel) k.links k.claimed x place

@@ -9,7 +9,7 @@ use Rattle.journal_store.specs.Lost.{start_acts}
 use Rattle.journal_store.specs.Store.{batches_after, exceeds}
 use Rattle.router_trace.specs.declared.event.Event.{Event}
 use Rattle.router_trace.specs.declared.event.Event.TheVariants as event
-use Rattle.router_trace.specs.Trace.{Trace, Did, Out, Took, Bound, Booked, Began}
+use Rattle.router_trace.specs.Trace.{Trace, Did, Out, Took, Bound, Booked, Routed, Began}
 use Rattle.router_trace.specs.Connection.{standing, found, due}
 use Rattle.reply_rows.specs.Booking.{answer_at}
 use Rattle.reply_rows.specs.declared.answer.Answer.{Answer}
@@ -68,6 +68,7 @@ journaled (Out c i ∷ t) = journaled t
 journaled (Took c n ∷ t) = journaled t
 journaled (Bound b ∷ t) = journaled t
 journaled (Booked acts full ∷ t) = with_acts (journaled t) acts
+journaled (Routed passage ∷ t) = journaled t
 journaled (Began g ∷ t) = record { book = g.book; batches = g.batches }
 
 abbrev pub book_in : Trace → BookView

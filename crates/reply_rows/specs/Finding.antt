@@ -1,7 +1,7 @@
 -- What an item on a connection finds, in a trace.
-use Rattle.std.specs.Prelude.{ℕ, Bool, List, Option}
+use Rattle.std.specs.Prelude.{ℕ, Bool, List, Option, is_some}
 use Rattle.router_trace.specs.Trace.{Trace}
-use Rattle.router_trace.specs.Sessions.{place, free_channel}
+use Rattle.router_trace.specs.Sessions.{place, free_channel, awaited}
 use Rattle.router_trace.specs.Settling.{is_claimed}
 use Rattle.router_trace.specs.Links.{link_place, free_handle}
 use Rattle.router_trace.specs.Clocks.{terms, channel_max_of}
@@ -16,6 +16,7 @@ abbrev pub finds : Trace → ℕ → Finds
 finds t c = record {
   places = place t c;
   free_channel = free_for t c;
+  awaits = λ own. is_some (awaited t c own);
   links = link_place t c;
   free_handle = free_handle t c;
   claimed = is_claimed t c;

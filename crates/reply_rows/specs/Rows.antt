@@ -1,7 +1,7 @@
 -- The rows of the reply table: the router's answer to an item on a live connection, by what the item finds: the connection's
 -- phase, what is on the item's channel, and the lowest channel that is free for a session (AMQP 1.0 part 2, sections 2.2,
 -- 2.4, 2.5 and 2.7).
-use Rattle.std.specs.Prelude.{ℕ, Bool, nat_lt, if◌then◌else◌, List, [], ◌∷◌, length, Option, Some, None, Result, Ok, Err}
+use Rattle.std.specs.Prelude.{ℕ, Bool, false, nat_lt, if◌then◌else◌, List, [], ◌∷◌, length, Option, Some, None, Result, Ok, Err}
 use Rattle.amqp_model.specs.declared.perf.Attach.{Attach as AnAttach}
 use Rattle.amqp_model.specs.declared.perf.Begin.{Begin as ABegin}
 use Rattle.amqp_model.specs.declared.perf.Detach.{Detach as ADetach}
@@ -37,7 +37,7 @@ said id p Header = header_item ∷ []
 said id p Open = open_item id ∷ []
 said id p Close = close_item None ∷ []
 said id p (CloseWith x) = closing id p x
-said id p (Begin own theirs) = begin_item own theirs ∷ []
+said id p (Begin own theirs) = begin_item own (Some theirs) ∷ []
 said id p (End own x) = end_item own x ∷ []
 said id p (Flow own told) = flow_item own told ∷ []
 said id p (Detach own handle closed x) = detach_item own handle closed x ∷ []
@@ -106,20 +106,27 @@ down_reply = []
 abbrev pub beat_reply : ℕ → Answer
 beat_reply channel = if nat_lt 14 channel then channel_reply else silent_reply
 
--- a begin: on a channel in use, or if it answers a begin that the router never wrote, it isn't allowed; if no channel of
--- the router is free there is no room; else the router's begin on its lowest free channel
+-- a begin: on a channel in use, or if it answers a begin of the router that awaits no answer, it isn't allowed; if it answers one that
+-- does, it has no answer of its own; if no channel of the router is free there is no room; else the router's begin on its lowest free channel
 abbrev pub begin_on : ℕ → Option ℕ → Answer
 begin_on theirs None = CloseWith ResourceLimitExceeded
 begin_on theirs (Some own) = Begin own theirs
 
-abbrev pub begin_by : ℕ → Option ℕ → Option ℕ → Answer
-begin_by theirs free (Some channel) = CloseWith NotAllowed
-begin_by theirs free None = begin_on theirs free
+abbrev pub is_awaited : (ℕ → Bool) → Option ℕ → Bool
+is_awaited awaits None = false
+is_awaited awaits (Some own) = awaits own
 
-abbrev pub begin_reply : Place → Option ℕ → ℕ → ABegin → Answer
-begin_reply nowhere free theirs b = begin_by theirs free b.remote_channel
-begin_reply ending free theirs b = silent_reply
-begin_reply (on own h) free theirs b = CloseWith NotAllowed
+abbrev pub answering : Bool → Answer
+answering awaited = if awaited then silent_reply else CloseWith NotAllowed
+
+abbrev pub begin_by : ℕ → Option ℕ → (ℕ → Bool) → Option ℕ → Answer
+begin_by theirs free awaits (Some own) = answering (awaits own)
+begin_by theirs free awaits None = begin_on theirs free
+
+abbrev pub begin_reply : Place → Option ℕ → (ℕ → Bool) → ℕ → ABegin → Answer
+begin_reply nowhere free awaits theirs b = begin_by theirs free awaits b.remote_channel
+begin_reply ending free awaits theirs b = silent_reply
+begin_reply (on own h) free awaits theirs b = CloseWith NotAllowed
 
 -- an end: the router's end, without an error; none if it answers the router's own end
 abbrev pub end_reply : Place → Answer
@@ -164,18 +171,20 @@ disposition_reply nowhere x = no_session_reply
 disposition_reply ending x = silent_reply
 disposition_reply (on own h) x = session_disposition_reply own x
 
--- What an item finds: what is on the peer's channels, the router's lowest free channel, what the peer's handles stand for
--- on the sessions of the router's channels, the router's lowest free handle on each, and the peer's delivery-ids that aren't settled.
+-- What an item finds: what is on the peer's channels, the router's lowest free channel, the router's channels on which its begin awaits
+-- the peer's, what the peer's handles stand for on the sessions of the router's channels, the router's lowest free handle on each, and the
+-- peer's delivery-ids that aren't settled.
 pub record Finds : Type 0 where
   pub places : ℕ → Place
   pub free_channel : Option ℕ
+  pub awaits : ℕ → Bool
   pub links : Links
   pub free_handle : ℕ → Option ℕ
   pub claimed : ℕ → ℕ → Bool
 
 -- a performative other than open, on an open connection and a channel in range, or not
 abbrev pub in_turn : Finds → ℕ → Perf → Answer
-in_turn k channel (perf.Begin b) = begin_reply (k.places channel) k.free_channel channel b
+in_turn k channel (perf.Begin b) = begin_reply (k.places channel) k.free_channel k.awaits channel b
 in_turn k channel (perf.Attach a) = attach_reply (k.places channel) k.links k.free_handle a
 in_turn k channel (perf.Flow f) = flow_reply (k.places channel) k.links f
 in_turn k channel (perf.Transfer x) = transfer_reply (k.places channel) k.links k.claimed x

@@ -4,7 +4,7 @@ ghost use Rattle.router_trace.specs.Trace.{Entry};
 ghost use Rattle.router_state.specs.Tables.{TablesFind};
 ghost use Rattle.amqp_conn.specs.Phase.{frame_in_turn};
 ghost use Rattle.router_state.specs.Finding.{IsFound, IsFoundBy, handle_in};
-ghost use Rattle.reply_rows.specs.Rows.{in_turn, turn_by, perf_reply};
+ghost use Rattle.reply_rows.specs.Rows.{in_turn, is_awaited, turn_by, perf_reply};
 ghost use Rattle.reply_rows.specs.Booking.{booked_perf, answer_at};
 ghost use Rattle.reply_rows.specs.Finding.{finds};
 
@@ -40,8 +40,10 @@ fn in_turn(
 {
     match perf {
         Perf::Begin(begin) => {
+            let begin = begin.as_ref();
             let free = state.free_channel(conn);
-            Ok(begin_reply(found.session, free, channel, begin.as_ref()))
+            let awaits = awaits(state, conn, begin.remote_channel);
+            Ok(begin_reply(found.session, free, awaits, channel, begin))
         }
         Perf::Attach(attach) => attach_answer(state, book, full, conn, found, attach.as_ref()),
         Perf::Flow(flow) => Ok(flow_reply(found, flow)),
@@ -50,6 +52,16 @@ fn in_turn(
         Perf::Detach(detach) => Ok(detach_reply(found, detach)),
         Perf::End(_) => Ok(end_reply(found.session)),
         _ => Ok(early_frame_reply()),
+    }
+}
+
+/// Whether a begin of the router awaits the peer's on the channel that a begin names, if it names one.
+fn awaits(state: &State, conn: u64, named: Option<u16>) -> bool
+    ensures { (t : List Entry) → TablesFind state.now t → result ≡ is_awaited (finds t conn).awaits named }
+{
+    match named {
+        None => false,
+        Some(own) => state.awaits(conn, own),
     }
 }
 

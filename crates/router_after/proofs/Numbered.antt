@@ -7,7 +7,7 @@ use Rattle.amqp_model.specs.declared.perf.Perf.TheVariants as perf
 use Rattle.amqp_model.specs.declared.item.Item.{Item}
 use Rattle.amqp_model.specs.declared.item.Item.TheVariants as item
 use Rattle.router_trace.specs.declared.handle.Attachment.{Attachment}
-use Rattle.router_trace.specs.Trace.{Trace, Did, Out, Took, Bound, Booked, Began}
+use Rattle.router_trace.specs.Trace.{Trace, Did, Out, Took, Bound, Booked, Routed, Began}
 use Rattle.router_trace.specs.Links.{address_by, attachments, is_attached, if_attached, numbered, newest_in, newest_by, place_of}
 use Rattle.state_links.proofs.Numbered.{old_number}
 
@@ -40,6 +40,7 @@ number_is (Out d i ∷ t) m a e = has_by i d (attachments t + 1) m (numbered t m
 number_is (Took d n ∷ t) m a e = number_is t m a e
 number_is (Bound b ∷ t) m a e = number_is t m a e
 number_is (Booked acts full ∷ t) m a e = number_is t m a e
+number_is (Routed passage ∷ t) m a e = number_is t m a e
 number_is (Began g ∷ t) m a e = absurd cc
 
 pub is_low : (t : Trace) (m : ℕ) (a : Attachment) → numbered t m ≡ Some a → m < attachments t + 1

@@ -14,7 +14,7 @@ use Rattle.core_player.specs.declared.line.Line.{Line}
 use Rattle.core_player.specs.declared.line.Line.TheVariants as line
 use Rattle.core_player.specs.declared.script.Step.{Step}
 use Rattle.core_player.specs.declared.script.Step.TheVariants as step
-use Rattle.router_trace.specs.Trace.{Trace, Did, Out, Took, Bound, Booked, Began}
+use Rattle.router_trace.specs.Trace.{Trace, Did, Out, Took, Bound, Booked, Routed, Began}
 use Rattle.router_trace.specs.Connection.{conn, is_live}
 use Rattle.router_trace.specs.Refusing.{rises}
 use Rattle.reply_rows.specs.Acts.{Journaled, journaled}
@@ -34,6 +34,7 @@ was_lost (Out d i ∷ t) c = was_lost t c
 was_lost (Took d n ∷ t) c = was_lost t c
 was_lost (Bound b ∷ t) c = was_lost t c
 was_lost (Booked acts full ∷ t) c = was_lost t c
+was_lost (Routed passage ∷ t) c = was_lost t c
 was_lost (Began g ∷ t) c = false
 
 -- the steps after a connection is made: its number is above that of each connection made before

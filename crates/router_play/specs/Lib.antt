@@ -15,7 +15,6 @@ pub use Rattle.router_state.specs.Tables
 pub use Rattle.router_core.specs.Replies
 pub use Rattle.core_machine.specs.Faults
 pub use Rattle.router_core.specs.Handling
-pub use Rattle.router_core.specs.Runs
 pub use Rattle.core_door.specs.Door
 pub use Rattle.core_player.specs.Listening
 pub use Rattle.core_player.specs.Printing

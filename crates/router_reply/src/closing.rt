@@ -111,7 +111,9 @@ pub fn say(
         Answer::Open => write_open(state, id, conn)?,
         Answer::Close => write_close(state, id, conn, None)?,
         Answer::CloseWith(condition) => close_with(state, id, conn, phase, *condition)?,
-        Answer::Begin { own, theirs } => state.put(conn, id.begin_item(*own, *theirs)?)?,
+        Answer::Begin { own, theirs } => {
+            state.put(conn, id.begin_item(*own, Some(*theirs))?)?;
+        }
         Answer::End { own, error } => {
             let item = id.end_item(*own, *error)?;
             state.put(conn, item)?;

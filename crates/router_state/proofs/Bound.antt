@@ -37,7 +37,7 @@ bound_fits s new t (Some b) fit p = record {
   clocks = record { moment = fit.clocks.moment; terms = fit.clocks.terms; written = fit.clocks.written };
   peers = record { users = fit.peers.users; containers = fit.peers.containers };
   sessions = record {
-    rows = record { offered = fit.sessions.rows.offered; answered = fit.sessions.rows.answered; theirs = fit.sessions.rows.theirs; windows = fit.sessions.rows.windows };
+    rows = record { offered = fit.sessions.rows.offered; awaited = fit.sessions.rows.awaited; answered = fit.sessions.rows.answered; theirs = fit.sessions.rows.theirs; windows = fit.sessions.rows.windows };
     marks = fit.sessions.marks;
   };
   messages = p;
@@ -50,7 +50,7 @@ booked_fits s acts full t fit = record {
   clocks = record { moment = fit.clocks.moment; terms = fit.clocks.terms; written = fit.clocks.written };
   peers = record { users = fit.peers.users; containers = fit.peers.containers };
   sessions = record {
-    rows = record { offered = fit.sessions.rows.offered; answered = fit.sessions.rows.answered; theirs = fit.sessions.rows.theirs; windows = fit.sessions.rows.windows };
+    rows = record { offered = fit.sessions.rows.offered; awaited = fit.sessions.rows.awaited; answered = fit.sessions.rows.answered; theirs = fit.sessions.rows.theirs; windows = fit.sessions.rows.windows };
     marks = fit.sessions.marks;
   };
   messages = messages_booked s.messages acts full t fit.messages;

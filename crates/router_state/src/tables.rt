@@ -3,8 +3,8 @@ ghost use Rattle.std.specs.Prelude.{◌≡◌, ◌==◌, ◌-◌, ◌≤◌, ◌
 ghost use Rattle.std.specs.Prelude.{is_some};
 ghost use Rattle.route_table.specs.Places.{FindsAs};
 ghost use Rattle.router_trace.specs.Trace.{Beginning, Trace};
-ghost use Rattle.router_trace.specs.Configuration.{opened, distribution, is_multicast};
-ghost use Rattle.router_trace.specs.Sessions.{theirs, maps, session, session_on};
+ghost use Rattle.router_trace.specs.Configuration.{opened};
+ghost use Rattle.router_trace.specs.Sessions.{answers_item, awaited, is_channel, theirs, maps, session, session_on};
 ghost use Rattle.router_trace.specs.Frames.{told_of};
 ghost use Rattle.router_trace.specs.Links.{link, place_of, is_attached, durable_key};
 ghost use Rattle.router_trace.specs.Claims.{claims};
@@ -112,7 +112,15 @@ impl State {
         self.connections.phase(conn)
     }
 
-    /// The router's lowest channel, as an event finds it, that the peer accepts too and that has no session.
+    /// Whether a begin of the router on its channel `own` awaits the peer's, as an event finds it.
+    pub fn awaits(&self, conn: u64, own: u16) -> bool
+        ensures { (t : List Entry) → TablesFind self.now t → result ≡ is_some (awaited t conn own) }
+    {
+        self.sessions.awaits(conn, own)
+    }
+
+    /// The router's lowest channel, as an event finds it, that the peer accepts too and that is free: it has no session, and no begin of
+    /// the router on it awaits an answer.
     pub fn free_channel(&self, conn: u64) -> Option<u16>
         ensures { (t : List Entry) → TablesFind self.now t → result ≡ free_channel t conn (channel_max_of (terms t conn)) }
     {
@@ -126,14 +134,6 @@ impl State {
         ensures found { (t : List Entry) → TablesFind self.now t → result ≡ free_handle t conn own }
     {
         self.messages.links().free_handle(conn, own)
-    }
-
-    /// Whether each message of an address goes to every consumer.
-    pub fn is_multicast(&self, address: &str) -> bool
-        ensures now { (t : List Entry) → TablesFit self.now t → result ≡ is_multicast (distribution t address.now) }
-        ensures found { (t : List Entry) → TablesFind self.now t → result ≡ is_multicast (distribution t address.now) }
-    {
-        self.messages.is_multicast(address)
     }
 
     /// The attachment with a key.
@@ -253,9 +253,32 @@ impl State {
         let found = none_if_ended(ends, conn.0, own);
         self.clocks.hear(conn, item)?;
         self.peers.hear(conn, item)?;
-        let part = self.messages.hear(conn, own, found, change, item, acts)?;
+        let answered = self.answered(conn.0, item);
+        let part = self
+            .messages
+            .hear(conn, own, found, answered, change, item, acts)?;
         self.sessions.hear(conn, item)?;
         Ok(part)
+    }
+
+    /// The router's channel whose begin an item answers, if it does.
+    fn answered(&self, conn: u64, item: &Item) -> Option<u16>
+        ensures { (t : List Entry) → SessionsFit self.now.sessions t → (o : ℕ) → is_channel result o ≡ answers_item item.now o (theirs t conn) (awaited t conn o) }
+    {
+        match item {
+            Item::Frame {
+                sasl,
+                channel,
+                perf,
+                ..
+            } => {
+                if *sasl {
+                    return None;
+                }
+                self.sessions.answered(conn, *channel, perf)
+            }
+            _ => None,
+        }
     }
 
     /// The clock moves to this moment.

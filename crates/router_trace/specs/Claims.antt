@@ -16,7 +16,7 @@ use Rattle.router_trace.specs.declared.event.Event.TheVariants as event
 use Rattle.router_trace.specs.declared.channel.PeerChannel.{PeerChannel}
 use Rattle.router_trace.specs.declared.handle.PeerHandle.{PeerHandle}
 use Rattle.router_trace.specs.declared.handle.PeerHandle.TheVariants.{Mapped}
-use Rattle.router_trace.specs.Trace.{Did, Out, Took, Bound, Booked, Began, Trace}
+use Rattle.router_trace.specs.Trace.{Did, Out, Took, Bound, Booked, Routed, Began, Trace}
 use Rattle.router_trace.specs.Links.{Link, Happened, sends, receives, link, their_handle, ends_handle_in}
 use Rattle.router_trace.specs.Sessions.{maps, theirs}
 use Rattle.router_trace.specs.declared.binding.Origin.{Origin}
@@ -123,4 +123,5 @@ claims (Out d i ∷ t) c o id = if d == c then claim_after i o id (claims t c o 
 claims (Took d n ∷ t) c o id = claims t c o id
 claims (Bound b ∷ t) c o id = bind_claim (origin_of b.kind) c o id (claims t c o id)
 claims (Booked acts full ∷ t) c o id = claims t c o id
+claims (Routed passage ∷ t) c o id = claims t c o id
 claims (Began g ∷ t) c o id = None

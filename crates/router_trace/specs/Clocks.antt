@@ -10,7 +10,8 @@ use Rattle.amqp_conn.specs.Heartbeats.{is_due as is_beat_due}
 use Rattle.router_trace.specs.declared.event.Event.{Event}
 use Rattle.router_trace.specs.declared.event.Event.TheVariants as event
 use Rattle.router_trace.specs.declared.terms.Terms.{Terms}
-use Rattle.router_trace.specs.Trace.{Did, Out, Took, Bound, Booked, Began, Trace}
+use Rattle.router_trace.specs.Routed.{passed_to, if_passed}
+use Rattle.router_trace.specs.Trace.{Did, Out, Took, Bound, Booked, Routed, Began, Trace}
 use Rattle.router_trace.specs.Sessions.{unless_close}
 
 -- the current moment: that of the last tick, 0 before any
@@ -25,6 +26,7 @@ moment (Out c i ∷ t) = moment t
 moment (Took c n ∷ t) = moment t
 moment (Bound b ∷ t) = moment t
 moment (Booked acts full ∷ t) = moment t
+moment (Routed passage ∷ t) = moment t
 moment (Began g ∷ t) = 0
 
 -- what the peer's first open says; none if the connection is closed or lost
@@ -55,6 +57,7 @@ terms (Out d i ∷ t) c = if d == c then unless_close i (terms t c) else terms t
 terms (Took d n ∷ t) c = terms t c
 terms (Bound b ∷ t) c = terms t c
 terms (Booked acts full ∷ t) c = terms t c
+terms (Routed passage ∷ t) c = terms t c
 terms (Began g ∷ t) c = None
 
 -- the moment at which an item was last put out; none before any, and if the connection is closed or lost
@@ -69,6 +72,7 @@ written (Out d i ∷ t) c = if d == c then unless_close i (Some (moment t)) else
 written (Took d n ∷ t) c = written t c
 written (Bound b ∷ t) c = written t c
 written (Booked acts full ∷ t) c = written t c
+written (Routed passage ∷ t) c = if_passed (λ i last. Some (moment t)) (passed_to passage c) (written t c)
 written (Began g ∷ t) c = None
 
 -- at this moment a heartbeat is due

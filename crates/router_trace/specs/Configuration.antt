@@ -3,7 +3,7 @@ use Rattle.std.specs.Prelude.{ℕ, Bool, true, false, List, [], ◌∷◌}
 use Rattle.route_table.specs.declared.sections.Distribution.{Distribution}
 use Rattle.route_table.specs.declared.sections.Distribution.TheVariants.{Balanced, Closest, Multicast}
 use Rattle.route_table.specs.Places.{Routing, distribution_of}
-use Rattle.router_trace.specs.Trace.{Did, Out, Took, Bound, Booked, Began, Beginning, Trace}
+use Rattle.router_trace.specs.Trace.{Did, Out, Took, Bound, Booked, Routed, Began, Beginning, Trace}
 
 -- A router is opened on top of what happened before. What is said of connections, sessions, links and deliveries begins anew
 -- there: nothing older counts. It goes on with the configuration and the book of its beginning.
@@ -26,6 +26,7 @@ routing (Out c i ∷ t) = routing t
 routing (Took c n ∷ t) = routing t
 routing (Bound b ∷ t) = routing t
 routing (Booked acts full ∷ t) = routing t
+routing (Routed passage ∷ t) = routing t
 routing (Began g ∷ t) = g.routing
 
 -- how the links of an address share its messages

@@ -9,7 +9,8 @@ use Rattle.amqp_conn.specs.declared.conn.Conn.{Conn}
 use Rattle.amqp_conn.specs.Phase.{with_header, with_open, over}
 use Rattle.router_trace.specs.declared.event.Event.{Event}
 use Rattle.router_trace.specs.declared.event.Event.TheVariants as event
-use Rattle.router_trace.specs.Trace.{Did, Out, Took, Bound, Booked, Began, Trace, ups}
+use Rattle.router_trace.specs.Trace.{Did, Out, Took, Bound, Booked, Routed, Began, Trace, ups}
+use Rattle.router_trace.specs.Routed.{passed_to}
 
 -- a connection: whether its header and open are written and whether it is over, the items waiting in its outbox, and
 -- how many have left it
@@ -32,6 +33,11 @@ phase_after _ p = p
 -- one more item in the outbox
 abbrev pub with_item : Item → Connection → Connection
 with_item i v = record { phase = phase_after i v.phase; waiting = v.waiting ++ i ∷ []; taken = v.taken }
+
+-- the same with an item that passes on a routed link, if there is one: no header, open or close does
+abbrev pub with_passed : Option Item → Connection → Connection
+with_passed None v = v
+with_passed (Some i) v = record { phase = v.phase; waiting = v.waiting ++ i ∷ []; taken = v.taken }
 
 -- the connection is over; the items in its outbox stay
 abbrev pub ended : Connection → Connection
@@ -120,6 +126,7 @@ conn (Out d i ∷ t) c = if d == c then option_map (with_item i) (conn t c) else
 conn (Took d n ∷ t) c = if d == c then option_and_then (took n) (conn t c) else conn t c
 conn (Bound b ∷ t) c = conn t c
 conn (Booked acts full ∷ t) c = conn t c
+conn (Routed passage ∷ t) c = option_map (with_passed (passed_to passage c)) (conn t c)
 conn (Began g ∷ t) c = None
 
 -- the connections that an event ends because their outboxes are full, by number

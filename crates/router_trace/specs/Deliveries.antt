@@ -33,7 +33,8 @@ use Rattle.router_trace.specs.declared.event.Event.{Event}
 use Rattle.router_trace.specs.declared.event.Event.TheVariants as event
 use Rattle.router_trace.specs.declared.channel.PeerChannel.{PeerChannel}
 use Rattle.router_trace.specs.declared.handle.Attachment.{Attachment}
-use Rattle.router_trace.specs.Trace.{Did, Out, Took, Bound, Booked, Began, Trace}
+use Rattle.router_trace.specs.Routed.{passed_to, if_passed}
+use Rattle.router_trace.specs.Trace.{Did, Out, Took, Bound, Booked, Routed, Began, Trace}
 use Rattle.router_trace.specs.Connection.{has}
 use Rattle.router_trace.specs.Links.{ends_handle, ends_handle_in, is_lost}
 use Rattle.router_trace.specs.Sessions.{maps, theirs}
@@ -87,6 +88,7 @@ bindings (Out d i ∷ t) = bindings t
 bindings (Took d n ∷ t) = bindings t
 bindings (Bound b ∷ t) = if is_none (holds_standing b.kind) then bindings t + 1 else bindings t
 bindings (Booked acts full ∷ t) = bindings t
+bindings (Routed passage ∷ t) = bindings t
 bindings (Began g ∷ t) = 0
 
 -- how many of them are of no row
@@ -97,6 +99,7 @@ counters (Out d i ∷ t) = counters t
 counters (Took d n ∷ t) = counters t
 counters (Bound b ∷ t) = if is_none b.row then counters t + 1 else counters t
 counters (Booked acts full ∷ t) = counters t
+counters (Routed passage ∷ t) = counters t
 counters (Began g ∷ t) = 0
 
 -- The name of a delivery: a durable one has its row's number, any other the count of those without a row, with it.
@@ -127,6 +130,7 @@ last_row (Out d i ∷ t) = last_row t
 last_row (Took d n ∷ t) = last_row t
 last_row (Bound b ∷ t) = last_with b (last_row t)
 last_row (Booked acts full ∷ t) = last_row t
+last_row (Routed passage ∷ t) = last_row t
 last_row (Began g ∷ t) = g.book.next_row - 1
 
 -- A delivery's place in the order of binding. A row is bound first when it is admitted, and keeps that place when it is bound again: so rows stand by
@@ -149,6 +153,7 @@ number_named (Out d i ∷ t) name = number_named t name
 number_named (Took d n ∷ t) name = number_named t name
 number_named (Bound b ∷ t) name = if is_none (holds_standing b.kind) && same_name (name_in t b) name then Some (bindings t + 1) else number_named t name
 number_named (Booked acts full ∷ t) name = number_named t name
+number_named (Routed passage ∷ t) name = number_named t name
 number_named (Began g ∷ t) name = None
 
 -- A delivery: its name, its place in the order of binding, its consumer's link, the producer's delivery to which its outcome is reported, and its progress.
@@ -364,6 +369,7 @@ sending (Out d i ∷ t) c o h = if d == c then sending_by (number_named t) i o h
 sending (Took d n ∷ t) c o h = sending t c o h
 sending (Bound b ∷ t) c o h = sending t c o h
 sending (Booked acts full ∷ t) c o h = sending t c o h
+sending (Routed passage ∷ t) c o h = sending t c o h
 sending (Began g ∷ t) c o h = None
 
 abbrev pub is_id : Option ℕ → ℕ → Bool
@@ -391,6 +397,7 @@ named (Out d i ∷ t) c o id = if d == c then named_by (number_named t) i o id (
 named (Took d n ∷ t) c o id = named t c o id
 named (Bound b ∷ t) c o id = named t c o id
 named (Booked acts full ∷ t) c o id = named t c o id
+named (Routed passage ∷ t) c o id = named t c o id
 named (Began g ∷ t) c o id = None
 
 -- A transfer that carries the delivery: the id is that of its first frame; a delivery that was settled before is decided with its last frame.
@@ -558,6 +565,7 @@ ended_first (Out d i ∷ t) = []
 ended_first (Took d n ∷ t) = ended_first t
 ended_first (Bound b ∷ t) = []
 ended_first (Booked acts full ∷ t) = full
+ended_first (Routed passage ∷ t) = []
 ended_first (Began g ∷ t) = []
 
 -- the acts of the event to come
@@ -568,6 +576,7 @@ acts_found (Out d i ∷ t) = []
 acts_found (Took d n ∷ t) = acts_found t
 acts_found (Bound b ∷ t) = []
 acts_found (Booked acts full ∷ t) = acts
+acts_found (Routed passage ∷ t) = []
 acts_found (Began g ∷ t) = []
 
 -- of these the ones that give outcomes: those of an attach
@@ -605,6 +614,7 @@ delivery (Out c i ∷ t) n = option_and_then (λ d. unless_over (after_put (numb
 delivery (Took c k ∷ t) n = delivery t n
 delivery (Bound b ∷ t) n = with_binding (holds_standing b.kind) (name_in t b) (rank_in t b) b (bindings t + 1 == n) (delivery t n)
 delivery (Booked acts full ∷ t) n = delivery t n
+delivery (Routed passage ∷ t) n = delivery t n
 delivery (Began g ∷ t) n = None
 
 -- the delivery that has a name now, and what of it goes on if its row is taken up again: the producer's delivery
@@ -691,4 +701,5 @@ next_id (Out d i ∷ t) c o = if d == c then next_id_by i o (next_id t c o) else
 next_id (Took d n ∷ t) c o = next_id t c o
 next_id (Bound b ∷ t) c o = next_id t c o
 next_id (Booked acts full ∷ t) c o = next_id t c o
+next_id (Routed passage ∷ t) c o = if_passed (λ i next. next_id_by i o next) (passed_to passage c) (next_id t c o)
 next_id (Began g ∷ t) c o = 0

@@ -75,11 +75,11 @@ close_item x = frame_of (perf.Close (record { error = option_map error_of x }))
 abbrev pub closing : List ℕ → Conn → Condition → List Item
 closing id p x = if p.opened then close_item (Some x) ∷ [] else open_item id ∷ close_item (Some x) ∷ []
 
--- the router's begin on its own channel, which answers the peer's begin: its first transfer has the id 0, it accepts 2,048
--- transfers, and handles up to 63
-abbrev pub router_begin : ℕ → Begin
-router_begin theirs = record {
-  remote_channel = Some theirs;
+-- the router's begin on its own channel, which answers the peer's begin on another or asks for one: its first transfer has the id 0, it
+-- accepts 2,048 transfers, and handles up to 63
+abbrev pub router_begin : Option ℕ → Begin
+router_begin answers = record {
+  remote_channel = answers;
   next_outgoing_id = 0;
   incoming_window = 2048;
   outgoing_window = 2048;
@@ -89,8 +89,8 @@ router_begin theirs = record {
   properties = None;
 }
 
-abbrev pub begin_item : ℕ → ℕ → Item
-begin_item own theirs = frame_on own (perf.Begin (router_begin theirs))
+abbrev pub begin_item : ℕ → Option ℕ → Item
+begin_item own answers = frame_on own (perf.Begin (router_begin answers))
 
 -- the router's end, with or without an error
 abbrev pub end_item : ℕ → Option Condition → Item

@@ -1,3 +1,4 @@
+pub mod Routed
 pub mod Trace
 pub mod Configuration
 pub mod Connection

@@ -4,6 +4,7 @@ use Rattle.std.specs.Prelude.{ℕ, zero, suc, ◌+◌, Bool, true, false, not, �
 use Rattle.std.specs.BTreeMap.{is_at}
 use Rattle.arrayvec.specs.ArrayVec.{ArrayVec}
 use Rattle.amqp_model.specs.declared.perf.Attach.{Attach}
+use Rattle.amqp_model.specs.declared.perf.Begin.{Begin}
 use Rattle.amqp_model.specs.declared.perf.Flow.{Flow}
 use Rattle.amqp_model.specs.declared.perf.Perf.{Perf}
 use Rattle.amqp_model.specs.declared.perf.Perf.TheVariants as perf
@@ -23,6 +24,7 @@ use Rattle.book_model.specs.declared.terminus.LinkRole.TheVariants.{Producer, Co
 use Rattle.book_model.specs.Keys.{key_cmp}
 use Rattle.amqp_model.specs.declared.item.Item.{Item}
 use Rattle.amqp_model.specs.declared.item.Item.TheVariants as item
+use Rattle.amqp_session.specs.declared.states.BeginState.{BeginState}
 use Rattle.amqp_session.specs.Serials.{distance}
 use Rattle.amqp_link.specs.Credit as credit
 use Rattle.amqp_link.specs.Receiving as receiving
@@ -37,8 +39,8 @@ use Rattle.router_trace.specs.declared.handle.Asked.{Asked}
 use Rattle.router_trace.specs.declared.handle.Attachment.{Attachment}
 use Rattle.router_trace.specs.declared.handle.LinkAt.{LinkAt}
 use Rattle.router_trace.specs.declared.handle.LinkAt.TheVariants as found
-use Rattle.router_trace.specs.Trace.{Did, Out, Took, Bound, Booked, Began, Trace}
-use Rattle.router_trace.specs.Sessions.{maps, unless_close, theirs}
+use Rattle.router_trace.specs.Trace.{Did, Out, Took, Bound, Booked, Routed, Began, Trace}
+use Rattle.router_trace.specs.Sessions.{maps, unless_close, answers_begin, awaited, theirs}
 use Rattle.router_trace.specs.Peers.{user, container, container_id, Container}
 use Rattle.router_trace.specs.Durable.{is_durable}
 use Rattle.router_trace.specs.Tags.{tags_of, common, without_tag}
@@ -71,6 +73,7 @@ asked (Out d i ∷ t) c = if d == c then unless_close i (asked t c) else asked t
 asked (Took d n ∷ t) c = asked t c
 asked (Bound b ∷ t) c = asked t c
 asked (Booked acts full ∷ t) c = asked t c
+asked (Routed passage ∷ t) c = asked t c
 asked (Began g ∷ t) c = None
 
 -- What an item of the router ends: the handle of a detach on this session, or all handles of the session or the connection.
@@ -108,6 +111,7 @@ answered_handle (Out d i ∷ t) c o h = if d == c then answers_by i o h (asked t
 answered_handle (Took d n ∷ t) c o h = answered_handle t c o h
 answered_handle (Bound b ∷ t) c o h = answered_handle t c o h
 answered_handle (Booked acts full ∷ t) c o h = answered_handle t c o h
+answered_handle (Routed passage ∷ t) c o h = answered_handle t c o h
 answered_handle (Began g ∷ t) c o h = None
 
 -- What a peer's handle stands for, on the session with this router's channel: a link, on a handle of the router; one that the
@@ -154,6 +158,7 @@ their_handle (Out d i ∷ t) c o p =
 their_handle (Took d n ∷ t) c o p = their_handle t c o p
 their_handle (Bound b ∷ t) c o p = their_handle t c o p
 their_handle (Booked acts full ∷ t) c o p = their_handle t c o p
+their_handle (Routed passage ∷ t) c o p = their_handle t c o p
 their_handle (Began g ∷ t) c o p = None
 
 -- The address at the router's own terminus of its attach: the source's if it is the sender, the target's if it is the receiver.
@@ -189,6 +194,7 @@ attachments (Out d i ∷ t) = if is_taken i then attachments t + 1 else attachme
 attachments (Took d n ∷ t) = attachments t
 attachments (Bound b ∷ t) = attachments t
 attachments (Booked acts full ∷ t) = attachments t
+attachments (Routed passage ∷ t) = attachments t
 attachments (Began g ∷ t) = 0
 
 -- A link is identified by its user, container and name, and by the direction of its deliveries.
@@ -367,6 +373,7 @@ link (Out d i ∷ t) c o h =
 link (Took d n ∷ t) c o h = link t c o h
 link (Bound b ∷ t) c o h = link t c o h
 link (Booked acts full ∷ t) c o h = link t c o h
+link (Routed passage ∷ t) c o h = link t c o h
 link (Began g ∷ t) c o h = None
 
 -- An attachment still has its link.
@@ -401,6 +408,7 @@ last_of_key (Out d i ∷ t) k = newest_by i d (attachments t + 1) (λ a. same_ke
 last_of_key (Took d n ∷ t) k = last_of_key t k
 last_of_key (Bound b ∷ t) k = last_of_key t k
 last_of_key (Booked acts full ∷ t) k = last_of_key t k
+last_of_key (Routed passage ∷ t) k = last_of_key t k
 last_of_key (Began g ∷ t) k = None
 
 abbrev pub numbered : Trace → ℕ → Option Attachment
@@ -410,6 +418,7 @@ numbered (Out d i ∷ t) n = newest_by i d (attachments t + 1) (λ a. attachment
 numbered (Took d k ∷ t) n = numbered t n
 numbered (Bound b ∷ t) n = numbered t n
 numbered (Booked acts full ∷ t) n = numbered t n
+numbered (Routed passage ∷ t) n = numbered t n
 numbered (Began g ∷ t) n = None
 
 -- the link with a key, and the link with a number, while they are attached
@@ -480,10 +489,14 @@ told_handle_max (Out d i ∷ t) c = if d == c then unless_close i (told_handle_m
 told_handle_max (Took d n ∷ t) c = told_handle_max t c
 told_handle_max (Bound b ∷ t) c = told_handle_max t c
 told_handle_max (Booked acts full ∷ t) c = told_handle_max t c
+told_handle_max (Routed passage ∷ t) c = told_handle_max t c
 told_handle_max (Began g ∷ t) c = None
 
+abbrev pub unless_awaiting : Begin → Option ℕ → Option ℕ
+unless_awaiting b told = if is_none b.remote_channel then None else told
+
 abbrev pub most_in : Perf → ℕ → ℕ → Option ℕ → Option ℕ → Option ℕ
-most_in (perf.Begin b) own o told most = if own == o then told else most
+most_in (perf.Begin b) own o told most = if own == o then unless_awaiting b told else most
 most_in (perf.End x) own o told most = if own == o then None else most
 most_in (perf.Close x) own o told most = None
 most_in _ own o told most = most
@@ -492,13 +505,25 @@ abbrev pub most_after : Item → ℕ → Option ℕ → Option ℕ → Option �
 most_after (item.Frame sasl own body payload) o told most = most_in body own o told most
 most_after _ o told most = most
 
+-- The peer's begin tells it where it answers the router's; none is told as long as the router's begin awaits it.
+abbrev pub most_by : Item → ℕ → (ℕ → Option PeerChannel) → Option BeginState → Option ℕ → Option ℕ
+most_by (item.Frame sasl channel body payload) o known asked most =
+    if sasl then most else (if answers_begin body o (known channel) asked then handle_max_in body most else most)
+most_by _ o known asked most = most
+
+abbrev pub most_at : Event → ℕ → ℕ → (ℕ → Option PeerChannel) → Option BeginState → Option ℕ → Option ℕ
+most_at (event.Item d i) c o known asked most = if d.0 == c then most_by i o known asked most else most
+most_at (event.Down d) c o known asked most = if d.0 == c then None else most
+most_at _ c o known asked most = most
+
 abbrev pub highest_handle : Trace → ℕ → ℕ → Option ℕ
 highest_handle [] c o = None
-highest_handle (Did s ∷ t) c o = if is_lost s.event c then None else highest_handle t c o
+highest_handle (Did s ∷ t) c o = most_at s.event c o (theirs t c) (awaited t c o) (highest_handle t c o)
 highest_handle (Out d i ∷ t) c o = if d == c then most_after i o (told_handle_max t c) (highest_handle t c o) else highest_handle t c o
 highest_handle (Took d n ∷ t) c o = highest_handle t c o
 highest_handle (Bound b ∷ t) c o = highest_handle t c o
 highest_handle (Booked acts full ∷ t) c o = highest_handle t c o
+highest_handle (Routed passage ∷ t) c o = highest_handle t c o
 highest_handle (Began g ∷ t) c o = None
 
 -- The router's lowest handle on which nothing is attached, of 64 and up to the highest that the peer accepts.

@@ -7,7 +7,7 @@ use Rattle.amqp_model.specs.declared.item.Item.{Item}
 use Rattle.amqp_model.specs.declared.item.Item.TheVariants as item
 use Rattle.router_trace.specs.declared.event.Event.{Event}
 use Rattle.router_trace.specs.declared.event.Event.TheVariants as event
-use Rattle.router_trace.specs.Trace.{Did, Out, Took, Bound, Booked, Began, Trace}
+use Rattle.router_trace.specs.Trace.{Did, Out, Took, Bound, Booked, Routed, Began, Trace}
 use Rattle.router_trace.specs.Sessions.{unless_close}
 
 -- the user of a connection; none if the connection is closed or lost
@@ -23,6 +23,7 @@ user (Out d i ∷ t) c = if d == c then unless_close i (user t c) else user t c
 user (Took d n ∷ t) c = user t c
 user (Bound b ∷ t) c = user t c
 user (Booked acts full ∷ t) c = user t c
+user (Routed passage ∷ t) c = user t c
 user (Began g ∷ t) c = None
 
 -- what links need of the peer's first open: its container-id, and the largest frame that it accepts
@@ -57,6 +58,7 @@ container (Out d i ∷ t) c = if d == c then unless_close i (container t c) else
 container (Took d n ∷ t) c = container t c
 container (Bound b ∷ t) c = container t c
 container (Booked acts full ∷ t) c = container t c
+container (Routed passage ∷ t) c = container t c
 container (Began g ∷ t) c = None
 
 -- the largest frame that the peer accepts, in bytes; 4,294,967,295 if it states none

@@ -4,6 +4,7 @@ use Rattle.amqp_model.specs.declared.item.Item.{Item}
 use Rattle.book_model.specs.declared.act.Act.{Act}
 use Rattle.book_model.specs.Book.{BookView}
 use Rattle.route_table.specs.Places.{Routing}
+use Rattle.router_trace.specs.Routed.{Passage}
 use Rattle.router_trace.specs.declared.event.Event.{Event}
 use Rattle.router_trace.specs.declared.outgoing.Outgoing.{Outgoing}
 use Rattle.router_trace.specs.declared.binding.Binding.{Binding}
@@ -41,6 +42,8 @@ pub data Entry : Type 0 where
   -- the event that comes next does these acts to the book; they are written to the journal as one batch, if there are any. Before
   -- all else it ends these connections, because their outboxes are full
   Booked : (acts : List Act) (full : List ℕ) → Entry
+  -- something became of a routed link
+  Routed : (passage : Passage) → Entry
   -- the router was opened
   Began : (beginning : Beginning) → Entry
 
@@ -92,6 +95,7 @@ ups (Out c i ∷ t) = ups t
 ups (Took c n ∷ t) = ups t
 ups (Bound b ∷ t) = ups t
 ups (Booked acts full ∷ t) = ups t
+ups (Routed passage ∷ t) = ups t
 ups (Began g ∷ t) = []
 
 -- the number of the last connection that came up
@@ -106,4 +110,5 @@ newest (Out c i ∷ t) = newest t
 newest (Took c n ∷ t) = newest t
 newest (Bound b ∷ t) = newest t
 newest (Booked acts full ∷ t) = newest t
+newest (Routed passage ∷ t) = newest t
 newest (Began g ∷ t) = None

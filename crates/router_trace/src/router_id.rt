@@ -140,13 +140,13 @@ impl RouterId {
         Ok(frame_of(Perf::Close(Close { error })))
     }
 
-    /// The router's begin on its channel `own`; it answers the peer's begin on the channel `theirs` (AMQP 1.0 part 2, section 2.7.2).
-    /// Fails if memory is refused.
-    pub fn begin_item(&self, own: u16, theirs: u16) -> Result<Item, AllocError>
-        ensures { IfOk result (λ item. item ≡ begin_item own theirs) }
+    /// The router's begin on its channel `own` (AMQP 1.0 part 2, section 2.7.2): it answers the peer's begin on the channel `answers`, or
+    /// asks the peer for a begin. Fails if memory is refused.
+    pub fn begin_item(&self, own: u16, answers: Option<u16>) -> Result<Item, AllocError>
+        ensures { IfOk result (λ item. item ≡ begin_item own answers) }
     {
         let begin = Begin {
-            remote_channel: Some(theirs),
+            remote_channel: answers,
             next_outgoing_id: 0,
             incoming_window: SESSION_WINDOW,
             outgoing_window: SESSION_WINDOW,

@@ -16,8 +16,9 @@ use Rattle.router_trace.specs.declared.event.ConnectionId.{ConnectionId}
 use Rattle.router_trace.specs.declared.event.Peer.{Peer}
 use Rattle.router_trace.specs.declared.event.Event.{Event}
 use Rattle.router_trace.specs.declared.event.Event.TheVariants as event
-use Rattle.router_trace.specs.Trace.{Entry, Did, Out, Took, Bound, Booked, Began, did, ups, with_up, newest}
-use Rattle.router_trace.specs.Connection.{Connection, conn, phase_after, after_perf, with_item, fresh, took, ended, standing, is_live, is_full, is_due, has, due, unless_due, found, phase_before, phase_found, live_of, at_event}
+use Rattle.router_trace.specs.Trace.{Entry, Did, Out, Took, Bound, Booked, Routed, Began, did, ups, with_up, newest}
+use Rattle.router_trace.specs.Routed.{passed_to}
+use Rattle.router_trace.specs.Connection.{Connection, conn, phase_after, after_perf, with_item, with_passed, fresh, took, ended, standing, is_live, is_full, is_due, has, due, unless_due, found, phase_before, phase_found, live_of, at_event}
 use Rattle.state_connections.proofs.Lists.{by_test, filter_both, filter_none, filter_agree_in, from_push, has_push, has_pushed, has_filter}
 
 -- no connection is due if no outbox is full
@@ -97,6 +98,7 @@ known (Out d i ∷ t) c h =
     some_if (d == c) (option_map (with_item i) (conn t c)) (conn t c) (λ m. known t c (some_map (with_item i) (conn t c) m)) (λ m. known t c m) h
 known (Bound b ∷ t) c h = known t c h
 known (Booked acts full ∷ t) c h = known t c h
+known (Routed passage ∷ t) c h = known t c (some_map (with_passed (passed_to passage c)) (conn t c) h)
 known (Began g ∷ t) c h = absurd cc
 known (Took d n ∷ t) c h =
     some_if (d == c) (option_and_then (took n) (conn t c)) (conn t c) (λ m. known t c (some_then (took n) (conn t c) m)) (λ m. known t c m) h

@@ -21,7 +21,7 @@ use Rattle.router_trace.specs.declared.event.Event.{Event}
 use Rattle.router_trace.specs.declared.event.Event.TheVariants as event
 use Rattle.router_trace.specs.declared.channel.PeerChannel.{PeerChannel}
 use Rattle.router_trace.specs.declared.handle.Attachment.{Attachment}
-use Rattle.router_trace.specs.Trace.{Trace, Did, Out, Took, Bound, Booked, Began}
+use Rattle.router_trace.specs.Trace.{Trace, Did, Out, Took, Bound, Booked, Routed, Began}
 use Rattle.router_trace.specs.Deliveries.{Delivery, called, source, delivery, bindings, bound, holds_standing, with_binding, same_name, name_in, number_named, unless_over, unless_called, is_over, untold, unsettled, ended, decided_at_end, suspended_at_end, closes, after_ends, is_gone_with, after_frame, put_in, after_put, told, decided, is_undecided, is_meant, is_named, is_number, carried, tag_in, disposed, is_on, is_settled_at, heard_in, heard, after_event, ended_by, lost_with, origin_id, sending, named, decision, terminal, sender, forsaken, channels_found, acts_found, rank_in}
 use Rattle.state_deliveries.specs.declared.by_name.ByName.{ByName}
 use Rattle.state_deliveries.specs.declared.change.Change.{Change}
@@ -158,6 +158,7 @@ there_named (Out c i ∷ t) n d e =
     ap (number_named t) (ap (λ (x : Delivery). x.name) w.is ∙ name_put (number_named t) i c n (sending t c) w.before) ∙ there_named t n w.before w.there
 there_named (Took c k ∷ t) n d e = there_named t n d e
 there_named (Booked acts full ∷ t) n d e = there_named t n d e
+there_named (Routed passage ∷ t) n d e = there_named t n d e
 there_named (Began g ∷ t) n d e = absurd cc
 there_named (Bound b ∷ t) n d e = by_kind (holds_standing b.kind) e (there_named t n)
   where
@@ -197,6 +198,7 @@ one_name (Did s ∷ t) a b n e f = one_name t a b n e f
 one_name (Out c i ∷ t) a b n e f = one_name t a b n e f
 one_name (Took c k ∷ t) a b n e f = one_name t a b n e f
 one_name (Booked acts full ∷ t) a b n e f = one_name t a b n e f
+one_name (Routed passage ∷ t) a b n e f = one_name t a b n e f
 one_name (Began g ∷ t) a b n e f = absurd cc
 one_name (Bound x ∷ t) a b n e f = by_kind (is_none (holds_standing x.kind)) e f (one_name t a b n)
   where

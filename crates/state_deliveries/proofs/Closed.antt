@@ -20,7 +20,7 @@ use Rattle.router_trace.specs.declared.event.Event.{Event}
 use Rattle.router_trace.specs.declared.event.Event.TheVariants as event
 use Rattle.router_trace.specs.declared.channel.PeerChannel.{PeerChannel}
 use Rattle.router_trace.specs.declared.handle.Attachment.{Attachment}
-use Rattle.router_trace.specs.Trace.{Entry, Trace, Did, Out, Took, Booked, Bound, Began}
+use Rattle.router_trace.specs.Trace.{Entry, Trace, Did, Out, Took, Booked, Routed, Bound, Began}
 use Rattle.router_trace.specs.Deliveries.{Delivery, source, delivery, bindings, bound, held_by, holds_standing, joined, with_binding, name_in, same_name, number_named, unless_called, unless_over, is_over, is_undecided, after_ends, is_gone_with, ended, decided_at_end, suspended_at_end, untold, unsettled, failed, closes, after_put, after_frame, after_event, put_in, is_number, carried, tag_in, told, is_meant, origin_id, heard, heard_in, given, outcome_named, outcome_or, disposed, decided, is_settled_at, is_on, ended_by, lost_with, named, sending, sender, forsaken, channels_found, acts_found, rank_in}
 use Rattle.amqp_model.specs.declared.state.DeliveryState.TheVariants as state
 use Rattle.state_deliveries.specs.declared.change.Change.{Change}
@@ -137,6 +137,7 @@ stays_closed (Out c i) t n there closed = closed_after (after_put (number_named 
 stays_closed (Took c k) t n there closed = closed
 stays_closed (Began g) t n there closed = refl
 stays_closed (Booked acts full) t n there closed = closed
+stays_closed (Routed passage) t n there closed = closed
 stays_closed (Bound b) t n there closed = by_kind (holds_standing b.kind)
   where
     uncalled : (v : Option Delivery) → is_open v ≡ false → is_open (unless_called (name_in t b) v) ≡ false

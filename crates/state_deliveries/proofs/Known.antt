@@ -14,7 +14,7 @@ use Rattle.amqp_model.specs.declared.item.Item.{Item}
 use Rattle.amqp_model.specs.declared.item.Item.TheVariants as item
 use Rattle.router_trace.specs.declared.binding.DeliveryName.{DeliveryName}
 use Rattle.router_trace.specs.declared.binding.Holding.{Holding}
-use Rattle.router_trace.specs.Trace.{Entry, Trace, Did, Out, Took, Bound, Booked, Began}
+use Rattle.router_trace.specs.Trace.{Entry, Trace, Did, Out, Took, Bound, Booked, Routed, Began}
 use Rattle.router_trace.specs.Deliveries.{Delivery, delivery, bindings, bound, holds_standing, joined, with_binding, name_in, number_named, unless_over, unless_called, after_event, after_put, is_number, tagged, number_tagged, carried, tag_in, sending, sending_in, sending_by, named, channels_found, acts_found, rank_in}
 use Rattle.state_deliveries.specs.Calling.{IsGone, Knows}
 use Rattle.state_deliveries.specs.Fits.{carried_in, carried_by}
@@ -29,6 +29,7 @@ gone_stays (Did s) t n low gone = gone_after (λ d. unless_over (after_event s.e
 gone_stays (Out c i) t n low gone = gone_after (λ d. unless_over (after_put (number_named t) i c n (sending t c) d)) (delivery t n) gone
 gone_stays (Took c k) t n low gone = gone
 gone_stays (Booked acts full) t n low gone = gone
+gone_stays (Routed passage) t n low gone = gone
 gone_stays (Began g) t n low gone = refl
 gone_stays (Bound b) t n low gone = by_kind (holds_standing b.kind)
   where

@@ -7,7 +7,7 @@ use Rattle.amqp_model.specs.declared.perf.Perf.TheVariants as perf
 use Rattle.amqp_model.specs.declared.item.Item.{Item}
 use Rattle.amqp_model.specs.declared.item.Item.TheVariants as item
 use Rattle.router_trace.specs.declared.binding.DeliveryName.{DeliveryName}
-use Rattle.router_trace.specs.Trace.{Trace, Did, Out, Took, Bound, Booked, Began}
+use Rattle.router_trace.specs.Trace.{Trace, Did, Out, Took, Bound, Booked, Routed, Began}
 use Rattle.router_trace.specs.Links.{ends_handle_in, is_lost}
 use Rattle.router_trace.specs.Deliveries.{bindings, holds_standing, same_name, name_in, number_named, tagged, number_tagged, carried, tag_in, sending, sending_in, sending_by, named, named_in, named_by, is_id}
 
@@ -47,6 +47,7 @@ low_number (Bound b ∷ t) name = by_kind (is_none (holds_standing b.kind)) (low
         either (bindings t + 1) (same_name (name_in t b) name) (Some (bindings t + 1)) (number_named t name) (itself (bindings t + 1)) (more (bindings t) (number_named t name) low)
     by_kind false low = low
 low_number (Booked acts full ∷ t) name = low_number t name
+low_number (Routed passage ∷ t) name = low_number t name
 low_number (Began g ∷ t) name = tt
 
 -- what frames carry and begin
@@ -89,6 +90,7 @@ low_sending (Out d i ∷ t) c o h =
 low_sending (Took d n ∷ t) c o h = low_sending t c o h
 low_sending (Bound b ∷ t) c o h = grown (is_none (holds_standing b.kind)) (bindings t) (sending t c o h) (low_sending t c o h)
 low_sending (Booked acts full ∷ t) c o h = low_sending t c o h
+low_sending (Routed passage ∷ t) c o h = low_sending t c o h
 low_sending (Began g ∷ t) c o h = tt
 
 low_named_in : (k : ℕ) (numbers : DeliveryName → Option ℕ) → AreLow k numbers → (body : Perf) (own o id : ℕ) (v : Option ℕ) → IsLow k v
@@ -114,4 +116,5 @@ low_named (Out d i ∷ t) c o id =
 low_named (Took d n ∷ t) c o id = low_named t c o id
 low_named (Bound b ∷ t) c o id = grown (is_none (holds_standing b.kind)) (bindings t) (named t c o id) (low_named t c o id)
 low_named (Booked acts full ∷ t) c o id = low_named t c o id
+low_named (Routed passage ∷ t) c o id = low_named t c o id
 low_named (Began g ∷ t) c o id = tt

@@ -4,7 +4,7 @@ use Rattle.std.specs.Prelude.{◌==◌, nat_lt, if◌then◌else◌}
 use Rattle.std.specs.Option.{is_none, option_and_then}
 use Rattle.std.proofs.lemmas.Bool.{ltb-true}
 use Rattle.std.proofs.lemmas.Bool.Decides.{nat_tests}
-use Rattle.router_trace.specs.Trace.{Trace, Did, Out, Took, Bound, Booked, Began}
+use Rattle.router_trace.specs.Trace.{Trace, Did, Out, Took, Bound, Booked, Routed, Began}
 use Rattle.router_trace.specs.declared.binding.Holding.{Holding}
 use Rattle.router_trace.specs.Counting.{IsCount}
 use Rattle.router_trace.specs.Deliveries.{Delivery, delivery, bindings, bound as fresh_delivery, holds_standing, joined, with_binding, name_in, number_named, unless_called, sending, named, unless_over, after_event, after_put, channels_found, acts_found, rank_in}
@@ -26,6 +26,7 @@ none_beyond (Out c i ∷ t) n l = none_is (λ d. unless_over (after_put (number_
 none_beyond (Took c k ∷ t) n l = none_beyond t n l
 none_beyond (Began g ∷ t) n l = refl
 none_beyond (Booked acts full ∷ t) n l = none_beyond t n l
+none_beyond (Routed passage ∷ t) n l = none_beyond t n l
 none_beyond (Bound b ∷ t) n l = by_kind (holds_standing b.kind) l (none_beyond t n (below (is_none (holds_standing b.kind)) (bindings t) n l))
   where
     apart : (k n : ℕ) → k + 1 < n → (k + 1 == n) ≡ false
@@ -48,6 +49,7 @@ none_before (Out c i ∷ t) = none_is (λ d. unless_over (after_put (number_name
 none_before (Took c k ∷ t) = none_before t
 none_before (Began g ∷ t) = refl
 none_before (Booked acts full ∷ t) = none_before t
+none_before (Routed passage ∷ t) = none_before t
 none_before (Bound b ∷ t) = by_kind (holds_standing b.kind) (none_before t)
   where
     apart : (k : ℕ) → (k + 1 == 0) ≡ false

@@ -16,7 +16,7 @@ use Rattle.router_trace.specs.declared.binding.DeliveryName.{DeliveryName}
 use Rattle.router_trace.specs.declared.binding.Holding.{Holding}
 use Rattle.router_trace.specs.declared.binding.Origin.{Origin}
 use Rattle.router_trace.specs.declared.handle.Attachment.{Attachment}
-use Rattle.router_trace.specs.Trace.{Trace, Did, Out, Took, Bound, Booked, Began}
+use Rattle.router_trace.specs.Trace.{Trace, Did, Out, Took, Bound, Booked, Routed, Began}
 use Rattle.router_trace.specs.Deliveries.{Delivery, source, delivery, named, after_event, bindings, bound, held_by, holds_standing, joined, with_binding, name_in, same_name, number_named, unless_called, unless_over, is_over, after_ends, after_put, after_frame, put_in, ended_by, is_number, carried, tag_in, told, is_meant, origin_id, stands_on, untold, unsettled, last_of, sending, sender, channels_found, acts_found, rank_in}
 use Rattle.state_deliveries.specs.declared.change.Change.{Change}
 use Rattle.state_deliveries.specs.declared.change.Change.TheVariants as change
@@ -46,6 +46,7 @@ kept (Out c i ∷ t) n = kept_after (after_put (number_named t) i c n (sending t
 kept (Took c k ∷ t) n = kept t n
 kept (Began g ∷ t) n = refl
 kept (Booked acts full ∷ t) n = kept t n
+kept (Routed passage ∷ t) n = kept t n
 kept (Bound b ∷ t) n = by_kind (holds_standing b.kind) (kept t n)
   where
     uncalled : (v : Option Delivery) → IsKept v → IsKept (unless_called (name_in t b) v)

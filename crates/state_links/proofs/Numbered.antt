@@ -15,7 +15,7 @@ use Rattle.router_trace.specs.declared.event.Event.TheVariants as event
 use Rattle.router_trace.specs.declared.handle.Asked.{Asked}
 use Rattle.router_trace.specs.declared.handle.Attachment.{Attachment}
 use Rattle.router_trace.specs.declared.handle.PeerHandle.{PeerHandle}
-use Rattle.router_trace.specs.Trace.{Trace, Did, Out, Took, Bound, Booked, Began, did}
+use Rattle.router_trace.specs.Trace.{Trace, Did, Out, Took, Bound, Booked, Routed, Began, did}
 use Rattle.router_trace.specs.Sessions.{theirs, maps}
 use Rattle.router_trace.specs.Links.{Link, address_by, is_taken, is_taken_in, attachments, attached, asked, key_at, link, link_in, link_after, link_at, link_by, heard_link, names, names_by, their_handle, is_handle, ends_handle_in, has_number, is_attached, newest_in, newest_by, last_of_key, numbered, same_key, after_their_flow, after_their_transfer, after_our_flow, after_our_transfer}
 
@@ -50,6 +50,7 @@ old_key (Out d i ∷ t) k a e = bound_by i d (attachments t) (λ x. same_key (ke
 old_key (Took d n ∷ t) k a e = old_key t k a e
 old_key (Bound b ∷ t) k a e = old_key t k a e
 old_key (Booked acts full ∷ t) k a e = old_key t k a e
+old_key (Routed passage ∷ t) k a e = old_key t k a e
 old_key (Began g ∷ t) k a e = absurd cc
 
 pub old_number : (t : Trace) (m : ℕ) (a : Attachment) → numbered t m ≡ Some a → a.number ≤ attachments t
@@ -59,6 +60,7 @@ old_number (Out d i ∷ t) m a e = bound_by i d (attachments t) (λ x. attachmen
 old_number (Took d n ∷ t) m a e = old_number t m a e
 old_number (Bound b ∷ t) m a e = old_number t m a e
 old_number (Booked acts full ∷ t) m a e = old_number t m a e
+old_number (Routed passage ∷ t) m a e = old_number t m a e
 old_number (Began g ∷ t) m a e = absurd cc
 
 -- an item that takes no link doesn't change the newest

@@ -10,7 +10,7 @@ use Rattle.amqp_model.specs.declared.item.Item.TheVariants as item
 use Rattle.book_model.specs.declared.terminus.LinkKey.{LinkKey}
 use Rattle.router_trace.specs.declared.handle.Asked.{Asked}
 use Rattle.router_trace.specs.declared.handle.Attachment.{Attachment}
-use Rattle.router_trace.specs.Trace.{Trace, Did, Out, Took, Bound, Booked, Began}
+use Rattle.router_trace.specs.Trace.{Trace, Did, Out, Took, Bound, Booked, Routed, Began}
 use Rattle.router_trace.specs.Sessions.{theirs}
 use Rattle.router_trace.specs.Links.{Link, address_by, attachments, attached, asked, key_at, link, link_in, link_after, their_handle, is_handle, ends_handle_in, has_number, if_attached, newest_in, newest_by, numbered, place_of, after_our_flow, after_our_transfer}
 use Rattle.router_trace.specs.Following.{is_sending, owes_one}
@@ -88,6 +88,7 @@ stands_where (Did s ∷ t) c o h n e =
 stands_where (Took d k ∷ t) c o h n e = stands_where t c o h n e
 stands_where (Bound b ∷ t) c o h n e = stands_where t c o h n e
 stands_where (Booked acts full ∷ t) c o h n e = stands_where t c o h n e
+stands_where (Routed passage ∷ t) c o h n e = stands_where t c o h n e
 stands_where (Began g ∷ t) c o h n e = absurd cc
 stands_where (Out d i ∷ t) c o h n e = by_new (attachments t + 1 == n) refl (stands_where t c o h n)
   where

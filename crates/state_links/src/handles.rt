@@ -1,12 +1,12 @@
 //! What attaches ask for, and what handles stand for.
-ghost use Rattle.std.specs.Prelude.{◌≡◌, ◌==◌, ◌∷◌, List, ℕ, Bool, None, true, false, if◌then◌else◌, OnOk};
+ghost use Rattle.std.specs.Prelude.{◌≡◌, ◌==◌, ◌∷◌, List, ℕ, Bool, None, Some, true, false, if◌then◌else◌, OnOk};
 ghost use Rattle.std.specs.Option.{option_map};
 ghost use Rattle.std.specs.Ordering.{nat_cmp};
 ghost use Rattle.std.specs.BTreeMap.{get};
 ghost use Rattle.router_trace.specs.Trace.{Beginning, Trace};
 ghost use Rattle.router_trace.specs.Configuration.{opened};
 ghost use Rattle.router_trace.specs.Trace.{Entry, Out, did};
-ghost use Rattle.router_trace.specs.Sessions.{is_channel, maps, theirs};
+ghost use Rattle.router_trace.specs.Sessions.{answers_begin, awaited, is_channel, maps, theirs};
 ghost use Rattle.router_trace.specs.Links.{is_handle, names, handle_asked, detached, first_free_below, is_free_handle, free_handle};
 ghost use Rattle.state_links.specs.Fits.{names_in};
 ghost use Rattle.state_links.specs.Giving.{handle_of, handle_on};
@@ -141,18 +141,21 @@ impl HandleTable {
         self.forget(conn.0);
     }
 
-    /// A performative was received on the peer's channel; `own` is the router's channel of its session, if it has one.
+    /// A performative was received on the peer's channel; `own` is the router's channel of its session, if it has one, and `answered`
+    /// the router's channel whose begin it answers, if it does.
     pub fn hear(
         &mut self,
         conn: ConnectionId,
         own: Option<u16>,
+        answered: Option<u16>,
         perf: &Perf,
     ) -> Result<(), AllocError>
         ensures { OnOk result ((t : List Entry) (channel : ℕ) (payload : List ℕ) → ((o : ℕ) → is_channel own o ≡ maps (theirs t conn.0 channel) o)
+            → ((o : ℕ) → is_channel answered o ≡ answers_begin perf.now o (theirs t conn.0 channel) (awaited t conn.0 o))
             → HandlesFit self.old t → HandlesFit self.new (did (event.Item conn (item.Frame false channel perf.now payload)) ∷ t)) }
     {
         match perf {
-            Perf::Begin(begin) => self.hear_begin(conn, begin.as_ref())?,
+            Perf::Begin(begin) => self.hear_begin(conn, answered, begin.as_ref())?,
             Perf::Attach(attach) => self.hear_attach(conn, attach.as_ref())?,
             Perf::Detach(detach) => self.hear_detach(conn, own, detach),
             _ => {}
@@ -160,13 +163,35 @@ impl HandleTable {
         Ok(())
     }
 
-    fn hear_begin(&mut self, conn: ConnectionId, begin: &Begin) -> Result<(), AllocError>
-        ensures { OnOk result ((t : List Entry) (channel : ℕ) (payload : List ℕ) → HandlesFit self.old t
-            → HandlesFit self.new (did (event.Item conn (item.Frame false channel (perf.Begin begin.now) payload)) ∷ t)) }
+    fn hear_begin(
+        &mut self,
+        conn: ConnectionId,
+        answered: Option<u16>,
+        begin: &Begin,
+    ) -> Result<(), AllocError>
+        ensures { OnOk result ((t : List Entry) (channel : ℕ) (payload : List ℕ)
+            → ((o : ℕ) → is_channel answered o ≡ answers_begin (perf.Begin begin.now) o (theirs t conn.0 channel) (awaited t conn.0 o))
+            → HandlesFit self.old t → HandlesFit self.new (did (event.Item conn (item.Frame false channel (perf.Begin begin.now) payload)) ∷ t)) }
     {
+        self.note_answer(conn.0, answered, begin.handle_max)?;
         match self.told.insert(conn.0, begin.handle_max) {
             Ok(_) => Ok(()),
             Err(_) => Err(AllocError),
+        }
+    }
+
+    /// Notes the highest handle that a peer accepts on the session that its begin makes.
+    fn note_answer(&mut self, conn: u64, answered: Option<u16>, most: u32) -> Result<(), AllocError>
+        ensures asked { self.new.asked ≡ self.old.asked }
+        ensures told { self.new.told ≡ self.old.told }
+        ensures highest { OnOk result ((c o : ℕ) → in_map (get nat_cmp self.new.highest c) o
+            ≡ (if conn == c then (if is_channel answered o then Some most else in_map (get nat_cmp self.old.highest c) o) else in_map (get nat_cmp self.old.highest c) o)) }
+        ensures answered { self.new.answered ≡ self.old.answered }
+        ensures theirs { self.new.theirs ≡ self.old.theirs }
+    {
+        match answered {
+            None => Ok(()),
+            Some(own) => set_highest(self.alloc, &mut self.highest, conn, own, Some(most)),
         }
     }
 
@@ -210,8 +235,11 @@ impl HandleTable {
         ensures { OnOk result ((t : List Entry) (sasl : Bool) (payload : List ℕ) → HandlesFit self.old t
             → HandlesFit self.new (Out conn (item.Frame sasl own (perf.Begin begin.now) payload) ∷ t)) }
     {
-        let told = self.told.get(&conn).copied();
-        set_highest(self.alloc, &mut self.highest, conn, own, told)
+        let most = match begin.remote_channel {
+            None => None,
+            Some(_) => self.told.get(&conn).copied(),
+        };
+        set_highest(self.alloc, &mut self.highest, conn, own, most)
     }
 
     fn put_attach(&mut self, conn: u64, own: u16, attach: &Attach) -> Result<(), AllocError>

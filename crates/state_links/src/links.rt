@@ -5,7 +5,7 @@ ghost use Rattle.amqp_model.specs.declared.perf.Perf.TheVariants as perf;
 ghost use Rattle.router_trace.specs.Trace.{Beginning, Trace};
 ghost use Rattle.router_trace.specs.Configuration.{opened};
 ghost use Rattle.router_trace.specs.Trace.{Entry, Out, did};
-ghost use Rattle.router_trace.specs.Sessions.{is_channel, maps, theirs};
+ghost use Rattle.router_trace.specs.Sessions.{answers_begin, answers_item, awaited, is_channel, maps, theirs};
 ghost use Rattle.router_trace.specs.Links.{attachments, link, link_place, found_link, free_handle, holder, place_of, durable_key};
 ghost use Rattle.router_trace.specs.Settling.{part_at, middle_on};
 ghost use Rattle.state_links.specs.Ends.{link_of};
@@ -174,15 +174,17 @@ impl Links {
         self.table.down(conn)
     }
 
-    /// An item was received on a connection; `own` is the router's channel of its session, if its channel has one. Returns what
-    /// a transfer makes of its delivery, on the link that it names.
+    /// An item was received on a connection; `own` is the router's channel of its session, if its channel has one, and `answered` the
+    /// router's channel whose begin it answers, if it does. Returns what a transfer makes of its delivery, on the link that it names.
     pub fn hear(
         &mut self,
         conn: ConnectionId,
         own: Option<u16>,
+        answered: Option<u16>,
         item: &Item,
     ) -> Result<Option<Part>, AllocError>
         ensures fits { OnOk result ((t : List Entry) → ((o : ℕ) → is_channel own o ≡ maps (theirs t conn.0 (channel_of item.now)) o)
+            → ((o : ℕ) → is_channel answered o ≡ answers_item item.now o (theirs t conn.0) (awaited t conn.0 o))
             → LinksFit self.old t → LinksFit self.new (did (event.Item conn item.now) ∷ t)) }
         ensures part { (t : List Entry) → LinksFit self.old t → IfOk result (λ p. p ≡ part_at t conn.0 own item.now) }
         ensures touches { OnOk result (Touches self.old self.new) }
@@ -197,7 +199,7 @@ impl Links {
                 if *sasl {
                     return Ok(None);
                 }
-                let part = self.hear_perf(conn, own, perf, payload)?;
+                let part = self.hear_perf(conn, own, answered, perf, payload)?;
                 Ok(part)
             }
             _ => Ok(None),
@@ -209,10 +211,12 @@ impl Links {
         &mut self,
         conn: ConnectionId,
         own: Option<u16>,
+        answered: Option<u16>,
         perf: &Perf,
         payload: &Bytes,
     ) -> Result<Option<Part>, AllocError>
         ensures fits { OnOk result ((t : List Entry) (channel : ℕ) → ((o : ℕ) → is_channel own o ≡ maps (theirs t conn.0 channel) o)
+            → ((o : ℕ) → is_channel answered o ≡ answers_begin perf.now o (theirs t conn.0 channel) (awaited t conn.0 o))
             → LinksFit self.old t → LinksFit self.new (did (event.Item conn (item.Frame false channel perf.now payload.now)) ∷ t)) }
         ensures part { (t : List Entry) (channel : ℕ) → LinksFit self.old t
             → IfOk result (λ p. p ≡ part_at t conn.0 own (item.Frame false channel perf.now payload.now)) }
@@ -220,7 +224,7 @@ impl Links {
     {
         let handle = self.handles.named(conn.0, own, perf);
         let part = self.table.hear(conn, own, handle, perf, payload)?;
-        self.handles.hear(conn, own, perf)?;
+        self.handles.hear(conn, own, answered, perf)?;
         Ok(part)
     }
 

@@ -9,7 +9,7 @@ use Rattle.route_credit.specs.declared.offer.Offer.{Offer}
 use Rattle.router_trace.specs.declared.handle.Attachment.{Attachment}
 use Rattle.router_trace.specs.Trace.{Trace}
 use Rattle.router_trace.specs.Links as view
-use Rattle.router_trace.specs.Links.{Happened, sends, receives, numbered, attachments, place_of, has_number, if_attached, is_attached}
+use Rattle.router_trace.specs.Links.{Happened, sends, receives, numbered, attachments, place_of, has_number, if_attached}
 use Rattle.router_trace.specs.Following.{link_of}
 use Rattle.state_pools.specs.Fits.{chosen_at}
 use Rattle.state_pools.specs.Sharing.{offer_at}

@@ -1,6 +1,6 @@
 -- The consumers of copies are where their numbers say, and one that gets a copy is noted as the last one chosen.
 use Rattle.std.proofs.Common.{◌≡◌, ◌∙◌, ◌+◌, ◌<◌, ◌≤◌, ℕ, Bool, true, false, refl, sym, ap, Option, Some, None, List, [], ◌∷◌, ◌++◌, drop, length, get_or, map}
-use Rattle.std.specs.Prelude.{◌==◌, ◌&&◌, filter, if◌then◌else◌, is_some, nat_lt, option_map}
+use Rattle.std.specs.Prelude.{◌&&◌, filter, if◌then◌else◌, is_some, nat_lt, option_map}
 use Rattle.std.specs.Str.{bytes_eq}
 use Rattle.std.specs.Map.{keys_of}
 use Rattle.std.proofs.lemmas.Bool.{eqb-true}
@@ -22,9 +22,9 @@ use Rattle.state_pools.specs.Sharing.{address_in, offer_at}
 use Rattle.state_messages.specs.Asking.{standing}
 use Rattle.state_messages.specs.Figures.{figure}
 use Rattle.state_messages.specs.Messages.{copies_at, copies_for, is_of, is_there, last_after, last_chosen, places_of, pool_of}
-use Rattle.state_messages.proofs.Chosen.{IsConsumer, by_number, chosen_place}
+use Rattle.state_messages.proofs.Chosen.{by_number, chosen_place}
 use Rattle.state_messages.proofs.Granted.{Pass, listed_pass}
-use Rattle.state_messages.proofs.Seen.{IsOn, address_on}
+use Rattle.state_messages.proofs.Seen.{address_on}
 
 -- consumers that offer something are at their places
 places_same : (t : Trace) (address : List ℕ) (links : List (ℕ × Offer)) → Pass (λ n. is_some (offer_at address (figure t n))) links

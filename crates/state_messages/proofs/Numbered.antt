@@ -8,7 +8,7 @@ use Rattle.amqp_model.specs.declared.perf.Perf.TheVariants as perf
 use Rattle.amqp_model.specs.declared.item.Item.{Item}
 use Rattle.amqp_model.specs.declared.item.Item.TheVariants as item
 use Rattle.router_trace.specs.declared.handle.Attachment.{Attachment}
-use Rattle.router_trace.specs.Trace.{Trace, Did, Out, Took, Bound, Booked, Began}
+use Rattle.router_trace.specs.Trace.{Trace, Did, Out, Took, Bound, Booked, Routed, Began}
 use Rattle.router_trace.specs.Links.{address_by, attachments, newest_in, newest_by, numbered}
 use Rattle.state_links.proofs.Numbered.{old_number}
 
@@ -40,6 +40,7 @@ number_is (Out d i ∷ t) n a e = is_by i d (attachments t + 1) n (numbered t n)
 number_is (Took d k ∷ t) n a e = number_is t n a e
 number_is (Bound b ∷ t) n a e = number_is t n a e
 number_is (Booked acts full ∷ t) n a e = number_is t n a e
+number_is (Routed passage ∷ t) n a e = number_is t n a e
 number_is (Began g ∷ t) n a e = absurd cc
 
 -- no attachment has the number 0
@@ -66,6 +67,7 @@ none_first (Out d i ∷ t) = none_by i d (attachments t + 1) 0 (numbered t 0) (n
 none_first (Took d k ∷ t) = none_first t
 none_first (Bound b ∷ t) = none_first t
 none_first (Booked acts full ∷ t) = none_first t
+none_first (Routed passage ∷ t) = none_first t
 none_first (Began g ∷ t) = refl
 
 -- or one above the count

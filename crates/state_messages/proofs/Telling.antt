@@ -6,7 +6,6 @@ use Rattle.route_credit.specs.Links.{link_at}
 use Rattle.route_credit.specs.Pool.{by_id}
 use Rattle.route_credit.specs.declared.ids.ProducerId.{ProducerId}
 use Rattle.router_trace.specs.declared.handle.Attachment.{Attachment}
-use Rattle.router_trace.specs.Configuration.{distribution}
 use Rattle.router_trace.specs.Trace.{Trace}
 use Rattle.router_trace.specs.Links as view
 use Rattle.router_trace.specs.Links.{Happened, sends, receives, numbered, place_of, has_number, if_attached, is_attached}

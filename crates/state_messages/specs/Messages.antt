@@ -19,7 +19,7 @@ use Rattle.router_trace.specs.declared.binding.Resumed.{Resumed}
 use Rattle.router_trace.specs.declared.binding.Resumed.TheVariants.{Settled}
 use Rattle.router_trace.specs.declared.binding.TakenUp.{TakenUp}
 use Rattle.router_trace.specs.declared.handle.Attachment.{Attachment}
-use Rattle.router_trace.specs.Trace.{Trace, Put, Did, Out, Took, Bound, Booked, Began}
+use Rattle.router_trace.specs.Trace.{Trace, Put, Did, Out, Took, Bound, Booked, Routed, Began}
 use Rattle.router_trace.specs.Configuration.{distribution}
 use Rattle.router_trace.specs.Frames.{told_of}
 use Rattle.router_trace.specs.LinkFrames.{link_flow_item}
@@ -44,6 +44,7 @@ last_chosen (Out c i ∷ t) address = last_chosen t address
 last_chosen (Took c n ∷ t) address = last_chosen t address
 last_chosen (Bound b ∷ t) address = if is_message b.kind && is_of address (link_of t b.consumer) b.consumer.number then b.consumer.number else last_chosen t address
 last_chosen (Booked acts full ∷ t) address = last_chosen t address
+last_chosen (Routed passage ∷ t) address = last_chosen t address
 last_chosen (Began g ∷ t) address = 0
 
 -- the same after this consumer is chosen too, if there is one

@@ -7,7 +7,7 @@ ghost use Rattle.router_trace.specs.Trace.{Beginning, Trace};
 ghost use Rattle.router_trace.specs.Configuration.{opened};
 ghost use Rattle.router_trace.specs.Trace.{Entry, Out, did};
 ghost use Rattle.router_trace.specs.Deliveries.{acts_found, channels_found, giving};
-ghost use Rattle.router_trace.specs.Sessions.{is_channel, maps, theirs};
+ghost use Rattle.router_trace.specs.Sessions.{answers_item, awaited, is_channel, maps, theirs};
 ghost use Rattle.router_trace.specs.Settling.{part_at};
 ghost use Rattle.router_trace.specs.declared.event.Event.TheVariants as event;
 ghost use Rattle.state_unsettled.specs.Incoming.{IncomingFit};
@@ -86,13 +86,15 @@ impl Messages {
     }
 
     /// An item was received on a connection; `own` is the router's channel of its session, if it has one, and `found` the
-    /// same, unless the event ended the connection first; `change` is what the item changes of deliveries at once
-    /// (`Change::of_item`), and `acts` are those of the event. Returns what a transfer makes of its delivery.
+    /// same, unless the event ended the connection first; `answered` is the router's channel whose begin the item answers, if it
+    /// does; `change` is what the item changes of deliveries at once (`Change::of_item`), and `acts` are those of the event. Returns
+    /// what a transfer makes of its delivery.
     pub fn hear(
         &mut self,
         conn: ConnectionId,
         own: Option<u16>,
         found: Option<u16>,
+        answered: Option<u16>,
         change: Option<Change>,
         item: &Item,
         acts: &[Act],
@@ -100,6 +102,7 @@ impl Messages {
         ensures part { IfOk result (λ part. (t : List Entry) → MessagesFit self.old t → part ≡ part_at t conn.0 own item.now) }
         ensures fits { OnOk result ((t : List Entry) → ((o : ℕ) → is_channel own o ≡ maps (theirs t conn.0 (channel_of item.now)) o)
             → ((o : ℕ) → is_channel found o ≡ maps (channels_found t conn.0 (channel_of item.now)) o)
+            → ((o : ℕ) → is_channel answered o ≡ answers_item item.now o (theirs t conn.0) (awaited t conn.0 o))
             → change ≡ heard_change conn.0 found item.now
             → giving item.now acts.now ≡ giving item.now (acts_found t)
             → MessagesFit self.old t → MessagesFit self.new (did (event.Item conn item.now) ∷ t)) }
@@ -107,7 +110,7 @@ impl Messages {
         let link = receiving(&self.links, conn.0, own, item);
         self.incoming.hear(conn, own, item, link)?;
         self.deliveries.hear(conn, found, change, item, acts)?;
-        let part = self.links.hear(conn, own, item)?;
+        let part = self.links.hear(conn, own, answered, item)?;
         Ok(part)
     }
 

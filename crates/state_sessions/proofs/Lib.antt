@@ -1,2 +1,3 @@
 pub mod Quiet
 pub mod Beside
+pub mod Heard

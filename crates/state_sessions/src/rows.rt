@@ -2,9 +2,8 @@
 ghost use Rattle.std.specs.Prelude.{◌≡◌, ◌==◌, ◌∷◌, List, ℕ, Bool, None, true, false, is_some, if◌then◌else◌, OnOk, IfOk};
 ghost use Rattle.state_collections.specs.NumberMap.{at_number};
 ghost use Rattle.router_trace.specs.Trace.{Entry, Out, did};
-ghost use Rattle.router_trace.specs.Sessions.{maps};
 ghost use Rattle.state_sessions.specs.Windows.{is_narrow_window, is_narrow_at};
-ghost use Rattle.state_sessions.specs.Fits.{RowsFit, SameRows, is_begin, theirs_in, window_in, heard_window};
+ghost use Rattle.state_sessions.specs.Fits.{RowsFit, SameRows, is_begin, theirs_in, window_in};
 ghost use Rattle.router_trace.specs.declared.event.ConnectionId.{ConnectionId as AConnection};
 ghost use Rattle.router_trace.specs.declared.event.Event.TheVariants as event;
 ghost use Rattle.amqp_model.specs.declared.item.Item.TheVariants as item;
@@ -24,16 +23,16 @@ pub fn hear(
     conn: ConnectionId,
     channel: u16,
     perf: &Perf,
-) -> bool
-    ensures fits { (t : List Entry) (payload : List ℕ) → (if is_begin perf.now then is_some (at_number rows.old conn.0) else true) ≡ true → RowsFit (at_number rows.old) t
-        → RowsFit (at_number rows.new) (did (event.Item conn (item.Frame false channel perf.now payload)) ∷ t) }
-    ensures others { (c o : ℕ) → (conn.0 == c) ≡ false → window_in (at_number rows.new c) o ≡ window_in (at_number rows.old c) o }
-    ensures windows { (o : ℕ) → window_in (at_number rows.new conn.0) o
-        ≡ heard_window perf.now (maps (theirs_in (at_number rows.old conn.0) channel) o) (window_in (at_number rows.old conn.0) o) }
-    ensures narrow { result ≡ is_narrow_at (theirs_in (at_number rows.old conn.0) channel) (window_in (at_number rows.new conn.0)) }
+) -> Result<bool, AllocError>
+    ensures fits { OnOk result ((t : List Entry) (payload : List ℕ) → (if is_begin perf.now then is_some (at_number rows.old conn.0) else true) ≡ true → RowsFit (at_number rows.old) t
+        → RowsFit (at_number rows.new) (did (event.Item conn (item.Frame false channel perf.now payload)) ∷ t)) }
+    ensures others { OnOk result ((c o : ℕ) → (conn.0 == c) ≡ false → window_in (at_number rows.new c) o ≡ window_in (at_number rows.old c) o) }
+    ensures marks { IfOk result (λ narrow. narrow ≡ false → (o : ℕ) → is_narrow_window (window_in (at_number rows.old conn.0) o) ≡ false
+        → is_narrow_window (window_in (at_number rows.new conn.0) o) ≡ false) }
+    ensures narrow { IfOk result (λ narrow. narrow ≡ is_narrow_at (theirs_in (at_number rows.new conn.0) channel) (window_in (at_number rows.new conn.0))) }
 {
     match rows.get_mut(conn.0) {
-        None => false,
+        None => Ok(false),
         Some(row) => row.hear(channel, perf),
     }
 }

@@ -1,5 +1,5 @@
 //! The table of sessions of all connections.
-ghost use Rattle.std.specs.Prelude.{◌≡◌, ◌<◌, ◌∷◌, ◌++◌, List, ℕ, Bool, true, false, OnOk};
+ghost use Rattle.std.specs.Prelude.{◌≡◌, ◌<◌, ◌∷◌, ◌++◌, List, ℕ, Bool, true, false, is_some, OnOk};
 ghost use Rattle.std.specs.Ordering.{nat_cmp};
 ghost use Rattle.std.specs.BTreeSet.{contains};
 ghost use Rattle.state_collections.specs.NumberMap.{at_number};
@@ -7,7 +7,7 @@ ghost use Rattle.router_trace.specs.Trace.{Beginning, Trace};
 ghost use Rattle.router_trace.specs.Configuration.{opened};
 ghost use Rattle.router_trace.specs.Trace.{Entry, Out, did, puts_of};
 ghost use Rattle.std.specs.List.{find};
-ghost use Rattle.router_trace.specs.Sessions.{place, session, session_on, is_free, free_channel};
+ghost use Rattle.router_trace.specs.Sessions.{place, session, session_on, theirs, awaited, is_channel, answers_begin, is_free, free_channel};
 ghost use Rattle.state_sessions.specs.Windows.{flow_due, flows_below, is_narrow_window};
 ghost use Rattle.state_sessions.specs.Fits.{SessionsFit, with_mark, window_in, found_of, listed};
 ghost use Rattle.router_trace.specs.declared.event.Event.TheVariants as event;
@@ -70,7 +70,7 @@ impl Sessions {
         }
     }
 
-    /// The router's lowest channel that the peer accepts too and that has no session.
+    /// The router's lowest channel that the peer accepts too and that is free: it has no session, and no begin on it awaits an answer.
     #[tactic(auto, unfolding(router_trace::specs::Sessions::free_channel))]
     pub fn free_channel(&self, conn: u64, channel_max: u16) -> Option<u16>
         ensures { (t : List Entry) → SessionsFit self.now t → result ≡ free_channel t conn channel_max }
@@ -78,16 +78,43 @@ impl Sessions {
         self.first_free(conn, channel_max, &CHANNELS)
     }
 
-    /// The first of these channels that the peer accepts too and that has no session.
+    /// The first of these channels that the peer accepts too and that is free.
     fn first_free(&self, conn: u64, channel_max: u16, channels: &[u16]) -> Option<u16>
-        ensures { (t : List Entry) → SessionsFit self.now t → result ≡ find (is_free channel_max (session t conn)) channels.now }
+        ensures { (t : List Entry) → SessionsFit self.now t → result ≡ find (is_free channel_max (session t conn) (awaited t conn)) channels.now }
     {
         for own in channels {
-            if *own <= channel_max && self.window(conn, *own).is_none() {
+            if self.is_free(conn, channel_max, *own) {
                 return Some(*own);
             }
         }
         None
+    }
+
+    /// Whether the peer accepts a channel too and it is free.
+    fn is_free(&self, conn: u64, channel_max: u16, own: u16) -> bool
+        ensures { (t : List Entry) → SessionsFit self.now t → result ≡ is_free channel_max (session t conn) (awaited t conn) own }
+    {
+        own <= channel_max && self.window(conn, own).is_none() && !self.awaits(conn, own)
+    }
+
+    /// Whether the router's begin on a channel awaits an answer.
+    pub fn awaits(&self, conn: u64, own: u16) -> bool
+        ensures { (t : List Entry) → SessionsFit self.now t → result ≡ is_some (awaited t conn own) }
+    {
+        match self.rows.get(conn) {
+            None => false,
+            Some(row) => row.awaits(own),
+        }
+    }
+
+    /// The router's channel whose begin this performative answers, if it does.
+    pub fn answered(&self, conn: u64, channel: u16, perf: &Perf) -> Option<u16>
+        ensures { (t : List Entry) → SessionsFit self.now t → (o : ℕ) → is_channel result o ≡ answers_begin perf.now o (theirs t conn channel) (awaited t conn o) }
+    {
+        match perf {
+            Perf::Begin(_) => self.rows.get(conn)?.answered(channel, perf),
+            _ => None,
+        }
     }
 
     /// The windows of a session.
@@ -193,7 +220,7 @@ impl Sessions {
         if let Perf::Begin(_) = perf {
             rows::know(self.alloc, &mut self.rows, conn.0)?;
         }
-        let narrow = rows::hear(&mut self.rows, conn, channel, perf);
+        let narrow = rows::hear(&mut self.rows, conn, channel, perf)?;
         mark(&mut self.narrow, conn.0, narrow)?;
         Ok(())
     }

@@ -12,15 +12,15 @@ use Rattle.reply_rows.proofs.answering.in_turn.Goals as goal
 
 pub returns-in-Begin : goal.returns-in-Begin
 returns-in-Begin c = λ t at found.
-    let is : c.args.perf.now ≡ perf.Begin c.as_ref.result.now = c.in-Begin.is ∙ ap (λ b. perf.Begin b) (sym c.as_ref.ensures) in
-    c.begin_reply.ensures (place t c.args.conn c.args.channel) found.session
-    ∙ ap (λ (free : Option ℕ). begin_reply (place t c.args.conn c.args.channel) free c.args.channel c.as_ref.result.now) (c.free_channel-free.ensures t at)
+    let is : c.args.perf.now ≡ perf.Begin c.as_ref-begin.result.now = c.in-Begin.is ∙ ap (λ b. perf.Begin b) (sym c.as_ref-begin.ensures) in
+    c.begin_reply.ensures (place t c.args.conn c.args.channel) (finds t c.args.conn).awaits found.session (c.awaits-awaits.ensures t at)
+    ∙ ap (λ (free : Option ℕ). begin_reply (place t c.args.conn c.args.channel) free (finds t c.args.conn).awaits c.args.channel c.as_ref-begin.result.now) (c.free_channel-free.ensures t at)
     ∙ ap (λ (p : Perf). booked_perf c.args.full c.args.book.now t c.args.conn p (in_turn (finds t c.args.conn) c.args.channel p)) (sym is)
 
 pub returns-in-Attach : goal.returns-in-Attach
 returns-in-Attach c = IfOk-weaker c.attach_answer.result _ _
     (λ r answers t at found.
-    let is : c.args.perf.now ≡ perf.Attach c.as_ref-in-Attach.result.now = c.in-Attach.is ∙ ap (λ a. perf.Attach a) (sym c.as_ref-in-Attach.ensures) in
+    let is : c.args.perf.now ≡ perf.Attach c.as_ref.result.now = c.in-Attach.is ∙ ap (λ a. perf.Attach a) (sym c.as_ref.ensures) in
     answers t c.args.channel at (subst (λ (p : Perf). IsFoundBy t c.args.conn c.args.channel (handle_in p) c.args.found.now) is found)
     ∙ ap (λ (p : Perf). booked_perf c.args.full c.args.book.now t c.args.conn p (in_turn (finds t c.args.conn) c.args.channel p)) (sym is))
     c.attach_answer.ensures

@@ -34,5 +34,5 @@ returns-clause-fits c = λ t at is made first gives.
       clocks = c.in_ok-hear.ensures t at.clocks;
       peers = c.in_ok-hear-2.ensures t at.peers;
       sessions = c.in_ok-hear-3.ensures t at.sessions;
-      messages = c.in_ok-part.ensures.fits t on here change gives at.messages;
+      messages = c.in_ok-part.ensures.fits t on here (c.answered-answered.ensures t at.sessions) change gives at.messages;
     }

@@ -8,7 +8,7 @@ returns c = λ t ends at. record {
   clocks = record { moment = at.clocks.moment; terms = at.clocks.terms; written = at.clocks.written };
   peers = record { users = at.peers.users; containers = at.peers.containers };
   sessions = record {
-    rows = record { offered = at.sessions.rows.offered; answered = at.sessions.rows.answered; theirs = at.sessions.rows.theirs; windows = at.sessions.rows.windows };
+    rows = record { offered = at.sessions.rows.offered; awaited = at.sessions.rows.awaited; answered = at.sessions.rows.answered; theirs = at.sessions.rows.theirs; windows = at.sessions.rows.windows };
     marks = at.sessions.marks;
   };
   messages = started_fits c.args.self.now.messages t at.messages;

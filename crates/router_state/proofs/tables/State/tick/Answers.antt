@@ -8,7 +8,7 @@ returns c = λ t ends at. record {
   clocks = c.tick.ensures t at.clocks;
   peers = record { users = at.peers.users; containers = at.peers.containers };
   sessions = record {
-    rows = record { offered = at.sessions.rows.offered; answered = at.sessions.rows.answered; theirs = at.sessions.rows.theirs; windows = at.sessions.rows.windows };
+    rows = record { offered = at.sessions.rows.offered; awaited = at.sessions.rows.awaited; answered = at.sessions.rows.answered; theirs = at.sessions.rows.theirs; windows = at.sessions.rows.windows };
     marks = at.sessions.marks;
   };
   messages = ticked_fits c.args.self.now.messages c.args.moment t at.messages;

@@ -8,8 +8,8 @@ use Rattle.state_links.proofs.Rows.{named_same}
 use Rattle.state_links.proofs.links.Links.hear_perf.Goals as goal
 
 pub returns-clause-fits : goal.returns-clause-fits
-returns-clause-fits c = λ t channel here fit. record {
-  handles = c.in_ok-hear.ensures t channel c.args.payload.now here fit.handles;
+returns-clause-fits c = λ t channel here answers fit. record {
+  handles = c.in_ok-hear.ensures t channel c.args.payload.now here answers fit.handles;
   table = c.in_ok-part.ensures.fits t channel here
       (λ o h e. c.named-handle.ensures.names o h e
       ∙ named_same c.args.perf.now (at c.args.self.now.handles.theirs c.args.conn.0 o) (their_handle t c.args.conn.0 o) (fit.handles.theirs c.args.conn.0 o) h)

@@ -1,5 +1,5 @@
-use Rattle.std.proofs.Common.{rules, ◌≡◌, ◌∙◌, sym, ap}
-use Rattle.std.specs.Prelude.{None, Some, option_map}
+use Rattle.std.proofs.Common.{◌≡◌, ◌∙◌, sym, ap}
+use Rattle.std.specs.Prelude.{None, option_map}
 use Rattle.router_trace.specs.Configuration.{distribution}
 use Rattle.router_trace.specs.Following.{link_of}
 use Rattle.router_trace.specs.Links.{attachments}

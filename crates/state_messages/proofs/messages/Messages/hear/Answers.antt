@@ -9,7 +9,7 @@ use Rattle.state_messages.proofs.Known.{channel_same, did_counts, moved}
 use Rattle.state_messages.proofs.messages.Messages.hear.Goals as goal
 
 pub returns-clause-fits : goal.returns-clause-fits
-returns-clause-fits c = λ t own found made gives old.
+returns-clause-fits c = λ t own found answers made gives old.
     let its : (o : ℕ) → is_channel c.args.own o ≡ maps (theirs t c.args.conn.0 (channel_of c.args.item.now)) o =
     λ o. own o ∙ ap (λ channel. maps (theirs t c.args.conn.0 channel) o) (channel_same c.args.item.now) in
     let here : (o : ℕ) → is_channel c.args.found o ≡ maps (channels_found t c.args.conn.0 (channel_of c.args.item.now)) o =
