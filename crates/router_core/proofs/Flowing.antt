@@ -12,7 +12,7 @@ use Rattle.router_trace.specs.declared.terms.Terms.{Terms}
 use Rattle.router_trace.specs.Trace.{Entry, Put, Out, goes, ups}
 use Rattle.router_trace.specs.Connection.{Connection, conn, after_perf, is_live, has, live}
 use Rattle.router_trace.specs.Frames.{flow_item, beat_item, told_of}
-use Rattle.router_trace.specs.Sessions.{session}
+use Rattle.router_trace.specs.Sessions.{session, awaited}
 use Rattle.router_trace.specs.Clocks.{terms, written, needs_beat}
 use Rattle.router_trace.specs.Order.{Written, unwritten, begun_after_perf, written_after, is_open, has_turn}
 use Rattle.state_sessions.specs.Windows.{is_narrow, flow_due, flows_below, windows_over, windows}
@@ -20,7 +20,7 @@ use Rattle.router_state.specs.Tables.{beat_if, beats_over}
 use Rattle.router_after.specs.After.{widened}
 use Rattle.router_core.specs.Moves.{outs}
 use Rattle.state_connections.proofs.Lists.{by_test}
-use Rattle.router_core.proofs.RowOrder.{written_of, perf_is_offered, IsOffered}
+use Rattle.router_core.proofs.RowOrder.{written_of, has_begun, perf_is_offered, IsOffered}
 use Rattle.router_core.proofs.Once.{filter_has, has_first, has_rest}
 use Rattle.router_core.proofs.Ordered.{Ordered, wrote, wrote_push, out_turns}
 
@@ -114,7 +114,7 @@ flow_fit : (t : List Entry) (c : ℕ) (v : Connection) → Ordered t → conn t 
     → (o : ℕ) (s : Option Session) → session t c o ≡ s → AllFit t (flow_due c o s)
 flow_fit t c v ord is live there o None at = tt
 flow_fit t c v ord is live there o (Some h) at =
-    let begun : (wrote t c).begun o ≡ true = ord.begun c v is live o ∙ ap (λ (x : Option Session). is_some x) at
+    let begun : (wrote t c).begun o ≡ true = ord.begun c v is live o ∙ ap (λ (x : Option Session). has_begun x (awaited t c o)) at
     in let shut : (wrote t c).phase.closed ≡ false = ap (λ (p : Conn). p.closed) (ord.phases c v is live) ∙ live
     in let fits : Fits t (record { conn = c; item = flow_item o (told_of h) }) = record {
       known = there;

@@ -1,4 +1,3 @@
-pub mod RunLemmas
 pub mod Moves
 pub mod Coming
 pub mod Once
@@ -13,8 +12,6 @@ pub mod Books
 pub mod Machines
 pub mod Moments
 pub mod Committing
-pub mod Remains
-pub mod Partway
 pub mod Granting
 pub mod Due
 pub mod Ordered

@@ -5,6 +5,9 @@ use Rattle.std.proofs.lemmas.Bool.{eqb-true, le-leb}
 use Rattle.amqp_model.specs.declared.item.Item.{Item}
 use Rattle.amqp_model.specs.declared.item.Item.TheVariants as item
 use Rattle.amqp_conn.specs.declared.conn.Conn.{Conn}
+use Rattle.amqp_model.specs.declared.perf.Perf.{Perf}
+use Rattle.amqp_model.specs.declared.perf.Perf.TheVariants as perf
+use Rattle.amqp_session.specs.declared.states.BeginState.{BeginState}
 use Rattle.amqp_session.specs.Session.{Session}
 use Rattle.book_model.specs.declared.act.Act.{Act}
 use Rattle.router_trace.specs.Trace.{Beginning}
@@ -13,17 +16,18 @@ use Rattle.router_trace.specs.declared.channel.PeerChannel.{PeerChannel}
 use Rattle.router_trace.specs.declared.event.ConnectionId.{ConnectionId}
 use Rattle.router_trace.specs.declared.event.Event.{Event}
 use Rattle.router_trace.specs.declared.event.Event.TheVariants as event
-use Rattle.router_trace.specs.Trace.{Entry, Did, Out, Took, Bound, Booked, Began, did, ups, with_up, newer, newest, step_of}
+use Rattle.router_trace.specs.Trace.{Entry, Did, Out, Took, Bound, Booked, Routed, Began, did, ups, with_up, newer, newest, step_of}
 use Rattle.router_trace.specs.Connection.{Connection, conn, ended, took, unless_empty, drained, is_full, is_due, has, due, found, live_of, at_event, fresh}
 use Rattle.router_trace.specs.Refusing.{reaches, rises, refuses}
-use Rattle.router_trace.specs.Sessions.{session, session_at, heard_by, heard_in, maps, theirs}
+use Rattle.router_trace.specs.Routed.{passed_to, if_passed}
+use Rattle.router_trace.specs.Sessions.{session, session_at, awaited, awaited_at, awaited_by, names_own, answers_begin, answered_begin, after_item, offered, heard_by, heard_in, maps, theirs}
 use Rattle.router_trace.specs.Links.{link, their_handle}
 use Rattle.router_reply.specs.Replies.{heard}
 use Rattle.router_core.specs.Moves.{outs}
 use Rattle.router_trace.specs.Order.{unwritten}
 use Rattle.state_connections.proofs.Lists.{by_test, has_push, from_push}
 use Rattle.state_connections.proofs.Turns.{reach_up}
-use Rattle.router_core.proofs.RowOrder.{phase_is}
+use Rattle.router_core.proofs.RowOrder.{phase_is, has_begun}
 use Rattle.router_core.proofs.Once.{NoTwice, filter_has, no_twice_filter, no_twice_push, rises_apart, taken_up}
 use Rattle.router_core.proofs.Linked.{linked_before}
 use Rattle.router_core.proofs.Ordered.{Ordered, Pending, wrote, written_all, ends_turns}
@@ -52,37 +56,102 @@ pub push_some : (is : List Item) (i : Item) → is ++ i ∷ [] ≡ [] → ⊥
 push_some [] i h = absurd cc
 push_some (j ∷ js) i h = absurd cc
 
-heard_some : (i : Item) (o : ℕ) (known : ℕ → Option PeerChannel) (v : Option Session) → is_some (heard_by i o known v) ≡ is_some v
-heard_some (item.Frame sasl channel body payload) o known v = frame sasl (maps (known channel) o) (heard_in body) v
+-- a begin that answers the router's makes a session where one was awaited; nothing else begins or ends by an item of the peer
+answers_some : (body : Perf) (o : ℕ) (here : Option PeerChannel) (w : Option BeginState) → answers_begin body o here w ≡ true
+    → (is_some w ≡ true) × (is_some (answered_begin body w) ≡ true)
+answers_some (perf.Begin b) o here None h = absurd (by (names_own b o here) h)
   where
-    frame : (s m : Bool) (f : Session → Session) (v : Option Session) → is_some (if s then v else (if m then option_map f v else v)) ≡ is_some v
-    frame true m f v = refl
-    frame false true f None = refl
-    frame false true f (Some h) = refl
-    frame false false f v = refl
-heard_some _ o known v = refl
+    by : (q : Bool) → (if q then false else false) ≡ true → ⊥
+    by true h = absurd cc
+    by false h = absurd cc
+answers_some (perf.Begin b) o here (Some s) h = (refl, refl)
+answers_some _ o here w h = absurd cc
 
-none_when : (v : Option Session) → is_some v ≡ false → v ≡ None
-none_when None h = refl
-none_when (Some s) h = absurd cc
+heard_begun : (i : Item) (o : ℕ) (known : ℕ → Option PeerChannel) (v : Option Session) (w : Option BeginState)
+    → has_begun (heard_by i o known w v) (awaited_by i o known w) ≡ has_begun v w
+heard_begun (item.Frame sasl channel body payload) o known v w =
+    frame sasl (answers_begin body o (known channel) w) (maps (known channel) o) (heard_in body) v (answers_some body o (known channel) w)
+  where
+    both : (new v : Option Session) (w : Option BeginState) → is_some w ≡ true → is_some new ≡ true → has_begun new None ≡ has_begun v w
+    both None v w e f = absurd cc
+    both (Some n) v None e f = absurd cc
+    both (Some n) None (Some w) e f = refl
+    both (Some n) (Some h) (Some w) e f = refl
 
-still_none : (e : Event) (c o : ℕ) (known : ℕ → Option PeerChannel) (v : Option Session) → v ≡ None → session_at e c o known v ≡ None
-still_none (event.Item d i) c o known v h =
-    by_test (d.0 == c) (λ e. rw e (none_when (heard_by i o known v) (heard_some i o known v ∙ ap (λ (x : Option Session). is_some x) h))) (λ e. rw e h)
-still_none (event.Down d) c o known v h = by_test (d.0 == c) (λ e. rw e refl) (λ e. rw e h)
-still_none (event.Up d p) c o known v h = h
-still_none (event.Tick ms) c o known v h = h
-still_none event.Start c o known v h = h
+    frame : (s a m : Bool) (f : Session → Session) (v : Option Session)
+        → (a ≡ true → (is_some w ≡ true) × (is_some (answered_begin body w) ≡ true))
+        → has_begun (if s then v else (if a then answered_begin body w else (if m then option_map f v else v))) (if s then w else (if a then None else w)) ≡ has_begun v w
+    frame true a m f v is = refl
+    frame false true m f v is = let some = is refl in both (answered_begin body w) v w some.0 some.1
+    frame false false true f None is = refl
+    frame false false true f (Some h) is = refl
+    frame false false false f v is = refl
+heard_begun _ o known v w = refl
+
+-- if no begin of the router awaits an answer, the peer's makes no session
+answers_none : (body : Perf) (o : ℕ) (here : Option PeerChannel) → answers_begin body o here None ≡ false
+answers_none (perf.Begin b) o here = by (names_own b o here)
+  where
+    by : (q : Bool) → (if q then false else false) ≡ false
+    by true = refl
+    by false = refl
+answers_none _ o here = refl
+
+-- neither is there a session, nor is one awaited
+abbrev IsUnbegun : Option Session → Option BeginState → Type 0
+IsUnbegun v w = (v ≡ None) × (w ≡ None)
+
+heard_none : (i : Item) (o : ℕ) (known : ℕ → Option PeerChannel) → IsUnbegun (heard_by i o known None None) (awaited_by i o known None)
+heard_none (item.Frame sasl channel body payload) o known =
+    frame sasl (answers_begin body o (known channel) None) (maps (known channel) o) (answers_none body o (known channel))
+  where
+    frame : (s a m : Bool) → a ≡ false
+        → IsUnbegun (if s then None else (if a then answered_begin body None else (if m then option_map (heard_in body) None else None)))
+        (if s then None else (if a then None else None))
+    frame true a m h = (refl, refl)
+    frame false true m h = absurd cc
+    frame false false true h = (refl, refl)
+    frame false false false h = (refl, refl)
+heard_none _ o known = (refl, refl)
+
+still_none : (e : Event) (c o : ℕ) (known : ℕ → Option PeerChannel) → IsUnbegun (session_at e c o known None None) (awaited_at e c o known None)
+still_none (event.Item d i) c o known = by_test (d.0 == c) (λ e. rw e (heard_none i o known)) (λ e. rw e (refl, refl))
+still_none (event.Down d) c o known = by_test (d.0 == c) (λ e. rw e (refl, refl)) (λ e. rw e (refl, refl))
+still_none (event.Up d p) c o known = (refl, refl)
+still_none (event.Tick ms) c o known = (refl, refl)
+still_none event.Start c o known = (refl, refl)
+
+none_before : (e : Event) (c o : ℕ) (known : ℕ → Option PeerChannel) (v : Option Session) (w : Option BeginState) → IsUnbegun v w
+    → IsUnbegun (session_at e c o known w v) (awaited_at e c o known w)
+none_before e c o known v w none =
+    subst (λ (x : Option BeginState). IsUnbegun (session_at e c o known x v) (awaited_at e c o known x)) (sym none.1)
+    (subst (λ (x : Option Session). IsUnbegun (session_at e c o known None x) (awaited_at e c o known None)) (sym none.0) (still_none e c o known))
+
+pub passed_none : (p : Option Item) (js : List Item) → if_passed (λ i is. is ++ i ∷ []) p js ≡ [] → (p ≡ None) × (js ≡ [])
+passed_none None js h = (refl, h)
+passed_none (Some i) js h = absurd (push_some js i h)
+
+unbegun : (t : List Entry) (c : ℕ) → outs t c ≡ [] → (o : ℕ) → IsUnbegun (session t c o) (awaited t c o)
+unbegun [] c none o = (refl, refl)
+unbegun (Did s ∷ t) c none o = none_before s.event c o (theirs t c) (session t c o) (awaited t c o) (unbegun t c none o)
+unbegun (Out d i ∷ t) c none o =
+    by_test (d == c) (λ e. absurd (push_some (outs t c) i (rw e at none))) (λ e. rw e (unbegun t c (rw e at none) o))
+unbegun (Took d n ∷ t) c none o = unbegun t c none o
+unbegun (Bound b ∷ t) c none o = unbegun t c none o
+unbegun (Booked acts full ∷ t) c none o = unbegun t c none o
+unbegun (Routed passage ∷ t) c none o =
+    let nothing = passed_none (passed_to passage c) (outs t c) none
+    in subst (λ (p : Option Item). IsUnbegun (if_passed (λ i v. after_item i o (offered t c) v) p (session t c o)) (awaited t c o)) (sym nothing.0)
+    (unbegun t c nothing.1 o)
+unbegun (Began g ∷ t) c none o = (refl, refl)
 
 pub no_session : (t : List Entry) (c : ℕ) → outs t c ≡ [] → (o : ℕ) → session t c o ≡ None
-no_session [] c none o = refl
-no_session (Did s ∷ t) c none o = still_none s.event c o (theirs t c) (session t c o) (no_session t c none o)
-no_session (Out d i ∷ t) c none o =
-    by_test (d == c) (λ e. absurd (push_some (outs t c) i (rw e at none))) (λ e. rw e (no_session t c (rw e at none) o))
-no_session (Took d n ∷ t) c none o = no_session t c none o
-no_session (Bound b ∷ t) c none o = no_session t c none o
-no_session (Booked acts full ∷ t) c none o = no_session t c none o
-no_session (Began g ∷ t) c none o = refl
+no_session t c none o = (unbegun t c none o).0
+
+pub none_begun : (t : List Entry) (c : ℕ) → outs t c ≡ [] → (o : ℕ) → has_begun (session t c o) (awaited t c o) ≡ false
+none_begun t c none o =
+    let is = unbegun t c none o in
+    ap (λ (x : Option Session). has_begun x (awaited t c o)) is.0 ∙ ap (λ (x : Option BeginState). is_some x) is.1
 
 event_phases : (t : List Entry) (e : Event) → Ordered t → refuses t e ≡ false → (c n : ℕ) (v : Connection)
     → at_event e c n (found t e c) ≡ Some v → v.phase.closed ≡ false → (wrote t c).phase ≡ v.phase
@@ -101,18 +170,19 @@ event_phases t (event.Tick ms) ord taken c n v is live = ord.phases c v (found_o
 event_phases t event.Start ord taken c n v is live = ord.phases c v (found_open (has c (due t event.Start)) (conn t c) v is live) live
 
 event_begun : (t : List Entry) (e : Event) → Ordered t → refuses t e ≡ false → (c n : ℕ) (v : Connection)
-    → at_event e c n (found t e c) ≡ Some v → v.phase.closed ≡ false → (o : ℕ) → (wrote t c).begun o ≡ is_some (session (did e ∷ t) c o)
+    → at_event e c n (found t e c) ≡ Some v → v.phase.closed ≡ false → (o : ℕ)
+    → (wrote t c).begun o ≡ has_begun (session (did e ∷ t) c o) (awaited (did e ∷ t) c o)
 event_begun t (event.Up d p) ord taken c n v is live o =
     by_test (d.0 == c)
     (λ e. let none : outs t c ≡ [] = ord.unknown c (subst (λ (k : ℕ). has k (ups t) ≡ false) (eqb-true d.0 c e) (not_before t d ord taken))
-    in ap (λ js. (written_all js unwritten).begun o) none ∙ sym (ap (λ (x : Option Session). is_some x) (no_session t c none o)))
+    in ap (λ js. (written_all js unwritten).begun o) none ∙ sym (none_begun t c none o))
     (λ e. ord.begun c v (found_open (has c (due t (event.Up d p))) (conn t c) v (rw e at is) live) live o)
 event_begun t (event.Down d) ord taken c n v is live o =
     by_test (d.0 == c) (λ e. let no : None ≡ Some v = rw e at is in absurd cc)
     (λ e. rw e (ord.begun c v (found_open (has c (due t (event.Down d))) (conn t c) v (rw e at is) live) live o))
 event_begun t (event.Item d i) ord taken c n v is live o =
-    let was : (wrote t c).begun o ≡ is_some (session t c o) = ord.begun c v (found_open (has c (due t (event.Item d i))) (conn t c) v is live) live o
-    in by_test (d.0 == c) (λ e. rw e (was ∙ sym (heard_some i o (theirs t c) (session t c o)))) (λ e. rw e was)
+    let was : (wrote t c).begun o ≡ has_begun (session t c o) (awaited t c o) = ord.begun c v (found_open (has c (due t (event.Item d i))) (conn t c) v is live) live o
+    in by_test (d.0 == c) (λ e. rw e (was ∙ sym (heard_begun i o (theirs t c) (session t c o) (awaited t c o)))) (λ e. rw e was)
 event_begun t (event.Tick ms) ord taken c n v is live o = ord.begun c v (found_open (has c (due t (event.Tick ms))) (conn t c) v is live) live o
 event_begun t event.Start ord taken c n v is live o = ord.begun c v (found_open (has c (due t event.Start)) (conn t c) v is live) live o
 

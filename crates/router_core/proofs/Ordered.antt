@@ -1,6 +1,6 @@
 -- A trace in which each connection's items are written in a permitted order, and what is put into it.
 use Rattle.std.proofs.Common.{◌≡◌, ◌∙◌, sym, ap, refl, subst, true≢false, ℕ, Bool, true, false, ◌&&◌, List, [], ◌∷◌, ◌++◌}
-use Rattle.std.specs.Prelude.{◌==◌, nat_eq, Option, Some, None, is_some, option_map, if◌then◌else◌}
+use Rattle.std.specs.Prelude.{◌==◌, nat_eq, Option, Some, None, is_none, is_some, option_map, if◌then◌else◌}
 use Rattle.std.proofs.lemmas.Bool.{eqb-true, eq-eqb}
 use Rattle.amqp_model.specs.declared.perf.Perf.{Perf}
 use Rattle.amqp_model.specs.declared.perf.Perf.TheVariants as perf
@@ -18,7 +18,7 @@ use Rattle.router_trace.specs.Trace.{Entry, Put, Out, goes, puts, each_to, ups, 
 use Rattle.router_trace.specs.Connection.{Connection, conn, phase_after, after_perf, with_item, has}
 use Rattle.router_trace.specs.Refusing.{reaches}
 use Rattle.router_trace.specs.Frames.{closing}
-use Rattle.router_trace.specs.Sessions.{session, offered, begun, after_item, unless_close}
+use Rattle.router_trace.specs.Sessions.{session, offered, awaited, awaited_after, awaited_after_perf, unless_answering, begun, after_item, unless_close}
 use Rattle.router_trace.specs.Sessions.{after_perf as session_after_perf}
 use Rattle.router_trace.specs.Clocks.{terms}
 use Rattle.router_trace.specs.Links.{link}
@@ -30,7 +30,7 @@ use Rattle.router_reply.specs.Replies.{closing_of, ends}
 use Rattle.router_core.specs.Moves.{outs}
 use Rattle.state_connections.proofs.Lists.{by_test}
 use Rattle.state_connections.proofs.Turns.{stays, known}
-use Rattle.router_core.proofs.RowOrder.{open_phase, written_of, closing_turns, closing_offered, perf_is_offered, IsOffered, AreOffered}
+use Rattle.router_core.proofs.RowOrder.{open_phase, written_of, has_begun, closing_turns, closing_offered, perf_is_offered, IsOffered, AreOffered}
 use Rattle.router_core.proofs.Linked.{linked_more}
 use Rattle.router_core.proofs.Once.{NoTwice, neither, has_first, has_rest}
 
@@ -44,12 +44,13 @@ abbrev pub wrote : List Entry → ℕ → Written
 wrote t c = written_all (outs t c) unwritten
 
 -- The state of a trace: each connection's items are written in a permitted order. What was written on a live one agrees with the phase of the
--- trace, with sessions on the channels on which the trace has them. A session begins only after an open, and a link
+-- trace, with begins on the channels on which the trace has a session or awaits the peer's begin. A session begins only after an open, and a link
 -- is on a session. Nothing was written on a connection that never came up, and the numbers of those that came up rise.
 pub record Ordered (t : List Entry) : Type 0 where
   pub turns : (c : ℕ) → have_turns unwritten (outs t c) ≡ true
   pub phases : (c : ℕ) (v : Connection) → conn t c ≡ Some v → v.phase.closed ≡ false → (wrote t c).phase ≡ v.phase
-  pub begun : (c : ℕ) (v : Connection) → conn t c ≡ Some v → v.phase.closed ≡ false → (o : ℕ) → (wrote t c).begun o ≡ is_some (session t c o)
+  pub begun : (c : ℕ) (v : Connection) → conn t c ≡ Some v → v.phase.closed ≡ false → (o : ℕ)
+      → (wrote t c).begun o ≡ has_begun (session t c o) (awaited t c o)
   pub opened : (c o : ℕ) → (wrote t c).begun o ≡ true → (wrote t c).phase.opened ≡ true
   pub linked : (c o h : ℕ) → is_some (link t c o h) ≡ true → of_session (wrote t c) o ≡ true
   pub unknown : (c : ℕ) → has c (ups t) ≡ false → outs t c ≡ []
@@ -69,31 +70,32 @@ pub with_inv : (i : Item) (o : Option Connection) (w : Connection) → option_ma
 with_inv i None w e = absurd cc
 with_inv i (Some v) w e = (v, refl, cc)
 
--- the channels on which a session is begun are those on which the trace has one
-begun_some : (asked : Option BeginState) (x : Begin) → is_some asked ≡ true → true ≡ is_some (begun asked x)
-begun_some None x h = absurd cc
-begun_some (Some s) x h = refl
+-- the channels on which a begin is written are those on which the trace has a session or awaits the peer's begin
+begun_some : (asked : Option BeginState) (x : Begin) → (if is_none x.remote_channel then true else is_some asked) ≡ true
+    → true ≡ has_begun (begun asked x) (unless_answering x)
+begun_some None x h = by_test (is_none x.remote_channel) (λ e. rw e refl) (λ e. absurd (true≢false (sym (rw e at h))))
+begun_some (Some s) x h = by_test (is_none x.remote_channel) (λ e. rw e refl) (λ e. rw e refl)
 
-map_some : (q : Bool) (f : Session → Session) (v : Option Session) → is_some v ≡ is_some (if q then option_map f v else v)
-map_some true f None = refl
-map_some true f (Some h) = refl
-map_some false f v = refl
+map_some : (q : Bool) (f : Session → Session) (v : Option Session) (w : Option BeginState) → has_begun v w ≡ has_begun (if q then option_map f v else v) w
+map_some true f None w = refl
+map_some true f (Some h) w = refl
+map_some false f v w = refl
 
-begun_perf : (body : Perf) (p : Conn) (own o : ℕ) (b : ℕ → Bool) (asked : Option BeginState) (v : Option Session)
-    → perf_is_offered body asked → (after_perf body p).closed ≡ false → b o ≡ is_some v
-    → begun_after_perf body own b o ≡ is_some (session_after_perf body own o asked v)
-begun_perf (perf.Begin x) p own o b asked v offer live h = by_test (own == o) (λ e. rw e (begun_some asked x offer)) (λ e. rw e h)
-begun_perf (perf.Flow x) p own o b asked v offer live h = h ∙ map_some (own == o) _ v
-begun_perf (perf.Transfer x) p own o b asked v offer live h = h ∙ map_some (own == o) _ v
-begun_perf (perf.End x) p own o b asked v offer live h = by_test (own == o) (λ e. rw e refl) (λ e. rw e h)
-begun_perf (perf.Close x) p own o b asked v offer live h = absurd cc
-begun_perf _ p own o b asked v offer live h = h
+begun_perf : (body : Perf) (p : Conn) (own o : ℕ) (b : ℕ → Bool) (asked : Option BeginState) (v : Option Session) (w : Option BeginState)
+    → perf_is_offered body asked → (after_perf body p).closed ≡ false → b o ≡ has_begun v w
+    → begun_after_perf body own b o ≡ has_begun (session_after_perf body own o asked v) (awaited_after_perf body own o w)
+begun_perf (perf.Begin x) p own o b asked v w offer live h = by_test (own == o) (λ e. rw e (begun_some asked x offer)) (λ e. rw e h)
+begun_perf (perf.Flow x) p own o b asked v w offer live h = h ∙ map_some (own == o) _ v w
+begun_perf (perf.Transfer x) p own o b asked v w offer live h = h ∙ map_some (own == o) _ v w
+begun_perf (perf.End x) p own o b asked v w offer live h = by_test (own == o) (λ e. rw e refl) (λ e. rw e h)
+begun_perf (perf.Close x) p own o b asked v w offer live h = absurd cc
+begun_perf _ p own o b asked v w offer live h = h
 
-begun_more : (i : Item) (p : Conn) (o : ℕ) (b : ℕ → Bool) (asked : Option BeginState) (v : Option Session)
-    → IsOffered i asked → (phase_after i p).closed ≡ false → b o ≡ is_some v
-    → begun_after i b o ≡ is_some (after_item i o asked v)
-begun_more (item.Frame sasl own body payload) p o b asked v offer live h = begun_perf body p own o b asked v offer live h
-begun_more _ p o b asked v offer live h = h
+begun_more : (i : Item) (p : Conn) (o : ℕ) (b : ℕ → Bool) (asked : Option BeginState) (v : Option Session) (w : Option BeginState)
+    → IsOffered i asked → (phase_after i p).closed ≡ false → b o ≡ has_begun v w
+    → begun_after i b o ≡ has_begun (after_item i o asked v) (awaited_after i o w)
+begun_more (item.Frame sasl own body payload) p o b asked v w offer live h = begun_perf body p own o b asked v w offer live h
+begun_more _ p o b asked v w offer live h = h
 
 -- sessions begin only on open connections
 open_first : (p : Conn) (r : Bool) → (if is_open p then r else false) ≡ true → p.opened ≡ true
@@ -127,7 +129,7 @@ out_turns t c i ord turn offer there = record {
       (λ e. rw e (λ is live o. let v = with_inv i (conn t k) w is
       in let over : (phase_after i v.0.phase).closed ≡ false = ap (λ (u : Connection). u.phase.closed) v.2 ∙ live
       in ap (λ (x : Written). x.begun o) (wrote_push (outs t k) unwritten i)
-      ∙ begun_more i v.0.phase o (wrote t k).begun (offered t k) (session t k o) (subst (λ (n : ℕ). IsOffered i (offered t n)) (eqb-true c k e) offer) over
+      ∙ begun_more i v.0.phase o (wrote t k).begun (offered t k) (session t k o) (awaited t k o) (subst (λ (n : ℕ). IsOffered i (offered t n)) (eqb-true c k e) offer) over
       (ord.begun k v.0 v.1 (stays i v.0.phase over) o)))
       (λ e. rw e (ord.begun k w));
   opened = λ k o. by_test (c == k)
@@ -190,6 +192,7 @@ pub record Spares (t u : List Entry) (k : ℕ) : Type 0 where
   pub conn : conn u k ≡ conn t k
   pub outs : outs u k ≡ outs t k
   pub session : (o : ℕ) → session u k o ≡ session t k o
+  pub awaited : (o : ℕ) → awaited u k o ≡ awaited t k o
   pub offered : offered u k ≡ offered t k
   pub terms : terms u k ≡ terms t k
   pub link : (o h : ℕ) → link u k o h ≡ link t k o h
@@ -201,6 +204,7 @@ spares_self t k = record {
   conn = refl;
   outs = refl;
   session = λ o. refl;
+  awaited = λ o. refl;
   offered = refl;
   terms = refl;
   link = λ o h. refl;
@@ -213,6 +217,7 @@ spares_on t u v k f g = record {
   conn = g.conn ∙ f.conn;
   outs = g.outs ∙ f.outs;
   session = λ o. g.session o ∙ f.session o;
+  awaited = λ o. g.awaited o ∙ f.awaited o;
   offered = g.offered ∙ f.offered;
   terms = g.terms ∙ f.terms;
   link = λ o h. g.link o h ∙ f.link o h;
@@ -225,6 +230,7 @@ spares_one t c k i apart = record {
   conn = rw apart refl;
   outs = rw apart refl;
   session = λ o. rw apart refl;
+  awaited = λ o. rw apart refl;
   offered = rw apart refl;
   terms = rw apart refl;
   link = λ o h. rw apart refl;
@@ -246,6 +252,7 @@ bound_spares (Some b) t k = record {
   conn = refl;
   outs = refl;
   session = λ o. refl;
+  awaited = λ o. refl;
   offered = refl;
   terms = refl;
   link = λ o h. refl;

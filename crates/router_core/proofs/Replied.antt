@@ -18,7 +18,7 @@ use Rattle.router_trace.specs.Connection.{Connection, conn, ended, standing, is_
 use Rattle.router_trace.specs.Refusing.{refuses}
 use Rattle.router_trace.specs.Frames.{beat_item}
 use Rattle.router_trace.specs.Peers.{largest_frame}
-use Rattle.router_trace.specs.Sessions.{session, offered, offered_by, theirs}
+use Rattle.router_trace.specs.Sessions.{session, awaited, offered, offered_by, theirs}
 use Rattle.router_trace.specs.Clocks.{terms, terms_in, terms_by, channel_max_of}
 use Rattle.router_trace.specs.Order.{Written, unwritten, is_open, of_session, have_turns}
 use Rattle.router_state.specs.Tables.{beats}
@@ -32,7 +32,7 @@ use Rattle.router_reply.specs.Replies.{heard, taken, refused, bound_by, item_row
 use Rattle.router_core.specs.Replies.{answered}
 use Rattle.state_connections.proofs.Lists.{by_test, has_push}
 use Rattle.state_connections.proofs.Turns.{known}
-use Rattle.router_core.proofs.RowOrder.{written_of, AreOffered, AnswerFits, answer_fits, place_fits, free_fits, said_turns, said_offered, Opens, open_opens}
+use Rattle.router_core.proofs.RowOrder.{written_of, has_begun, AreOffered, AnswerFits, answer_fits, place_fits, free_fits, said_turns, said_offered, Opens, open_opens}
 use Rattle.router_core.proofs.Once.{filter_has, taken_up}
 use Rattle.router_core.proofs.Ordered.{Ordered, Spares, wrote, written_all, puts_turns, bound_turns, bound_ups, spares_on, bound_spares, ends_spares, ends_ups, goes_ups, some_is}
 use Rattle.router_core.proofs.Told.{ToldAt, Told, goes_told_at, bound_told_at, ends_told_at, goes_strange, bound_strange, ends_strange, said_told}
@@ -111,10 +111,10 @@ row_turns id t d i ord here heard_ord there =
     in let p : Conn = here.view.phase
     in let b : ℕ → Bool = (wrote t c).begun
     in let asked : Option BeginState = offered_by i (offered t c)
-    in let begun : (o : ℕ) → b o ≡ is_some (session t c o) = ord.begun c here.view here.known_as here.live
+    in let begun : (o : ℕ) → b o ≡ has_begun (session t c o) (awaited t c o) = ord.begun c here.view here.known_as here.live
     in let a : Answer = answer_of t c p i
     in let all : AnswerFits p b asked a = answer_fits t c p b (offered t c) i here.live (record {
-      places = λ k. place_fits (theirs t c k) (session t c) b begun;
+      places = λ k. place_fits (theirs t c k) (session t c) (awaited t c) b begun;
       room = free_fits t c (channel_max_of (terms t c)) b begun;
     })
     in let spare : Spares (did e ∷ t) v c = spares_on (did e ∷ t) u v c (heard_spares id t e c here.spared) (bound_spares bound u c)

@@ -31,7 +31,7 @@ use Rattle.router_trace.specs.Settling.{middle_by, middle_on}
 use Rattle.router_trace.specs.Trace.{Entry}
 use Rattle.router_trace.specs.Frames.{closing}
 use Rattle.router_trace.specs.Order.{Written, have_turns}
-use Rattle.router_trace.specs.Sessions.{Place, nowhere, ending, on, on_session, place_by, session, is_free, free_channel, channels, offered_by, unless_close, begin_state, flow_state}
+use Rattle.router_trace.specs.Sessions.{Place, nowhere, ending, on, on_session, place_by, session, awaited, is_free, free_channel, channels, offered_by, unless_close, begin_state, flow_state}
 use Rattle.state_connections.proofs.Lists.{by_test}
 use Rattle.reply_rows.specs.declared.answer.Answer.{Answer}
 use Rattle.reply_rows.specs.declared.answer.Answer.TheVariants.{Nothing, Header, Open, Close, CloseWith, Begin, End, Flow, Attach, Refuse, Detach, LinkFlow, Taken, Settle}
@@ -57,9 +57,14 @@ phase_is p live = ap (λ (b : Bool). record_of p.header p.opened b) live
 abbrev pub written_of : Conn → (ℕ → Bool) → Written
 written_of p b = record { phase = p; begun = b }
 
--- the router's begin answers one of the peer
+-- a begin of the router stands on a channel: that of a session, or one that awaits the peer's
+abbrev pub has_begun : Option Session → Option BeginState → Bool
+has_begun None asked = is_some asked
+has_begun (Some h) asked = true
+
+-- the router's begin answers one of the peer, or asks for one
 abbrev pub perf_is_offered : Perf → Option BeginState → Type 0
-perf_is_offered (perf.Begin x) asked = is_some asked ≡ true
+perf_is_offered (perf.Begin x) asked = (if is_none x.remote_channel then true else is_some asked) ≡ true
 perf_is_offered _ asked = Unit {0}
 
 abbrev pub IsOffered : Item → Option BeginState → Type 0
@@ -144,30 +149,34 @@ abbrev pub FreeFits : Option ℕ → (ℕ → Bool) → Type 0
 FreeFits None b = Unit {0}
 FreeFits (Some own) b = b own ≡ false
 
-pub place_fits : (v : Option PeerChannel) (known : ℕ → Option Session) (b : ℕ → Bool) → ((o : ℕ) → b o ≡ is_some (known o)) → PlaceFits (place_by v known) b
-place_fits None known b same = tt
-place_fits (Some Ending) known b same = tt
-place_fits (Some (Mapped own)) known b same = on_fits (known own) (same own)
+pub place_fits : (v : Option PeerChannel) (known : ℕ → Option Session) (asked : ℕ → Option BeginState) (b : ℕ → Bool)
+    → ((o : ℕ) → b o ≡ has_begun (known o) (asked o)) → PlaceFits (place_by v known) b
+place_fits None known asked b same = tt
+place_fits (Some Ending) known asked b same = tt
+place_fits (Some (Mapped own)) known asked b same = on_fits (known own) (same own)
   where
-    on_fits : (v : Option Session) → b own ≡ is_some v → PlaceFits (on_session own v) b
+    on_fits : (v : Option Session) → b own ≡ has_begun v (asked own) → PlaceFits (on_session own v) b
     on_fits None e = tt
     on_fits (Some h) e = e
 
-find_fits : (max : ℕ) (known : ℕ → Option Session) (b : ℕ → Bool) → ((o : ℕ) → b o ≡ is_some (known o)) → (xs : List ℕ) → FreeFits (find (is_free max known) xs) b
-find_fits max known b same [] = tt
-find_fits max known b same (x ∷ xs) =
-    by_test (is_free max known x)
-    (λ e. rw e (same x ∙ none_there (nat_le x max) (known x) e))
-    (λ e. rw e (find_fits max known b same xs))
+find_fits : (max : ℕ) (known : ℕ → Option Session) (asked : ℕ → Option BeginState) (b : ℕ → Bool)
+    → ((o : ℕ) → b o ≡ has_begun (known o) (asked o)) → (xs : List ℕ) → FreeFits (find (is_free max known asked) xs) b
+find_fits max known asked b same [] = tt
+find_fits max known asked b same (x ∷ xs) =
+    by_test (is_free max known asked x)
+    (λ e. rw e (same x ∙ none_there (nat_le x max) (known x) (asked x) e))
+    (λ e. rw e (find_fits max known asked b same xs))
   where
-    none_there : (c : Bool) (v : Option Session) → (if c then is_none v else false) ≡ true → is_some v ≡ false
-    none_there true None h = refl
-    none_there true (Some s) h = sym h
-    none_there false v h = absurd cc
+    none_there : (c : Bool) (v : Option Session) (w : Option BeginState)
+        → (if c then (if is_none v then is_none w else false) else false) ≡ true → has_begun v w ≡ false
+    none_there true None None h = refl
+    none_there true None (Some s) h = sym h
+    none_there true (Some s) w h = sym h
+    none_there false v w h = absurd cc
 
-pub free_fits : (t : List Entry) (c max : ℕ) (b : ℕ → Bool) → ((o : ℕ) → b o ≡ is_some (session t c o)) → FreeFits (free_channel t c max) b
+pub free_fits : (t : List Entry) (c max : ℕ) (b : ℕ → Bool) → ((o : ℕ) → b o ≡ has_begun (session t c o) (awaited t c o)) → FreeFits (free_channel t c max) b
 unfolding free_channel
-free_fits t c max b same = find_fits max (session t c) b same channels
+free_fits t c max b same = find_fits max (session t c) (awaited t c) b same channels
 
 -- each row's answer fits
 
@@ -182,16 +191,20 @@ open_fits h false b asked x =
     (λ e. rw e tt)
     (λ e. by_test (nat_lt 1024 (length x.container_id)) (λ f. rw (e, f) tt) (λ f. rw (e, f) refl))
 
-begin_fits : (h : Bool) (b : ℕ → Bool) (asked : Option BeginState) (at : Place) (free : Option ℕ) (theirs : ℕ) (x : ABegin) → PlaceFits at b → FreeFits free b → is_some asked ≡ true
-    → AnswerFits (open_phase h true) b asked (begin_reply at free theirs x)
-begin_fits h b asked nowhere free theirs x place room some = by free x.remote_channel room
+begin_fits : (h : Bool) (b : ℕ → Bool) (asked : Option BeginState) (at : Place) (free : Option ℕ) (awaits : ℕ → Bool) (theirs : ℕ) (x : ABegin)
+    → PlaceFits at b → FreeFits free b → is_some asked ≡ true → AnswerFits (open_phase h true) b asked (begin_reply at free awaits theirs x)
+begin_fits h b asked nowhere free awaits theirs x place room some = by free x.remote_channel room
   where
-    by : (free m : Option ℕ) → FreeFits free b → AnswerFits (open_phase h true) b asked (begin_by theirs free m)
-    by free (Some channel) room = tt
+    answers : (q : Bool) → AnswerFits (open_phase h true) b asked (if q then Nothing else CloseWith NotAllowed)
+    answers true = tt
+    answers false = tt
+
+    by : (free m : Option ℕ) → FreeFits free b → AnswerFits (open_phase h true) b asked (begin_by theirs free awaits m)
+    by free (Some own) room = answers (awaits own)
     by None None room = tt
     by (Some own) None room = (refl, room, some)
-begin_fits h b asked ending free theirs x place room some = tt
-begin_fits h b asked (on own s) free theirs x place room some = tt
+begin_fits h b asked ending free awaits theirs x place room some = tt
+begin_fits h b asked (on own s) free awaits theirs x place room some = tt
 
 end_fits : (h : Bool) (b : ℕ → Bool) (asked : Option BeginState) (at : Place) → PlaceFits at b → AnswerFits (open_phase h true) b asked (end_reply at)
 end_fits h b asked nowhere place = tt
@@ -346,7 +359,7 @@ perf_fits : (h o : Bool) (b : ℕ → Bool) (asked : Option BeginState) (k : Fin
 perf_fits h o b asked k payload channel (perf.Open x) found = open_fits h o b asked x
 perf_fits h o b asked k payload channel (perf.Begin x) found =
     turn_fits h o b (Some (begin_state x)) k channel (perf.Begin x)
-    (begin_fits h b (Some (begin_state x)) (k.places channel) k.free_channel channel x (found.places channel) found.room refl)
+    (begin_fits h b (Some (begin_state x)) (k.places channel) k.free_channel k.awaits channel x (found.places channel) found.room refl)
 perf_fits h o b asked k payload channel (perf.Attach x) found =
     turn_fits h o b asked k channel (perf.Attach x) (attach_fits h b asked (k.places channel) k.links k.free_handle x (found.places channel))
 perf_fits h o b asked k payload channel (perf.Flow x) found =

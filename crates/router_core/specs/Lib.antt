@@ -1,7 +1,5 @@
 pub mod Handling
 pub mod Replies
-pub mod Runs
-pub mod Leaving
 pub mod Groups
 pub mod Machine
 pub mod Moves

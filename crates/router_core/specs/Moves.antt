@@ -5,7 +5,8 @@ use Rattle.amqp_model.specs.declared.item.Item.{Item}
 use Rattle.router_trace.specs.Trace.{Beginning}
 use Rattle.router_trace.specs.declared.event.Event.{Event}
 use Rattle.router_trace.specs.declared.event.Event.TheVariants as event
-use Rattle.router_trace.specs.Trace.{Trace, Did, Out, Took, Bound, Booked, Began}
+use Rattle.router_trace.specs.Routed.{passed_to, if_passed}
+use Rattle.router_trace.specs.Trace.{Trace, Did, Out, Took, Bound, Booked, Routed, Began}
 use Rattle.router_trace.specs.Configuration.{beginning}
 use Rattle.router_trace.specs.Refusing.{refuses}
 use Rattle.router_core.specs.Replies.{handled}
@@ -33,6 +34,7 @@ ins (Out d i ∷ t) c = ins t c
 ins (Took d n ∷ t) c = ins t c
 ins (Bound b ∷ t) c = ins t c
 ins (Booked acts full ∷ t) c = ins t c
+ins (Routed passage ∷ t) c = ins t c
 ins (Began g ∷ t) c = []
 
 -- the items put out for a connection, in order
@@ -43,4 +45,5 @@ outs (Out d i ∷ t) c = if d == c then outs t c ++ i ∷ [] else outs t c
 outs (Took d n ∷ t) c = outs t c
 outs (Bound b ∷ t) c = outs t c
 outs (Booked acts full ∷ t) c = outs t c
+outs (Routed passage ∷ t) c = if_passed (λ i is. is ++ i ∷ []) (passed_to passage c) (outs t c)
 outs (Began g ∷ t) c = []

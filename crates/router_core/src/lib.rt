@@ -1,7 +1,6 @@
 //! The router's core: events in, items out.
 #![tactic(auto)]
 
-mod driving;
 mod group;
 mod held;
 mod machine;
@@ -9,6 +8,5 @@ mod router;
 
 pub use core_door::{Config, Door, DoorAnswer};
 pub use core_machine::{Batch, CoreFault, Counts, Done};
-pub use driving::{Driven, Sent, drive};
 pub use router::Core;
 pub use router_trace::{ConnectionId, Event, Peer, PeerRole};

@@ -5,12 +5,12 @@ use Rattle.std.specs.declared.alloc.Global.{Global}
 use Rattle.amqp_model.specs.declared.item.Item.{Item}
 use Rattle.router_trace.specs.declared.event.Event.{Event}
 use Rattle.router_trace.specs.declared.event.ConnectionId.{ConnectionId}
-use Rattle.router_core.specs.declared.driving.Sent.{Sent}
 use Rattle.router_trace.specs.Trace.{Trace, step_of}
 use Rattle.router_trace.specs.Connection.{conn, is_ready}
 use Rattle.core_machine.specs.Moves.{IsNext, Taking, items_of, took_one}
 use Rattle.core_machine.specs.Turns.{declines}
 use Rattle.router_core.specs.Replies.{Replies}
+use Rattle.core_runs.specs.declared.driving.Sent.{Sent}
 
 -- takes, one after another: the trace after them, and the items with their connection and the group that they follow
 abbrev pub took_all : List Taking → Trace → Trace

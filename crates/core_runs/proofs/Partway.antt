@@ -10,11 +10,11 @@ use Rattle.router_trace.specs.declared.event.Event.{Event}
 use Rattle.router_trace.specs.Trace.{Entry}
 use Rattle.router_core.specs.declared.router.Core.{Core}
 use Rattle.router_core.specs.Handling.{Fits, id_of, is_failed, kept_book, store_of}
-use Rattle.router_core.specs.Leaving.{IsWithin, LeftWithin}
-use Rattle.router_core.specs.Runs.{MayStep, MaySteps}
+use Rattle.core_runs.specs.Leaving.{IsWithin, LeftWithin}
+use Rattle.core_runs.specs.Runs.{MayStep, MaySteps}
 use Rattle.router_core.proofs.Moments.{EitherOpens}
-use Rattle.router_core.proofs.Remains.{within_none}
-use Rattle.router_core.proofs.RunLemmas.{steps_more}
+use Rattle.core_runs.proofs.Remains.{within_none}
+use Rattle.core_runs.proofs.RunLemmas.{steps_more}
 
 pub works_or_not : true ≡ false → ⊥
 works_or_not is = cc

@@ -5,11 +5,11 @@ use Rattle.disk_core.specs.Twin.{Contents}
 use Rattle.journal_store.specs.Store.{OpensTo, Stands, twin_of}
 use Rattle.router_trace.specs.Trace.{Entry}
 use Rattle.reply_rows.specs.Acts.{book_in}
-use Rattle.router_core.specs.declared.driving.Sent.{Sent as ASent}
 use Rattle.router_core.specs.Handling.{Fits, id_of, store_of}
-use Rattle.router_core.specs.Runs.{Broken, MaySteps}
-use Rattle.router_core.proofs.Remains.{opens_after}
-use Rattle.router_core.proofs.driving.step.Goals as goal
+use Rattle.core_runs.specs.declared.driving.Sent.{Sent as ASent}
+use Rattle.core_runs.specs.Runs.{Broken, MaySteps}
+use Rattle.core_runs.proofs.Remains.{opens_after}
+use Rattle.core_runs.proofs.driving.step.Goals as goal
 
 pub returns-in_err-handle_group-clause-broken : goal.returns-in_err-handle_group-clause-broken
 returns-in_err-handle_group-clause-broken g c =

@@ -5,9 +5,9 @@ use Rattle.router_trace.specs.declared.event.Event.{Event}
 use Rattle.disk_core.specs.Disk.{LeavesOnly}
 use Rattle.journal_store.specs.Store.{Stands, twin_of}
 use Rattle.router_core.specs.Handling.{Fits, id_of, is_failed, store_of}
-use Rattle.router_core.specs.Leaving.{LeftBy}
-use Rattle.router_core.specs.Runs.{Run, events_of}
-use Rattle.router_core.proofs.driving.drive.Given as goal
+use Rattle.core_runs.specs.Leaving.{LeftBy}
+use Rattle.core_runs.specs.Runs.{Run, events_of}
+use Rattle.core_runs.proofs.driving.drive.Given as goal
 
 -- the groups before the remaining ones were run
 abbrev pub invariant-loop-group : goal.invariant-loop-group

@@ -8,15 +8,15 @@ ghost use Rattle.book_model.specs.Book.{BookView};
 ghost use Rattle.journal_store.specs.Store.{OpensTo, Stands, StandsBehind, twin_of};
 ghost use Rattle.reply_rows.specs.Acts.{book_in};
 ghost use Rattle.router_core.specs.Handling.{Fits, id_of, is_failed, store_of, kept_book};
-ghost use Rattle.router_core.specs.Leaving.{IsLeftAfter, LeftBy, LeftWithin};
-ghost use Rattle.router_core.specs.Runs.{Emptied, Steps, Run, MayStep, MaySteps, InTurn, Broken, Stopped, Waits, as_sent, events_of, sent};
 ghost use Rattle.core_machine.specs.Moves.{Taking, taking, items_of, took_one};
-ghost use Rattle.router_core.specs.declared.driving.Sent.{Sent as ASent};
+ghost use Rattle.core_runs.specs.Leaving.{IsLeftAfter, LeftBy, LeftWithin};
+ghost use Rattle.core_runs.specs.Runs.{Emptied, Steps, Run, MayStep, MaySteps, InTurn, Broken, Stopped, Waits, as_sent, events_of, sent};
+ghost use Rattle.core_runs.specs.declared.driving.Sent.{Sent as ASent};
 
-use crate::router::Core;
 use amqp_model::Item;
 use core_machine::CoreFault;
 use disk_core::Twin;
+use router_core::Core;
 use router_trace::{ConnectionId, Event};
 use std::alloc::Global;
 

@@ -3,7 +3,7 @@ use Rattle.journal_store.specs.Store.{StandsBehind}
 use Rattle.core_machine.specs.declared.fault.CoreFault.TheVariants.{NoConnection}
 use Rattle.router_core.specs.declared.router.Core.{Core}
 use Rattle.router_core.specs.Handling.{store_of}
-use Rattle.router_core.proofs.driving.hold.Goals as goal
+use Rattle.core_runs.proofs.driving.hold.Goals as goal
 
 pub returns-in-Err-NoConnection-clause-behind : goal.returns-in-Err-NoConnection-clause-behind
 returns-in-Err-NoConnection-clause-behind g c = λ kept behind.

@@ -1,9 +1,9 @@
 use Rattle.std.proofs.Common.{◌≡◌, ◌++◌, List, true}
 use Rattle.router_trace.specs.Trace.{Entry}
 use Rattle.router_core.specs.Handling.{Fits, id_of, is_failed, store_of}
-use Rattle.router_core.specs.Runs.{InTurn, took_all, sent}
 use Rattle.core_machine.specs.Moves.{Taking}
-use Rattle.router_core.proofs.driving.empty.Given as goal
+use Rattle.core_runs.specs.Runs.{InTurn, took_all, sent}
+use Rattle.core_runs.proofs.driving.empty.Given as goal
 
 abbrev pub invariant-loop-turn : goal.invariant-loop-turn
 invariant-loop-turn g l = record {

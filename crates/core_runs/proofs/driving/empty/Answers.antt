@@ -2,11 +2,11 @@ use Rattle.std.proofs.Common.{◌∙◌, ◌≡◌, ◌++◌, refl, inl, ◌⊎�
 use Rattle.std.proofs.lemmas.Result.{err_from_is_err_and}
 use Rattle.router_trace.specs.Trace.{Entry}
 use Rattle.router_core.specs.Handling.{Fits, is_failed}
-use Rattle.router_core.specs.Runs.{InTurn, sent, Waits}
 use Rattle.core_machine.specs.Moves.{Taking, taking}
 use Rattle.core_machine.specs.declared.fault.CoreFault.TheVariants.{Memory}
-use Rattle.router_core.proofs.RunLemmas.{one_more, still_waits, unready}
-use Rattle.router_core.proofs.driving.empty.Goals as goal
+use Rattle.core_runs.specs.Runs.{InTurn, sent, Waits}
+use Rattle.core_runs.proofs.RunLemmas.{one_more, still_waits, unready}
+use Rattle.core_runs.proofs.driving.empty.Goals as goal
 
 pub loop-turn-preserved : goal.loop-turn-preserved
 loop-turn-preserved g c = record {

@@ -2,10 +2,10 @@ use Rattle.std.proofs.Common.{◌≡◌, ◌∙◌, ◌∷◌, ◌++◌, [], Lis
 use Rattle.std.specs.Vec.Iter.{into_iter_items}
 use Rattle.router_trace.specs.declared.event.Event.{Event}
 use Rattle.router_core.specs.Handling.{id_of}
-use Rattle.router_core.specs.Runs.{Broken, events_of}
-use Rattle.router_core.proofs.RunLemmas.{all_run, none_left, past_more}
-use Rattle.router_core.proofs.Remains.{first_moment, next_moment, left_after, some_items}
-use Rattle.router_core.proofs.driving.drive.Goals as goal
+use Rattle.core_runs.specs.Runs.{Broken, events_of}
+use Rattle.core_runs.proofs.RunLemmas.{all_run, none_left, past_more}
+use Rattle.core_runs.proofs.Remains.{first_moment, next_moment, left_after, some_items}
+use Rattle.core_runs.proofs.driving.drive.Goals as goal
 
 pub returns-clause-ran : goal.returns-clause-ran
 returns-clause-ran g c = λ none t f.

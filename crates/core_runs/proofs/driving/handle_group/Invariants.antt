@@ -1,6 +1,6 @@
 use Rattle.std.specs.Vec.Iter.{into_iter_items}
-use Rattle.router_core.proofs.Partway.{IsPartway}
-use Rattle.router_core.proofs.driving.handle_group.Given as goal
+use Rattle.core_runs.proofs.Partway.{IsPartway}
+use Rattle.core_runs.proofs.driving.handle_group.Given as goal
 
 -- the events before the remaining ones were handled
 abbrev pub invariant-loop-event : goal.invariant-loop-event

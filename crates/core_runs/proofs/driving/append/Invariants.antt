@@ -1,8 +1,8 @@
 use Rattle.std.proofs.Common.{◌≡◌, ◌≤◌, ◌+◌, ◌++◌, length}
 use Rattle.std.specs.Prelude.{map, vec_len, vec_capacity}
 use Rattle.std.specs.Vec.Iter.{into_iter_items}
-use Rattle.router_core.specs.Runs.{as_sent}
-use Rattle.router_core.proofs.driving.append.Given as goal
+use Rattle.core_runs.specs.Runs.{as_sent}
+use Rattle.core_runs.proofs.driving.append.Given as goal
 
 abbrev pub invariant-loop-item : goal.invariant-loop-item
 invariant-loop-item l = record {

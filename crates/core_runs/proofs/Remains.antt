@@ -11,11 +11,11 @@ use Rattle.journal_store.proofs.Moments.{left_opens, unmoved}
 use Rattle.router_trace.specs.declared.event.Event.{Event}
 use Rattle.router_trace.specs.Trace.{Entry}
 use Rattle.reply_rows.specs.Acts.{book_in}
-use Rattle.router_core.specs.declared.driving.Sent.{Sent}
 use Rattle.router_core.specs.declared.router.Core.{Core}
 use Rattle.router_core.specs.Handling.{Fits, id_of, store_of, kept_book}
-use Rattle.router_core.specs.Leaving.{IsWithin, LeftWithin, next_group, IsLeftAfter, LeftBy}
-use Rattle.router_core.specs.Runs.{MaySteps, Run}
+use Rattle.core_runs.specs.declared.driving.Sent.{Sent}
+use Rattle.core_runs.specs.Leaving.{IsWithin, LeftWithin, next_group, IsLeftAfter, LeftBy}
+use Rattle.core_runs.specs.Runs.{MaySteps, Run}
 
 -- a list with more behind it is another
 more_items : (xs zs : List Sent) (y : Sent) (ys : List Sent) → zs ≡ xs ++ y ∷ ys → zs ≡ xs → ⊥

@@ -6,8 +6,8 @@ use Rattle.journal_store.specs.Store.{OpensTo}
 use Rattle.router_trace.specs.declared.event.Event.{Event}
 use Rattle.router_trace.specs.Trace.{Trace}
 use Rattle.reply_rows.specs.Acts.{book_in}
-use Rattle.router_core.specs.declared.driving.Sent.{Sent}
-use Rattle.router_core.specs.Runs.{MaySteps, Run}
+use Rattle.core_runs.specs.declared.driving.Sent.{Sent}
+use Rattle.core_runs.specs.Runs.{MaySteps, Run}
 
 -- a book after some first of these events, one after another
 pub record IsWithin (id : List ℕ) (t : Trace) (es : List Event) (b : BookView) : Type 0 where

@@ -1,15 +1,15 @@
 -- Lemmas on takes and runs.
 use Rattle.std.proofs.Common.{◌≡◌, ◌∙◌, sym, ap, refl, subst, ℕ, ◌+◌, List, [], ◌∷◌, ◌++◌, append_assoc, append-nil, length, length-append, arith, true, Option, Some, None, ◌⊎◌, inl, inr, Vec, Global}
 use Rattle.std.specs.Prelude.{map}
-use Rattle.router_core.specs.declared.driving.Sent.{Sent}
 use Rattle.router_trace.specs.declared.event.Event.{Event}
 use Rattle.router_core.specs.declared.router.Core.{Core}
 use Rattle.router_trace.specs.Trace.{Entry}
 use Rattle.router_trace.specs.Connection.{Connection, conn as known, is_ready}
 use Rattle.state_connections.specs.Fits.{IsLeast}
 use Rattle.router_core.specs.Handling.{Fits, is_failed}
-use Rattle.router_core.specs.Runs.{InTurn, took_all, sent, as_sent, events_of, MayStep, MaySteps, Steps, Run, Waits}
 use Rattle.core_machine.specs.Moves.{IsNext, Taking, took_one, items_of}
+use Rattle.core_runs.specs.declared.driving.Sent.{Sent}
+use Rattle.core_runs.specs.Runs.{InTurn, took_all, sent, as_sent, events_of, MayStep, MaySteps, Steps, Run, Waits}
 
 took_more : (xs : List Taking) (x : Taking) (t : List Entry) → took_all (xs ++ x ∷ []) t ≡ took_one x (took_all xs t)
 took_more [] x t = refl

@@ -5,8 +5,8 @@ use Rattle.journal_store.specs.Store.{twin_of}
 use Rattle.core_machine.specs.declared.fault.CoreFault.TheVariants.{Disk}
 use Rattle.router_core.specs.Handling.{store_of}
 use Rattle.router_core.proofs.Grouped.{no_items, ok_is_no_fault}
-use Rattle.router_core.proofs.Partway.{all_gone, next_within, none_yet, one_further, works_or_not}
-use Rattle.router_core.proofs.driving.handle_group.Goals as goal
+use Rattle.core_runs.proofs.Partway.{all_gone, next_within, none_yet, one_further, works_or_not}
+use Rattle.core_runs.proofs.driving.handle_group.Goals as goal
 
 pub loop-event-init : goal.loop-event-init
 loop-event-init g c =

@@ -1,0 +1,4 @@
+mod RunLemmas
+mod Remains
+mod Partway
+pub mod Traces
