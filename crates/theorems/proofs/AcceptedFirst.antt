@@ -1,6 +1,6 @@
 -- Over every list of runs, what the book has as accepted was accepted by its consumer, and a producer is told accepted only after that.
 use Rattle.std.proofs.Common.{◌≡◌, ◌∙◌, sym, ap, refl, subst, ◌⊎◌, inl, inr, ℕ, Bool, true, false, List, [], ◌∷◌, ◌++◌, length}
-use Rattle.std.specs.Prelude.{◌==◌, nat_lt, Option, Some, None, is_some, option_map, filter_map, if◌then◌else◌}
+use Rattle.std.specs.Prelude.{◌==◌, nat_lt, Option, Some, None, option_map, if◌then◌else◌}
 use Rattle.amqp_model.specs.PerfSpelling.{state_spelling}
 use Rattle.journal_store.specs.Acting.{journal_outcome}
 use Rattle.router_trace.specs.DeliveryFrames.{bare, kept_outcome, undescribed}
@@ -17,159 +17,42 @@ use Rattle.amqp_model.specs.declared.state.UnsettledDelivery.{UnsettledDelivery}
 use Rattle.amqp_model.specs.declared.item.Item.{Item}
 use Rattle.amqp_model.specs.declared.item.Item.TheVariants as item
 use Rattle.book_model.specs.declared.act.Act.{Act}
-use Rattle.book_model.specs.declared.act.Act.TheVariants.{Make, Admit, Decide, Forget, Drop}
-use Rattle.book_model.specs.declared.act.Decision.{Decision}
+use Rattle.book_model.specs.Sound.{IsSound}
+use Rattle.book_laws.proofs.KeptSound.{empty_sound, acts_keep}
+use Rattle.journal_store.proofs.Sound.{sound_is_ordered}
 use Rattle.book_model.specs.declared.row.Row.{Row as ARow}
 use Rattle.book_model.specs.declared.row.RowNumber.{RowNumber}
-use Rattle.book_model.specs.Book.{BookView, row_at, with_row, decided, forgotten, admitted, effect, effects}
-use Rattle.router_trace.specs.declared.binding.Binding.{Binding}
+use Rattle.book_model.specs.Book.{BookView, row_at}
 use Rattle.router_trace.specs.declared.binding.DeliveryName.{DeliveryName}
-use Rattle.router_trace.specs.declared.binding.DeliveryName.TheVariants.{Row, Counter}
-use Rattle.router_trace.specs.declared.condition.Condition.TheVariants.{ResourceLimitExceeded}
 use Rattle.router_trace.specs.declared.event.Event.{Event}
-use Rattle.router_trace.specs.Configuration.{opened}
-use Rattle.router_trace.specs.Connection.{conn, due}
+use Rattle.router_trace.specs.Connection.{due}
 use Rattle.router_trace.specs.Deliveries.{acts_found, outcome_among}
-use Rattle.router_trace.specs.Trace.{Trace, Beginning, Entry, Did, Out, Took, Bound, Booked, Began, Put, Step, did, goes, puts, each_to, step_of}
-use Rattle.state_messages.specs.Messages.{with_bound}
+use Rattle.router_trace.specs.Trace.{Trace, Entry, Did, Out, Took, Bound, Booked, Routed, Began, step_of}
 use Rattle.resume_core.specs.Resuming.{entries_of, brief_outcome}
 use Rattle.reply_rows.specs.Acts.{acts_of, book_in, booked}
-use Rattle.router_reply.specs.Replies.{closing_of, ends, heard, bound_by, own_row, replied}
-use Rattle.router_reply.specs.Resuming.{resumed}
-use Rattle.router_core.specs.Replies.{handled}
-use Rattle.core_machine.specs.Moves.{Move, handles, takes, took_one}
-use Rattle.router_core.proofs.Copied.{copied_keeps}
-use Rattle.router_core.proofs.Following.{all_keep}
-use Rattle.router_core.proofs.Resuming.{resumed_keeps}
+use Rattle.core_machine.specs.Moves.{Move}
 use Rattle.theorems.specs.Accepting.{WasAccepted, RowsAreAcceptedByConsumers, AcceptedIsTrue, role_tells_accepted, perf_tells_accepted}
 use Rattle.theorems.specs.Came.{last_found}
 use Rattle.theorems.specs.Each.{EachOut}
 use Rattle.theorems.specs.Kept.{IsDecidedAs, RowIsDecided, OutcomeIsKept, role_is_decided, perf_is_decided}
 use Rattle.theorems.specs.Mapped.{AnyEntry, IsToldOf, IsTrueEntry, EachEntry, EachTold, EachToldIn, MapIsTrue}
-use Rattle.theorems.specs.Lives.{Life, Lives, GoesInTurn, InLives, InSmallLives, AtEachEnd}
-use Rattle.theorems.proofs.Accepting.{acts_accept}
-use Rattle.theorems.proofs.Among.{Stands, stands_in_both, stands_in_filter_map, stands_after, parts}
+use Rattle.theorems.specs.Lives.{GoesInTurn, InLives, InSmallLives}
+use Rattle.theorems.proofs.Accepting.{AreOwn, acts_accept}
+use Rattle.theorems.proofs.Among.{Stands, stands_after, parts}
+use Rattle.theorems.proofs.Booked.{acts_apply}
+use Rattle.theorems.proofs.DecidedFirst.{Was, by_acts, decision, same_row}
+use Rattle.theorems.proofs.EveryMove.{moves_keep_all}
 use Rattle.theorems.proofs.KeptForm.{accepted_itself}
 use Rattle.theorems.proofs.Lives.{lives_keep, lives_outcomes}
+use Rattle.theorems.proofs.OwnConsumer.{BindingFacts, bound_to_own, facts_before, lives_facts}
 use Rattle.theorems.proofs.Tests.{some_same, none_not_some}
 
--- What every entry keeps, each event with its moves keeps.
-
-module _ (P : Trace → Type 0) (comes : (s : Step) (t : Trace) → P t → P (Did s ∷ t)) (out : (c : ℕ) (i : Item) (t : Trace) → P t → P (Out c i ∷ t))
-    (took : (c n : ℕ) (t : Trace) → P t → P (Took c n ∷ t)) (bound : (b : Binding) (t : Trace) → P t → P (Bound b ∷ t)) (acts : (t : Trace) (e : Event) → P t → P (booked t e)) where
-  put_all : (ps : List Put) (t : Trace) → P t → P (goes ps t)
-  put_all [] t was = was
-  put_all (p ∷ ps) t was = put_all ps (Out p.conn p.item ∷ t) (out p.conn p.item t was)
-
-  end_all : (id : List ℕ) (cs : List ℕ) (t : Trace) → P t → P (ends id cs t)
-  end_all id [] t was = was
-  end_all id (c ∷ cs) t was =
-      let items : List Item = closing_of id (conn t c) ResourceLimitExceeded in
-      end_all id cs (puts c items t) (put_all (each_to c items) t was)
-
-  bind : (b : Option Binding) (t : Trace) → P t → P (with_bound b t)
-  bind None t was = was
-  bind (Some b) t was = bound b t was
-
-  reply : (id : List ℕ) (t : Trace) (s : Step) → P t → P (replied id t s)
-  reply id t s was =
-      let u : Trace = heard id t s in
-      copied_keeps P bound t u s.event (goes (own_row id t u s.event) (with_bound (bound_by t u s.event) u))
-      (put_all (own_row id t u s.event) (with_bound (bound_by t u s.event) u) (bind (bound_by t u s.event) u (end_all id (due t s.event) (Did s ∷ t) (comes s t was))))
-
-  pub handled_keep : (id : List ℕ) (t : Trace) (s : Step) → P t → P (handled id t s)
-  handled_keep id t s was =
-      let at : Trace = booked t s.event in
-      all_keep P put_all (resumed at s.event (replied id at s)) (resumed_keeps P bound at s.event (replied id at s) (reply id at s (acts t s.event was)))
-
-  pub moves_keep_all : (id : List ℕ) (ms : List Move) (t u : Trace) → P t → GoesInTurn id ms t u → P u
-  moves_keep_all id [] t u was went = subst P (sym went) was
-  moves_keep_all id (handles s ∷ ms) t u was went = moves_keep_all id ms (handled id t s) u (handled_keep id t s was) went.1
-  moves_keep_all id (takes x ∷ ms) t u was went = moves_keep_all id ms (took_one x t) u (took _ _ t was) went
-
--- What a book has as accepted, acts decided so.
+-- over runs
 
 abbrev IsAccepted : ARow → Type 0
 IsAccepted r = r.outcome ≡ Some state.Accepted
 
-abbrev acceptance : RowNumber → Act
-acceptance n = Decide (record { row = n; outcome = state.Accepted })
-
--- the row was there, accepted already
-abbrev Was : List ARow → ARow → Type 0
-Was rows r = (old : ARow) × Stands ARow old rows × (old.number ≡ r.number) × IsAccepted old
-
-same_row : (q r : RowNumber) → q.0 ≡ r.0 → q ≡ r
-same_row q r e = let number : ℕ → RowNumber = λ n. record { 0 = n } in ap number e
-
-pub with_one : (n : ℕ) (change : ARow → Option ARow) (rows : List ARow) (r : ARow) → Stands ARow r (with_row n change rows)
-    → (old : ARow) × Stands ARow old rows × ((old ≡ r) ⊎ ((old.number.0 ≡ n) × (change old ≡ Some r)))
-with_one n change rows r is =
-    let one = stands_in_filter_map ARow ARow (λ (x : ARow). if x.number.0 == n then change x else Some x) r rows is in (one.0, one.1, by one.0 (one.0.number.0 == n) refl one.2)
-  where
-    by : (x : ARow) (b : Bool) → (x.number.0 == n) ≡ b → (if b then change x else Some x) ≡ Some r → (x ≡ r) ⊎ ((x.number.0 ≡ n) × (change x ≡ Some r))
-    by x true e is = inr (eqb-true x.number.0 n e, is)
-    by x false e is = inl (some_same is)
-
-by_decision : (d : Decision) (rows : List ARow) (r : ARow) → Stands ARow r (with_row d.row.0 (decided d.outcome) rows) → IsAccepted r → Was rows r ⊎ (Decide d ≡ acceptance r.number)
-by_decision d rows r is accepted = let one = with_one d.row.0 (decided d.outcome) rows r is in by one.0 one.1 one.2
-  where
-    made : (old : ARow) (b : Bool) → old.number.0 ≡ d.row.0 → (if b then None else Some (record old { outcome = Some d.outcome })) ≡ Some r → Decide d ≡ acceptance r.number
-    made old true number e = absurd (none_not_some e)
-    made old false number e =
-        let now : record old { outcome = Some d.outcome } ≡ r = some_same e in
-        let outcome : d.outcome ≡ state.Accepted = some_same (ap (λ (x : ARow). x.outcome) now ∙ accepted) in
-        let row : d.row ≡ r.number = same_row d.row old.number (sym number) ∙ ap (λ (x : ARow). x.number) now in
-        ap (λ (s : DeliveryState). Decide (record { row = d.row; outcome = s })) outcome ∙ ap acceptance row
-
-    by : (old : ARow) → Stands ARow old rows → (old ≡ r) ⊎ ((old.number.0 ≡ d.row.0) × (decided d.outcome old ≡ Some r)) → Was rows r ⊎ (Decide d ≡ acceptance r.number)
-    by old there (inl same) = inl (old, there, ap (λ (x : ARow). x.number) same, ap (λ (x : ARow). x.outcome) same ∙ accepted)
-    by old there (inr changed) = inr (made old old.forgotten changed.0 changed.1)
-
-by_forgetting : (n : ℕ) (rows : List ARow) (r : ARow) → Stands ARow r (with_row n forgotten rows) → IsAccepted r → Was rows r
-by_forgetting n rows r is accepted = let one = with_one n forgotten rows r is in by one.0 one.1 one.2
-  where
-    left : (old : ARow) (b : Bool) → Stands ARow old rows → (if b then None else Some (record old { forgotten = true })) ≡ Some r → Was rows r
-    left old true there e = absurd (none_not_some e)
-    left old false there e =
-        let now : record old { forgotten = true } ≡ r = some_same e in
-        (old, there, ap (λ (x : ARow). x.number) now, ap (λ (x : ARow). x.outcome) now ∙ accepted)
-
-    by : (old : ARow) → Stands ARow old rows → (old ≡ r) ⊎ ((old.number.0 ≡ n) × (forgotten old ≡ Some r)) → Was rows r
-    by old there (inl same) = (old, there, ap (λ (x : ARow). x.number) same, ap (λ (x : ARow). x.outcome) same ∙ accepted)
-    by old there (inr changed) = left old (is_some old.outcome) there changed.1
-
-by_act : (b : BookView) (act : Act) (r : ARow) → Stands ARow r (effect b act).rows → IsAccepted r → Was b.rows r ⊎ (act ≡ acceptance r.number)
-by_act b (Make x) r is accepted = inl (r, is, refl, accepted)
-by_act b (Admit x) r is accepted = by (stands_in_both ARow r b.rows (admitted x ∷ []) is)
-  where
-    new : Stands ARow r (admitted x ∷ []) → Was b.rows r
-    new (inl same) = absurd (none_not_some (ap (λ (y : ARow). y.outcome) same ∙ accepted))
-    new (inr is) = absurd is
-
-    by : Stands ARow r b.rows ⊎ Stands ARow r (admitted x ∷ []) → Was b.rows r ⊎ (Admit x ≡ acceptance r.number)
-    by (inl is) = inl (r, is, refl, accepted)
-    by (inr is) = inl (new is)
-by_act b (Decide d) r is accepted = by_decision d b.rows r is accepted
-by_act b (Forget n) r is accepted = inl (by_forgetting n.0 b.rows r is accepted)
-by_act b (Drop n) r is accepted = inl (r, is, refl, accepted)
-
-by_acts : (acts : List Act) (b : BookView) (r : ARow) → Stands ARow r (effects b acts).rows → IsAccepted r → Was b.rows r ⊎ Stands Act (acceptance r.number) acts
-unfolding effects
-by_acts [] b r is accepted = inl (r, is, refl, accepted)
-by_acts (act ∷ acts) b r is accepted = by (by_acts acts (effect b act) r is accepted)
-  where
-    first : (old : ARow) → old.number ≡ r.number → Was b.rows old ⊎ (act ≡ acceptance old.number) → Was b.rows r ⊎ Stands Act (acceptance r.number) (act ∷ acts)
-    first old same (inl was) = inl (was.0, was.1, was.2 ∙ same, was.3)
-    first old same (inr is) = inr (inl (is ∙ ap acceptance same))
-
-    by : Was (effect b act).rows r ⊎ Stands Act (acceptance r.number) acts → Was b.rows r ⊎ Stands Act (acceptance r.number) (act ∷ acts)
-    by (inl was) = first was.0 was.2 (by_act b act was.0 was.1 was.3)
-    by (inr is) = inr (inr is)
-
--- over runs
-
-abbrev Accepted : Trace → Type 0
+abbrev pub Accepted : Trace → Type 0
 Accepted t = (r : ARow) → Stands ARow r (book_in t).rows → IsAccepted r → WasAccepted t r.number
 
 grown : (x : Entry) (t : Trace) (n : RowNumber) → WasAccepted t n → WasAccepted (x ∷ t) n
@@ -182,15 +65,23 @@ grown x t n was = record {
   later_acts = was.later_acts;
   decides = was.decides;
   accepts = was.accepts;
+  waiting = was.waiting;
+  older = was.older;
+  newer = was.newer;
+  in_the_book = was.in_the_book;
+  its_number = was.its_number;
+  undecided = was.undecided;
 }
 
-booked_accepted : (t : Trace) (e : Event) → Accepted t → Accepted (booked t e)
-booked_accepted t e was r is accepted = by (by_acts (acts_of t e) (book_in t) r is accepted)
+booked_accepted : (t : Trace) (e : Event) → AreOwn t → Accepted t → Accepted (booked t e)
+booked_accepted t e own was r is accepted = by (by_acts state.Accepted (acts_of t e) (book_in t) r is accepted)
   where
-    by : Was (book_in t).rows r ⊎ Stands Act (acceptance r.number) (acts_of t e) → WasAccepted (booked t e) r.number
+    by : Was state.Accepted (book_in t).rows r ⊎ Stands Act (decision state.Accepted r.number) (acts_of t e) → WasAccepted (booked t e) r.number
     by (inl old) = grown (Booked (acts_of t e) (due t e)) t r.number (subst (λ (n : RowNumber). WasAccepted t n) old.2 (was old.0 old.1 old.3))
     by (inr act) =
-        let place = parts Act (acceptance r.number) (acts_of t e) act in
+        let place = parts Act (decision state.Accepted r.number) (acts_of t e) act in
+        let known = acts_accept t e (record { row = r.number; outcome = state.Accepted }) own act refl in
+        let waits = parts ARow known.1.row (book_in t).rows known.1.there in
         record {
           later = [];
           event = e;
@@ -199,36 +90,59 @@ booked_accepted t e was r is accepted = by (by_acts (acts_of t e) (book_in t) r 
           earlier_acts = place.0;
           later_acts = place.1;
           decides = place.2;
-          accepts = acts_accept t e (record { row = r.number; outcome = state.Accepted }) act refl;
+          accepts = known.0;
+          waiting = known.1.row;
+          older = waits.0;
+          newer = waits.1;
+          in_the_book = waits.2;
+          its_number = known.1.number;
+          undecided = known.1.undecided;
         }
 
--- with what each item put out finds
-pub record All (t : Trace) : Type 0 where
-  pub now : Accepted t
-  pub each : EachOut (λ u c i. Accepted u) t
+-- what is known of a trace, and of what each item put out finds: the book is sound, and what it has as accepted was accepted
+pub record Known (t : Trace) : Type 0 where
+  pub sound : IsSound (book_in t)
+  pub accepted : BindingFacts t → Accepted t
 
-same_all : (x : Entry) (t : Trace) → (book_in (x ∷ t)).rows ≡ (book_in t).rows → EachOut (λ u c i. Accepted u) (x ∷ t) → All t → All (x ∷ t)
-same_all x t same each was = record {
-  now = λ r is accepted. grown x t r.number (was.now r (subst (λ (rows : List ARow). Stands ARow r rows) same is) accepted);
-  each = each;
+pub record All (t : Trace) : Type 0 where
+  pub now : Known t
+  pub each : EachOut (λ u c i. Known u) t
+
+same_known : (x : Entry) (t : Trace) → book_in (x ∷ t) ≡ book_in t → Known t → Known (x ∷ t)
+same_known x t same was = record {
+  sound = subst IsSound (sym same) was.sound;
+  accepted = λ facts r is accepted.
+      grown x t r.number (was.accepted (facts_before x t facts) r (subst (λ (b : BookView). Stands ARow r b.rows) same is) accepted);
 }
 
+same_all : (x : Entry) (t : Trace) → book_in (x ∷ t) ≡ book_in t → EachOut (λ u c i. Known u) (x ∷ t) → All t → All (x ∷ t)
+same_all x t same each was = record { now = same_known x t same was.now; each = each }
+
 booked_all : (t : Trace) (e : Event) → All t → All (booked t e)
-booked_all t e was = record { now = booked_accepted t e was.now; each = was.each }
+booked_all t e was = record {
+  now = record {
+    sound = acts_keep (book_in t) (acts_of t e) (acts_apply t e (sound_is_ordered (book_in t) was.now.sound)) was.now.sound;
+    accepted = λ facts.
+        let before : BindingFacts t = facts_before (Booked (acts_of t e) (due t e)) t facts in
+        booked_accepted t e (bound_to_own t before) (was.now.accepted before);
+  };
+  each = was.each;
+}
 
 moves_all : (id : List ℕ) (ms : List Move) (t u : Trace) → All t → GoesInTurn id ms t u → All u
 moves_all =
     moves_keep_all All (λ s t was. same_all (Did s) t refl was.each was) (λ c i t was. same_all (Out c i) t refl (was.now, was.each) was)
     (λ c n t was. same_all (Took c n) t refl was.each was) (λ b t was. same_all (Bound b) t refl was.each was) booked_all
 
-lives_all : InLives All
-lives_all =
-    lives_keep All (λ g below book was. same_all (Began g) below (ap (λ (b : BookView). b.rows) book) was.each was) moves_all
-    (λ t e was. same_all (Did (step_of e)) (booked t e) refl was.each (booked_all t e was)) (record { now = λ r is accepted. absurd is; each = tt })
+pub lives_known : InLives All
+lives_known =
+    lives_keep All (λ g below book was. same_all (Began g) below book was.each was) moves_all
+    (λ t e was. same_all (Did (step_of e)) (booked t e) refl was.each (booked_all t e was))
+    (record { now = record { sound = empty_sound; accepted = λ facts r is accepted. absurd is }; each = tt })
 
 pub lives_accepted : InLives RowsAreAcceptedByConsumers
 lives_accepted = λ id lives u all earlier later row is accepted.
-    (lives_all id lives u all).now row (subst (λ (rows : List ARow). Stands ARow row rows) (sym is) (stands_after ARow row earlier later)) accepted
+    (lives_known id lives u all).now.accepted (lives_facts id lives u all) row (subst (λ (rows : List ARow). Stands ARow row rows) (sym is) (stands_after ARow row earlier later)) accepted
 
 -- what producers are told
 
@@ -261,7 +175,7 @@ told_accepted : (o : Option DeliveryState) → Some state.Accepted ≡ option_ma
 told_accepted None is = absurd (none_not_some (sym is))
 told_accepted (Some s) is = ap (λ (x : DeliveryState). Some x) (kept_accepted s (some_same is))
 
-told_truly : (t : Trace) (row : RowNumber) (v : Option ARow) → row_at row.0 (book_in t).rows ≡ v → IsDecidedAs v (Some state.Accepted) → Accepted t → WasAccepted t row
+pub told_truly : (t : Trace) (row : RowNumber) (v : Option ARow) → row_at row.0 (book_in t).rows ≡ v → IsDecidedAs v (Some state.Accepted) → Accepted t → WasAccepted t row
 told_truly t row None there is all = absurd is
 told_truly t row (Some r) there is all =
     let found = row_there row.0 (book_in t).rows r there in
@@ -297,24 +211,29 @@ none_kept (Out c i ∷ t) = (tt, none_kept t)
 none_kept (Took c n ∷ t) = none_kept t
 none_kept (Bound b ∷ t) = none_kept t
 none_kept (Booked acts full ∷ t) = none_kept t
+none_kept (Routed passage ∷ t) = none_kept t
 none_kept (Began g ∷ t) = none_kept t
 
-module _ (P Q : Trace → ℕ → Item → Type 0) (each : (t : Trace) (c : ℕ) (i : Item) → P t c i → Accepted t → Q t c i) where
-  each_true : (t : Trace) → EachOut P t → EachOut (λ u c i. Accepted u) t → EachOut Q t
-  each_true [] kept all = tt
-  each_true (Did s ∷ t) kept all = each_true t kept all
-  each_true (Out c i ∷ t) kept all = (each t c i kept.0 all.0, each_true t kept.1 all.1)
-  each_true (Took c n ∷ t) kept all = each_true t kept all
-  each_true (Bound b ∷ t) kept all = each_true t kept all
-  each_true (Booked acts full ∷ t) kept all = each_true t kept all
-  each_true (Began g ∷ t) kept all = each_true t kept all
+-- what follows of each item from what it finds
+module _ (P Q : Trace → ℕ → Item → Type 0) (each : (t : Trace) (c : ℕ) (i : Item) → P t c i → BindingFacts t → Known t → Q t c i) where
+  pub each_true : (t : Trace) → EachOut P t → BindingFacts t → EachOut (λ u c i. Known u) t → EachOut Q t
+  each_true [] kept facts all = tt
+  each_true (Did s ∷ t) kept facts all = each_true t kept (facts_before (Did s) t facts) all
+  each_true (Out c i ∷ t) kept facts all = let before = facts_before (Out c i) t facts in (each t c i kept.0 before all.0, each_true t kept.1 before all.1)
+  each_true (Took c n ∷ t) kept facts all = each_true t kept (facts_before (Took c n) t facts) all
+  each_true (Bound b ∷ t) kept facts all = each_true t kept (facts_before (Bound b) t facts) all
+  each_true (Booked acts full ∷ t) kept facts all = each_true t kept (facts_before (Booked acts full) t facts) all
+  each_true (Routed passage ∷ t) kept facts all = each_true t kept (facts_before (Routed passage) t facts) all
+  each_true (Began g ∷ t) kept facts all = each_true t kept (facts_before (Began g) t facts) all
 
 pub lives_tell_truly : InSmallLives (EachOut AcceptedIsTrue)
-lives_tell_truly = λ id lives u all small. each_true OutcomeIsKept AcceptedIsTrue item_true u (lives_outcomes id lives u all small) (lives_all id lives u all).each
+lives_tell_truly = λ id lives u all small.
+    each_true OutcomeIsKept AcceptedIsTrue (λ t c i kept facts known. item_true t c i kept (known.accepted facts)) u (lives_outcomes id lives u all small) (lives_facts id lives u all)
+    (lives_known id lives u all).each
 
 -- what maps tell them
 
-brief_accepted : (o : Option DeliveryState) → option_map brief_outcome o ≡ Some state.Accepted → o ≡ Some state.Accepted
+pub brief_accepted : (o : Option DeliveryState) → option_map brief_outcome o ≡ Some state.Accepted → o ≡ Some state.Accepted
 brief_accepted None is = absurd (none_not_some is)
 brief_accepted (Some state.Accepted) is = refl
 brief_accepted (Some state.Released) is = is
@@ -349,4 +268,5 @@ map_true t c (item.Frame sasl own body payload) kept all = by body
 map_true t c _ kept all = tt
 
 pub lives_map_truly : InLives (EachOut MapIsTrue)
-lives_map_truly = λ id lives u all. each_true always_kept MapIsTrue map_true u (none_kept u) (lives_all id lives u all).each
+lives_map_truly = λ id lives u all.
+    each_true always_kept MapIsTrue (λ t c i kept facts known. map_true t c i kept (known.accepted facts)) u (none_kept u) (lives_facts id lives u all) (lives_known id lives u all).each

@@ -56,6 +56,7 @@ use Rattle.reply_rows.specs.Admitting.{admits, event_admission}
 use Rattle.reply_rows.specs.Asking.{asked_key, key_taken, attach_in, receives, resumed_key, rows_at, decided_for, map_decides}
 use Rattle.reply_rows.specs.Deciding.{lost, listed, ended_by, stolen_from, stolen_in, stolen_for, session_found, event_changes, as_kept, decided, forgotten, terminus_of_event}
 use Rattle.theorems.specs.Accepting.{ByDisposition, ByMap, Accepts, by_disposition, by_map}
+use Rattle.theorems.specs.OwnConsumer.{WasBoundToOwn}
 use Rattle.theorems.proofs.Among.{Stands, stands_in_both, stands_in_filter, stands_in_gathered, stands_in_map, stands_in_filter_map, parts}
 use Rattle.theorems.proofs.Answering.{IfAttach, attach_answered}
 use Rattle.theorems.proofs.Changing.{undecided_is}
@@ -310,8 +311,12 @@ has_id : (v : Option ℕ) (first last : ℕ) → is_in v first last ≡ true →
 has_id None first last h = absurd (clash h)
 has_id (Some id) first last h = record { id = id; is = refl; within = h }
 
-by_disposition_of : (t : Trace) (e : Event) (xs : List Change) (d : Decision) (x : OfDelivery t xs d) → HeardAt t e x.of → ByDisposition t e d.row
-by_disposition_of t e xs d x at =
+-- each undecided delivery is on the link of its row's own consumer
+abbrev pub AreOwn : Trace → Type 0
+AreOwn t = (n : ℕ) (d : Delivery) (r : RowNumber) → delivery t n ≡ Some d → d.name ≡ Row r → is_undecided d ≡ true → WasBoundToOwn t r d.link
+
+by_disposition_of : (t : Trace) (e : Event) (xs : List Change) (d : Decision) (x : OfDelivery t xs d) → AreOwn t → HeardAt t e x.of → ByDisposition t e d.row
+by_disposition_of t e xs d x own at =
     let heard = at.heard in
     let tests = both (is_undecided x.of) (stands_on x.of.link at.conn.0 heard.session && is_in x.of.id heard.disposition.first (last_of heard.disposition)) heard.decides in
     let places = both (stands_on x.of.link at.conn.0 heard.session) (is_in x.of.id heard.disposition.first (last_of heard.disposition)) tests.1 in
@@ -330,6 +335,8 @@ by_disposition_of t e xs d x at =
       accepts = heard.accepts;
       there = x.there;
       its_row = x.name;
+      undecided = x.undecided;
+      own = own x.number x.of d.row x.there x.name x.undecided;
       on_connection = eqb-true x.of.link.conn.0 at.conn.0 place.0;
       on_session =
           ap (λ (i : Item). session_on t at.conn.0 (channel_of i)) (sym heard.comes) ∙ found_session t at.conn at.one heard.session heard.on_session
@@ -563,13 +570,52 @@ asked_act b ds numbers x d is = by (stands_in_both Act (Decide d) (settles b ds 
     by (inl is) = by_rows (stands_in_both Act (Decide d) (decides b ds) (forgets b numbers) is)
     by (inr is) = absurd (no_terminus (effects b (settles b ds numbers)) x d is)
 
+-- the book has the row that it decides, undecided
+pub record Waiting (b : BookView) (d : Decision) : Type 0 where
+  pub row : ARow
+  pub there : Stands ARow row b.rows
+  pub number : row.number ≡ d.row
+  pub undecided : row.outcome ≡ None
+
+waiting_row : (b : BookView) (ds : List Decision) (d : Decision) → Stands Act (Decide d) (decides b ds) → Waiting b d
+waiting_row b ds d is =
+    let one = stands_in_filter_map ARow Act (decide_row ds) (Decide d) b.rows is in by one.0 one.1 (is_open_row one.0) refl one.2
+  where
+    none_is : (o : Option DeliveryState) → is_none o ≡ true → o ≡ None
+    none_is None e = refl
+    none_is (Some s) e = absurd (clash e)
+
+    by_outcome : (r : ARow) (v : Option DeliveryState) → decision_to r v ≡ Some (Decide d) → r.number ≡ d.row
+    by_outcome r None h = absurd (none_not_some h)
+    by_outcome r (Some s) h = ap (λ (y : Decision). y.row) (decides_same (some_same h))
+      where
+        decides_same : {x y : Decision} → Decide x ≡ Decide y → x ≡ y
+        decides_same e = cc
+
+    by : (r : ARow) → Stands ARow r b.rows → (q : Bool) → is_open_row r ≡ q → (if q then decision_to r (outcome_for r.number.0 ds) else None) ≡ Some (Decide d) → Waiting b d
+    by r there true e h = record { row = r; there = there; number = by_outcome r (outcome_for r.number.0 ds) h; undecided = none_is r.outcome e }
+    by r there false e h = absurd (none_not_some h)
+
+waiting_act : (b : BookView) (ds : List Decision) (numbers : List RowNumber) (x : Option TerminusAct) (d : Decision) → Stands Act (Decide d) (settled_acts b ds numbers x) → Waiting b d
+waiting_act b ds numbers x d is = by (stands_in_both Act (Decide d) (settles b ds numbers) (terminus_acts (effects b (settles b ds numbers)) x) is)
+  where
+    by_rows : Stands Act (Decide d) (decides b ds) ⊎ Stands Act (Decide d) (forgets b numbers) → Waiting b d
+    by_rows (inl is) = waiting_row b ds d is
+    by_rows (inr is) = absurd (no_forget numbers b.rows d is)
+
+    by : Stands Act (Decide d) (settles b ds numbers) ⊎ Stands Act (Decide d) (terminus_acts (effects b (settles b ds numbers)) x) → Waiting b d
+    by (inl is) = by_rows (stands_in_both Act (Decide d) (decides b ds) (forgets b numbers) is)
+    by (inr is) = absurd (no_terminus (effects b (settles b ds numbers)) x d is)
+
 same_row : (q r : RowNumber) → q.0 ≡ r.0 → q ≡ r
 same_row q r e = let number : ℕ → RowNumber = λ n. record { 0 = n } in ap number e
 
 -- the acts of an event that is no start
-accepted_by_answer : (full : Bool) (t : Trace) (e : Event) (d : Decision) → Stands Act (Decide d) (answer_acts (book_in t) t e (event_answer full (book_in t) t e)) → d.outcome ≡ state.Accepted → Accepts t e d.row
-accepted_by_answer full t e d stands accepted =
-    subst (λ (r : RowNumber). Accepts t e r) (same_row asked.of.row d.row asked.row) (by (stands_in_both Decision asked.of (map as_kept (decided_rows t xs)) (map_decides b t e answer) asked.asked))
+accepted_by_answer : (full : Bool) (t : Trace) (e : Event) (d : Decision) → AreOwn t → Stands Act (Decide d) (answer_acts (book_in t) t e (event_answer full (book_in t) t e)) → d.outcome ≡ state.Accepted → Accepts t e d.row × Waiting (book_in t) d
+accepted_by_answer full t e d own stands accepted = (
+  subst (λ (r : RowNumber). Accepts t e r) (same_row asked.of.row d.row asked.row) (by (stands_in_both Decision asked.of (map as_kept (decided_rows t xs)) (map_decides b t e answer) asked.asked)),
+  waiting_act b (decided b t e answer) (forgotten b t e answer) (terminus_of_event b t e answer) d stands,
+)
   where
     b : BookView
     b = book_in t
@@ -593,7 +639,7 @@ accepted_by_answer full t e d stands accepted =
     delivered d x kept =
         let terminal : IsTerminal d.outcome = subst IsEnded x.made (ended x.of x.undecided) in
         let is : Is (changed_by xs x.of).outcome = x.made ∙ ap (λ (s : DeliveryState). Some s) (accepted_back d.outcome terminal kept) in
-        by_disposition (by_disposition_of t e xs d x (accepted_by_event t e answer x.of (undecided_is x.of x.undecided).0 is))
+        by_disposition (by_disposition_of t e xs d x own (accepted_by_event t e answer x.of (undecided_is x.of x.undecided).0 is))
 
     by : Stands Decision asked.of (map as_kept (decided_rows t xs)) ⊎ Stands Decision asked.of (map_decides b t e answer) → Accepts t e asked.of.row
     by (inl is) =
@@ -612,19 +658,21 @@ no_start b d is accepted =
         outcome_same : {x y : Decision} → Decide x ≡ Decide y → x.outcome ≡ y.outcome
         outcome_same e = cc
 
-planned_accept : (full : Bool) (t : Trace) (e : Event) (d : Decision) → Stands Act (Decide d) (planned_acts full (book_in t) t e) → d.outcome ≡ state.Accepted → Accepts t e d.row
-planned_accept full t event.Start d is accepted = absurd (no_start (book_in t) d is accepted)
-planned_accept full t (event.Item c i) d is accepted = accepted_by_answer full t (event.Item c i) d is accepted
-planned_accept full t (event.Up c p) d is accepted = accepted_by_answer full t (event.Up c p) d is accepted
-planned_accept full t (event.Down c) d is accepted = accepted_by_answer full t (event.Down c) d is accepted
-planned_accept full t (event.Tick ms) d is accepted = accepted_by_answer full t (event.Tick ms) d is accepted
+planned_accept : (full : Bool) (t : Trace) (e : Event) (d : Decision) → AreOwn t → Stands Act (Decide d) (planned_acts full (book_in t) t e) → d.outcome ≡ state.Accepted
+    → Accepts t e d.row × Waiting (book_in t) d
+planned_accept full t event.Start d own is accepted = absurd (no_start (book_in t) d is accepted)
+planned_accept full t (event.Item c i) d own is accepted = accepted_by_answer full t (event.Item c i) d own is accepted
+planned_accept full t (event.Up c p) d own is accepted = accepted_by_answer full t (event.Up c p) d own is accepted
+planned_accept full t (event.Down c) d own is accepted = accepted_by_answer full t (event.Down c) d own is accepted
+planned_accept full t (event.Tick ms) d own is accepted = accepted_by_answer full t (event.Tick ms) d own is accepted
 
-pub acts_accept : (t : Trace) (e : Event) (d : Decision) → Stands Act (Decide d) (acts_of t e) → d.outcome ≡ state.Accepted → Accepts t e d.row
-acts_accept t e d stands accepted = by (planned_acts full (book_in t) t e) (planned_accept full t e d) stands
+pub acts_accept : (t : Trace) (e : Event) (d : Decision) → AreOwn t → Stands Act (Decide d) (acts_of t e) → d.outcome ≡ state.Accepted → Accepts t e d.row × Waiting (book_in t) d
+acts_accept t e d own stands accepted = by (planned_acts full (book_in t) t e) (planned_accept full t e d own) stands
   where
     full : Bool
     full = finds_full (journaled t) t e
 
-    by : (planned : List Act) → (Stands Act (Decide d) planned → d.outcome ≡ state.Accepted → Accepts t e d.row) → Stands Act (Decide d) (or_admits planned (admitted_acts full (book_in t) t e)) → Accepts t e d.row
+    by : (planned : List Act) → (Stands Act (Decide d) planned → d.outcome ≡ state.Accepted → Accepts t e d.row × Waiting (book_in t) d)
+        → Stands Act (Decide d) (or_admits planned (admitted_acts full (book_in t) t e)) → Accepts t e d.row × Waiting (book_in t) d
     by [] all is = absurd (no_admitted full (book_in t) t e d is)
     by (act ∷ acts) all is = all is accepted

@@ -30,7 +30,7 @@ use Rattle.state_messages.specs.Messages.{copy_to, grants_due, with_bound}
 use Rattle.reply_rows.specs.declared.answer.Answer.{Answer}
 use Rattle.reply_rows.specs.declared.answer.Answer.TheVariants.{Attach, Refuse, Taken, Settle}
 use Rattle.reply_rows.specs.Rows.{said}
-use Rattle.router_reply.specs.Replies.{closing_of, ends, heard, refused, map_told, bound_for, item_put, item_bound, item_row, bound_by, own_row, replied_after, replied}
+use Rattle.router_reply.specs.Replies.{row_found, closing_of, ends, heard, refused, map_told, bound_for, item_put, item_bound, item_row, bound_by, own_row, replied_after, replied}
 use Rattle.reply_rows.specs.Acts.{found_journal, full_at, answer_of, booked}
 use Rattle.router_reply.specs.Resuming.{resumed}
 use Rattle.router_core.specs.Replies.{answered, handled}
@@ -50,7 +50,8 @@ use Rattle.theorems.proofs.Rows.{Rows, start_rows, took_rows, resumed_rows, hand
 use Rattle.theorems.proofs.Sound.{Sound, Answered, answer_sound, sound_start, did_sound, bound_sound, took_sound, batch_sound, held_sound, taken_sound, goes_sound, quiet_sound, QuietPut, quiet_both, quiet_to, still_handled}
 use Rattle.theorems.proofs.Quiet.{closing_of_quiet, said_quiet, taken_quiet, refused_quiet, settled_quiet, beats_quiet, windows_quiet, drains_quiet, grants_quiet}
 use Rattle.reply_rows.proofs.Transfers.{IfTaken, transfer_taken}
-use Rattle.theorems.proofs.Arriving.{transfer_sound}
+use Rattle.theorems.proofs.Admitted.{binds_next}
+use Rattle.theorems.proofs.Arriving.{BindsRow, transfer_sound}
 use Rattle.theorems.proofs.Names.{names_told}
 use Rattle.theorems.proofs.GoingOn.{going_sends}
 use Rattle.theorems.proofs.Sending.{sends_lawful}
@@ -114,8 +115,8 @@ no_part true = refl
 no_part false = refl
 
 item_sound : (id : List ℕ) (t after : List Entry) (s : Step) (from : ConnectionId) (p : Conn) (i : Item) → Sound after → s.event ≡ event.Item from i
-    → just_handled after ≡ Some (record { step = s; found = t }) → Behind id t after from.0 p i (answer_of t from.0 p i)
-item_sound id t after s from p i sound came just = by i came
+    → just_handled after ≡ Some (record { step = s; found = t }) → BindsRow (row_found t) (bound_for t after from.0 i (answer_of t from.0 p i)) → Behind id t after from.0 p i (answer_of t from.0 p i)
+item_sound id t after s from p i sound came just binds = by i came binds
   where
     other : (i : Item) → ((own : ℕ) → part_of i (link_place t from.0 own) ≡ None) → (a : Answer) → QuietPut (item_put id t after from.0 p i a) → Behind id t after from.0 p i a
     other i none a quiet = quiet_answer id t after from.0 p i a sound (binds_none t after from.0 i none a) quiet
@@ -133,39 +134,41 @@ item_sound id t after s from p i sound came just = by i came
     disposition_put sasl channel payload x a = nothing_more id p from.0 a
 
     by_transfer : (sasl : Bool) (channel : ℕ) (payload : List ℕ) (x : ATransfer) → s.event ≡ event.Item from (item.Frame sasl channel (perf.Transfer x) payload)
-        → (a : Answer) → IfTaken sasl (theirs t from.0 channel) (λ own. link_place t from.0 own x.handle) a → Behind id t after from.0 p (item.Frame sasl channel (perf.Transfer x) payload) a
-    by_transfer sasl channel payload x came (Taken own handle) here = transfer_sound t after s from sasl channel x payload own handle sound came just here
-    by_transfer sasl channel payload x came a here = quiet_sound (each_to from.0 (said id p a) ++ []) after (nothing_more id p from.0 a) sound
+        → (a : Answer) → IfTaken sasl (theirs t from.0 channel) (λ own. link_place t from.0 own x.handle) a
+        → BindsRow (row_found t) (bound_for t after from.0 (item.Frame sasl channel (perf.Transfer x) payload) a) → Behind id t after from.0 p (item.Frame sasl channel (perf.Transfer x) payload) a
+    by_transfer sasl channel payload x came (Taken own handle) here binds = transfer_sound t after s from sasl channel x payload own handle sound came just here binds
+    by_transfer sasl channel payload x came a here binds = quiet_sound (each_to from.0 (said id p a) ++ []) after (nothing_more id p from.0 a) sound
 
     by_perf : (sasl : Bool) (channel : ℕ) (payload : List ℕ) (body : Perf) → s.event ≡ event.Item from (item.Frame sasl channel body payload)
+        → BindsRow (row_found t) (bound_for t after from.0 (item.Frame sasl channel body payload) (answer_of t from.0 p (item.Frame sasl channel body payload)))
         → Behind id t after from.0 p (item.Frame sasl channel body payload) (answer_of t from.0 p (item.Frame sasl channel body payload))
-    by_perf sasl channel payload (perf.Transfer x) came =
+    by_perf sasl channel payload (perf.Transfer x) came binds =
         by_transfer sasl channel payload x came (answer_of t from.0 p (item.Frame sasl channel (perf.Transfer x) payload))
-        (transfer_taken (full_at t (event.Item (record { 0 = from.0 }) (item.Frame sasl channel (perf.Transfer x) payload))) (found_journal t).book p t from.0 sasl channel x payload)
-    by_perf sasl channel payload (perf.Attach x) came =
+        (transfer_taken (full_at t (event.Item (record { 0 = from.0 }) (item.Frame sasl channel (perf.Transfer x) payload))) (found_journal t).book p t from.0 sasl channel x payload) binds
+    by_perf sasl channel payload (perf.Attach x) came binds =
         other (item.Frame sasl channel (perf.Attach x) payload) (λ own. no_part sasl) _ (attach_put sasl channel payload x _)
-    by_perf sasl channel payload (perf.Disposition x) came =
+    by_perf sasl channel payload (perf.Disposition x) came binds =
         other (item.Frame sasl channel (perf.Disposition x) payload) (λ own. no_part sasl) _ (disposition_put sasl channel payload x _)
-    by_perf sasl channel payload body came =
+    by_perf sasl channel payload body came binds =
         other (item.Frame sasl channel body payload) (λ own. no_part sasl) _ (nothing_more id p from.0 _)
 
-    by : (i : Item) → s.event ≡ event.Item from i → Behind id t after from.0 p i (answer_of t from.0 p i)
-    by (item.Frame sasl channel body payload) came = by_perf sasl channel payload body came
-    by i came = other i (λ own. refl) (answer_of t from.0 p i) (nothing_more id p from.0 (answer_of t from.0 p i))
+    by : (i : Item) → s.event ≡ event.Item from i → BindsRow (row_found t) (bound_for t after from.0 i (answer_of t from.0 p i)) → Behind id t after from.0 p i (answer_of t from.0 p i)
+    by (item.Frame sasl channel body payload) came binds = by_perf sasl channel payload body came binds
+    by i came binds = other i (λ own. refl) (answer_of t from.0 p i) (nothing_more id p from.0 (answer_of t from.0 p i))
 
 -- an event's own row
 
 row_sound : (id : List ℕ) (t after : List Entry) (s : Step) (e : Event) → Sound after → s.event ≡ e → just_handled after ≡ Some (record { step = s; found = t })
-    → Answered after (own_row id t after e) (bound_by t after e)
-row_sound id t after s (event.Item c i) sound is just = by (standing (found t (event.Item c i) c.0))
+    → BindsRow (row_found t) (bound_by t after e) → Answered after (own_row id t after e) (bound_by t after e)
+row_sound id t after s (event.Item c i) sound is just binds = by (standing (found t (event.Item c i) c.0)) binds
   where
-    by : (p : Option Conn) → Answered after (item_row id t after c.0 i p) (item_bound t after c.0 i p)
-    by None = sound
-    by (Some p) = item_sound id t after s c p i sound is just
-row_sound id t after s (event.Down c) sound is just = sound
-row_sound id t after s (event.Tick ms) sound is just = quiet_sound _ after (beats_quiet t ms (live_of (ups t) (found t (event.Tick ms)))) sound
-row_sound id t after s (event.Up c p) sound is just = sound
-row_sound id t after s event.Start sound is just = sound
+    by : (p : Option Conn) → BindsRow (row_found t) (item_bound t after c.0 i p) → Answered after (item_row id t after c.0 i p) (item_bound t after c.0 i p)
+    by None binds = sound
+    by (Some p) binds = item_sound id t after s c p i sound is just binds
+row_sound id t after s (event.Down c) sound is just binds = sound
+row_sound id t after s (event.Tick ms) sound is just binds = quiet_sound _ after (beats_quiet t ms (live_of (ups t) (found t (event.Tick ms)))) sound
+row_sound id t after s (event.Up c p) sound is just binds = sound
+row_sound id t after s event.Start sound is just binds = sound
 
 -- copies
 copied_sound : (id : List ℕ) (t after : List Entry) (s : Step) → just_handled after ≡ Some (record { step = s; found = t })
@@ -176,12 +179,13 @@ copied_sound id t after s just sound =
     (λ x before a later copies now. bound_sound (copy_to (made x before put) (unwrap_or x.message.format 0) x.payload a) (made x before put)
     (inr (copy_binds id t after s x just before a later copies)) now) sound
 
-answered_sound : (id : List ℕ) (t : List Entry) (s : Step) → Sound t → EachBound RowIsAdmitted (resumed t s.event (replied id t s)) → Sound (answered id t s)
-answered_sound id t s sound admitted =
+answered_sound : (id : List ℕ) (t : List Entry) (s : Step) → Sound t → EachBound RowIsAdmitted (resumed t s.event (replied id t s)) → BindsRow (row_found t) (bound_by t (heard id t s) s.event)
+    → Sound (answered id t s)
+answered_sound id t s sound admitted binds =
     let u : List Entry = heard id t s
     in let behind : Sound u = ends_sound id (due t s.event) (Did s ∷ t) (did_sound s t sound)
     in let just : just_handled u ≡ Some (record { step = s; found = t }) = ends_handled id (due t s.event) (Did s ∷ t) (Some (record { step = s; found = t })) refl
-    in let rows : Sound (replied id t s) = copied_sound id t u s just (answer_sound u (own_row id t u s.event) (bound_by t u s.event) (row_sound id t u s s.event behind refl just))
+    in let rows : Sound (replied id t s) = copied_sound id t u s just (answer_sound u (own_row id t u s.event) (bound_by t u s.event) (row_sound id t u s s.event behind refl just binds))
     in let bound : List Entry = resumed t s.event (replied id t s)
     in let resumes : Sound bound = resumed_takes Sound t s.event (replied id t s) (λ u b takes known was. taken_sound u b takes was)
     (λ u b q to is quiet binds book was. held_sound u b q to is quiet binds was) (replied_found id t s) (replied_book id t s) rows
@@ -195,7 +199,7 @@ event_binds id t s b sound is =
     let u : List Entry = heard id t s
     in let behind : Sound u = ends_sound id (due t s.event) (Did s ∷ t) (did_sound s t sound)
     in let just : just_handled u ≡ Some (record { step = s; found = t }) = ends_handled id (due t s.event) (Did s ∷ t) (Some (record { step = s; found = t })) refl
-    in (subst (λ (v : Option Binding). Answered u (own_row id t u s.event) v) is (row_sound id t u s s.event behind refl just)).0
+    in (subst (λ (v : Option Binding). Answered u (own_row id t u s.event) v) is (row_sound id t u s s.event behind refl just (λ row admits. (b, is)))).0
 
 -- moves
 
@@ -205,6 +209,7 @@ acted_sound t e sound = booked_keeps Sound t e (λ acts w. batch_sound t acts w)
 pub handled_sound : (id : List ℕ) (t : List Entry) (s : Step) → Rows t → Sound t → Sound (handled id t s)
 handled_sound id t s rows sound =
     answered_sound id (booked t s.event) s (acted_sound t s.event sound) (resumed_rows id t s rows).admitted
+    (λ row admits. let next = binds_next id t s.event row admits in (next.binding, next.is))
 
 pub moves_sound : (id : List ℕ) (ms : List Move) (t u : List Entry) → Rows t → Sound t → Goes id ms t u → Sound u
 moves_sound id [] t u rows sound went = subst (λ (w : List Entry). Sound w) (sym went) sound

@@ -1,6 +1,6 @@
 -- What holds in every trace of the router holds of groups of events and of scripts of bytes: they have such traces.
 use Rattle.router_trace.specs.Trace.{Trace, Beginning}
-use Rattle.router_core.proofs.Moves.{run_is_trace}
+use Rattle.core_runs.proofs.Traces.{run_is_trace}
 use Rattle.router_play.specs.Script.{new_journal, new_router}
 use Rattle.router_play.proofs.PlayMoves.{play_is_trace}
 use Rattle.theorems.specs.Always.{Always, AlwaysFrom, InOneRun, InTraces, InTracesFrom, InScripts}

@@ -359,9 +359,14 @@ abbrev pub MessageClaims : List ℕ → Trace → Step → Type 0
 MessageClaims id t s = (b : Binding) → bound_by (booked t s.event) (heard id (booked t s.event) s) s.event ≡ Some b → (r : RowNumber) (adm : IsAdmitted (heard id (booked t s.event) s) b r)
     → BindsMessage (heard id (booked t s.event) s) b → (p : Origin) → origin_of b.kind ≡ Some p → HasClaim (heard id (booked t s.event) s) p adm.admission.tag.items
 
-pub may_bind : (id : List ℕ) (t : Trace) (s : Step) → Sound (booked t s.event) → MessageClaims id t s → IsOrdered (book_in (heard id (booked t s.event) s)) → IsSound (book_in (heard id (booked t s.event) s))
+-- and one that has no row has its claim
+abbrev pub PlainClaims : List ℕ → Trace → Step → Type 0
+PlainClaims id t s = (b : Binding) → bound_by (booked t s.event) (heard id (booked t s.event) s) s.event ≡ Some b
+    → BindsMessage (heard id (booked t s.event) s) b → (p : Origin) → origin_of b.kind ≡ Some p → (tag : List ℕ) × HasClaim (heard id (booked t s.event) s) p tag
+
+pub may_bind : (id : List ℕ) (t : Trace) (s : Step) → Sound (booked t s.event) → MessageClaims id t s → PlainClaims id t s → IsOrdered (book_in (heard id (booked t s.event) s)) → IsSound (book_in (heard id (booked t s.event) s))
     → MayBind (heard id (booked t s.event) s) (bound_by (booked t s.event) (heard id (booked t s.event) s) s.event)
-may_bind id t s sound claiming ordered book = by (bound_by (booked t s.event) u s.event) refl
+may_bind id t s sound claiming plain ordered book = by (bound_by (booked t s.event) u s.event) refl
   where
     u : Trace
     u = heard id (booked t s.event) s
@@ -374,6 +379,7 @@ may_bind id t s sound claiming ordered book = by (bound_by (booked t s.event) u 
         can_message u b o of binds
         (λ r named. let adm : IsAdmitted u b r = subst (λ (o : Option RowNumber). IsAdmittedUnder u b o) named (bound_row id t s.event b is (ap is_message of)) in
         row_fact u b o r of adm (claiming b is r adm binds) ordered)
+        (λ none. plain b is binds)
     by_kind b is (kind.TakenUp brought) of binds = absurd (clash (sym (ap is_taken_up of) ∙ bound_not_taken id t s.event b is))
     by_kind b is (kind.Joined (holding.Resumed p) to) of binds = can_join u b p binds ordered book
     by_kind b is (kind.Joined (holding.Unresumed a) to) of binds = can_have u b (holding.Unresumed a) refl binds ordered book

@@ -23,7 +23,7 @@ use Rattle.router_trace.specs.declared.condition.Condition.TheVariants.{MessageS
 use Rattle.router_trace.specs.declared.event.ConnectionId.{ConnectionId}
 use Rattle.router_trace.specs.declared.event.Event.TheVariants as event
 use Rattle.router_trace.specs.declared.handle.Attachment.{Attachment}
-use Rattle.router_trace.specs.Trace.{Entry, Step, Did, Out, Took, Bound, Booked, Began, goes, each_to}
+use Rattle.router_trace.specs.Trace.{Entry, Step, Did, Out, Took, Bound, Booked, Routed, Began, goes, each_to}
 use Rattle.router_trace.specs.DeliveryFrames.{kept_outcome, outcome_item}
 use Rattle.router_trace.specs.Frames.{error_of}
 use Rattle.router_trace.specs.Sessions.{theirs}
@@ -148,9 +148,9 @@ as_told true = kept_rejected
 
 -- a disposition that says so
 releases : (after : List Entry) (c own handle : ℕ) (d : Told) (payload : List ℕ) (id : ℕ) (durable : Bool) (came : CameWhole after c own handle d payload) → d.resume ≡ false
-    → claimed_id after c own handle d.id ≡ Some id → lasts_on (link after c own handle) ≡ durable → IsUnbound after (link after c own handle) (row_found came.handled.found)
+    → claimed_id after c own handle d.id ≡ Some id → lasts_on (link after c own handle) ≡ durable → IsUnbound after (link after c own handle) (row_found came.handled.found) → row_found came.handled.found ≡ None
     → Lawful after c (outcome_item own Receiver id (not durable) (let_down_as (goes_to_all after (link after c own handle))))
-releases after c own handle d payload id durable came fresh claimed lasts none =
+releases after c own handle d payload id durable came fresh claimed lasts none rowless =
     let is = claimed_is after c own handle d.id id claimed
     in (
       tt,
@@ -165,6 +165,7 @@ releases after c own handle d payload id durable came fresh claimed lasts none =
           its_id = is.0;
           unsettled = is.1;
           unbound = none;
+          rowless = rowless;
           told = ap (λ (s : DeliveryState). Some s) (as_told (goes_to_all after (link after c own handle)));
           settled = sym (ap not lasts);
         });
@@ -172,16 +173,16 @@ releases after c own handle d payload id durable came fresh claimed lasts none =
     )
 
 released_lawful : (after : List Entry) (c own handle : ℕ) (d : Told) (payload : List ℕ) (v : Option ℕ) (came : CameWhole after c own handle d payload) → d.resume ≡ false
-    → claimed_id after c own handle d.id ≡ v → IsUnbound after (link after c own handle) (row_found came.handled.found) → AllLawful after (each_to c (let_down after c own handle v))
-released_lawful after c own handle d payload None came fresh claimed none = tt
-released_lawful after c own handle d payload (Some id) came fresh claimed none = by (lasts_on (link after c own handle)) refl
+    → claimed_id after c own handle d.id ≡ v → IsUnbound after (link after c own handle) (row_found came.handled.found) → row_found came.handled.found ≡ None → AllLawful after (each_to c (let_down after c own handle v))
+released_lawful after c own handle d payload None came fresh claimed none rowless = tt
+released_lawful after c own handle d payload (Some id) came fresh claimed none rowless = by (lasts_on (link after c own handle)) refl
   where
     by : (durable : Bool) → lasts_on (link after c own handle) ≡ durable → AllLawful after (each_to c (let_down_by after c own handle durable (let_down_as (goes_to_all after (link after c own handle))) id))
-    by false lasts = (releases after c own handle d payload id false came fresh claimed lasts none, tt)
+    by false lasts = (releases after c own handle d payload id false came fresh claimed lasts none rowless, tt)
     by true lasts =
         by_test (nat_lt 1024 (unbound after c own handle))
         (λ e. rw e (quiet_lawful (each_to c (let_go after c own handle ResourceLimitExceeded)) after (quiet_to c (let_go after c own handle ResourceLimitExceeded) (let_go_quiet after c own handle ResourceLimitExceeded))))
-        (λ e. rw e (releases after c own handle d payload id true came fresh claimed lasts none, tt))
+        (λ e. rw e (releases after c own handle d payload id true came fresh claimed lasts none rowless, tt))
 
 -- bound
 
@@ -198,6 +199,7 @@ none_since (Out c i ∷ t) h just = none_since t h just
 none_since (Took c k ∷ t) h just = absurd (none_not_some just)
 none_since (Bound b ∷ t) h just = absurd (none_not_some just)
 none_since (Booked acts full ∷ t) h just = absurd (none_not_some just)
+none_since (Routed passage ∷ t) h just = none_since t h just
 none_since (Began g ∷ t) h just = absurd (none_not_some just)
 
 -- whether it may be bound
@@ -222,6 +224,7 @@ book_since (Out c i ∷ t) h just = book_since t h just
 book_since (Took c k ∷ t) h just = absurd (none_not_some just)
 book_since (Bound b ∷ t) h just = absurd (none_not_some just)
 book_since (Booked acts full ∷ t) h just = absurd (none_not_some just)
+book_since (Routed passage ∷ t) h just = book_since t h just
 book_since (Began g ∷ t) h just = absurd (none_not_some just)
 
 -- a resumed one that joins its row
@@ -296,6 +299,19 @@ bound_on after c own handle d row payload None passes x = None
 bound_on after c own handle d row payload (Some l) passes x =
     if passes then option_map (binding_to after (option_map (origin_of (from_link c own handle l)) (claimed_id after c own handle d.id)) row (unwrap_or d.format 0) payload) x else None
 
+-- what would be bound, by the row that the event admits
+abbrev WholeBound : List Entry → ℕ → ℕ → ℕ → Told → Option RowNumber → List ℕ → Option Link → Bool → Bool → Option Attachment → Option Binding
+WholeBound after c own handle d row payload v resumed passes x =
+    if resumed then resumed_bound (book_in after) after c own handle (claimed_id after c own handle d.id) v else bound_on after c own handle d row payload v passes x
+
+-- an event that admits a row binds something
+abbrev pub BindsRow : Option RowNumber → Option Binding → Type 0
+BindsRow row b = (r : RowNumber) → row ≡ Some r → (x : Binding) × (b ≡ Some x)
+
+no_row_then : (row : Option RowNumber) → BindsRow row None → row ≡ None
+no_row_then None binds = refl
+no_row_then (Some r) binds = absurd (none_not_some (binds r refl).1)
+
 abbrev WholeSound : List Entry → ℕ → ℕ → ℕ → Told → Option RowNumber → List ℕ → Option Link → Bool → Bool → Option Attachment → Type 0
 WholeSound after c own handle d row payload v resumed passes x =
     Answered after (each_to c (if resumed then resumed_put (book_in after) after c own handle (claimed_id after c own handle d.id)
@@ -305,14 +321,16 @@ WholeSound after c own handle d row payload v resumed passes x =
 whole_cases : (after : List Entry) (c own handle : ℕ) (d : Told) (row : Option RowNumber) (payload : List ℕ) (v : Option Link) (resumed passes : Bool) (x : Option Attachment)
     → Sound after → (came : CameWhole after c own handle d payload) → row ≡ row_found came.handled.found → link after c own handle ≡ v → d.resume ≡ resumed
     → may_pass (lasts_on (link after c own handle)) (claimed_id after c own handle d.id) row ≡ passes → consumer_of after (link after c own handle) ≡ x
+    → BindsRow row (WholeBound after c own handle d row payload v resumed passes x)
     → WholeSound after c own handle d row payload v resumed passes x
-whole_cases after c own handle d row payload v resumed passes x sound came its at fresh may chosen = by v resumed passes x at fresh may chosen
+whole_cases after c own handle d row payload v resumed passes x sound came its at fresh may chosen binds = by v resumed passes x at fresh may chosen binds
   where
     claimed : Option ℕ
     claimed = claimed_id after c own handle d.id
 
-    let_off : d.resume ≡ false → IsUnbound after (link after c own handle) (row_found came.handled.found) → Sound (goes (each_to c (let_down after c own handle claimed)) after)
-    let_off fresh none = goes_sound (each_to c (let_down after c own handle claimed)) after (released_lawful after c own handle d payload claimed came fresh refl none) sound
+    let_off : d.resume ≡ false → IsUnbound after (link after c own handle) (row_found came.handled.found) → BindsRow row None → Sound (goes (each_to c (let_down after c own handle claimed)) after)
+    let_off fresh none binds =
+        goes_sound (each_to c (let_down after c own handle claimed)) after (released_lawful after c own handle d payload claimed came fresh refl none (sym its ∙ no_row_then row binds)) sound
 
     no_row : may_pass (lasts_on (link after c own handle)) claimed row ≡ false → IsUnbound after (link after c own handle) (row_found came.handled.found)
     no_row may = let is = not_passed (lasts_on (link after c own handle)) claimed row may in inr (is.0, sym its ∙ is.1)
@@ -342,14 +360,15 @@ whole_cases after c own handle d row payload v resumed passes x sound came its a
 
     by : (v : Option Link) (resumed passes : Bool) (x : Option Attachment) → link after c own handle ≡ v → d.resume ≡ resumed
         → may_pass (lasts_on (link after c own handle)) claimed row ≡ passes → consumer_of after (link after c own handle) ≡ x
+        → BindsRow row (WholeBound after c own handle d row payload v resumed passes x)
         → WholeSound after c own handle d row payload v resumed passes x
-    by v true passes x at fresh may chosen = resumed_sound after c own handle d payload v claimed sound came fresh at refl
-    by None false false x at fresh may chosen = let_off fresh (no_row may)
-    by (Some l) false false x at fresh may chosen = let_off fresh (no_row may)
-    by None false true None at fresh may none = let_off fresh (inl none)
-    by (Some l) false true None at fresh may none = let_off fresh (inl none)
-    by None false true (Some a) at fresh may chosen = absurd (none_not_some (ap (consumer_of after) (sym at) ∙ chosen))
-    by (Some l) false true (Some a) at fresh may chosen = passed l a at fresh may chosen
+    by v true passes x at fresh may chosen binds = resumed_sound after c own handle d payload v claimed sound came fresh at refl
+    by None false false x at fresh may chosen binds = let_off fresh (no_row may) binds
+    by (Some l) false false x at fresh may chosen binds = let_off fresh (no_row may) binds
+    by None false true None at fresh may none binds = let_off fresh (inl none) binds
+    by (Some l) false true None at fresh may none binds = let_off fresh (inl none) binds
+    by None false true (Some a) at fresh may chosen binds = absurd (none_not_some (ap (consumer_of after) (sym at) ∙ chosen))
+    by (Some l) false true (Some a) at fresh may chosen binds = passed l a at fresh may chosen
 
 -- what is bound, on the link that stands there
 pub bound_there : (after : List Entry) (c own handle : ℕ) (d : Told) (row : Option RowNumber) (payload : List ℕ) (v : Option Link) → link after c own handle ≡ v
@@ -359,32 +378,36 @@ bound_there after c own handle d row payload None at = refl
 bound_there after c own handle d row payload (Some l) at = refl
 
 whole_sound : (after : List Entry) (c own handle : ℕ) (d : Told) (row : Option RowNumber) (payload : List ℕ) → Sound after → (came : CameWhole after c own handle d payload)
-    → row ≡ row_found came.handled.found
+    → row ≡ row_found came.handled.found → BindsRow row (whole_bound (book_in after) after c own handle d row payload)
     → Answered after (each_to c (whole_put (book_in after) after c own handle d row)) (whole_bound (book_in after) after c own handle d row payload)
-whole_sound after c own handle d row payload sound came its =
+whole_sound after c own handle d row payload sound came its binds =
     subst (λ (b : Option Binding). Answered after (each_to c (whole_put (book_in after) after c own handle d row))
     (if d.resume then resumed_bound (book_in after) after c own handle (claimed_id after c own handle d.id) (link after c own handle) else b))
     (sym (bound_there after c own handle d row payload (link after c own handle) refl))
     (whole_cases after c own handle d row payload (link after c own handle) d.resume (may_pass (lasts_on (link after c own handle)) (claimed_id after c own handle d.id) row)
-    (consumer_of after (link after c own handle)) sound came its refl refl refl refl)
+    (consumer_of after (link after c own handle)) sound came its refl refl refl refl
+    (subst (λ (b : Option Binding). BindsRow row (if d.resume then resumed_bound (book_in after) after c own handle (claimed_id after c own handle d.id) (link after c own handle) else b))
+    (bound_there after c own handle d row payload (link after c own handle) refl) binds))
 
 part_sound : (t after : List Entry) (c own handle : ℕ) (row : Option RowNumber) (q : Option Part) → Sound after → row ≡ row_found t
-    → ((d : Told) (payload : List ℕ) → q ≡ Some (part.Whole d payload) → CameAt t after c own handle d payload)
+    → ((d : Told) (payload : List ℕ) → q ≡ Some (part.Whole d payload) → CameAt t after c own handle d payload) → BindsRow row (part_bound (book_in t) after c own handle row q)
     → Answered after (each_to c (part_put (book_in t) after c own handle row q)) (part_bound (book_in t) after c own handle row q)
-part_sound t after c own handle row (Some (part.Whole d payload)) sound its came =
+part_sound t after c own handle row (Some (part.Whole d payload)) sound its came binds =
     let here = came d payload refl in
     let same : book_in after ≡ book_in t = book_since after here.came.handled here.came.just ∙ ap book_in here.at in
     subst (λ (b : BookView). Answered after (each_to c (whole_put b after c own handle d row)) (whole_bound b after c own handle d row payload)) same
-    (whole_sound after c own handle d row payload sound here.came (its ∙ sym (ap row_found here.at)))
-part_sound t after c own handle row (Some part.TooLarge) sound its came =
+    (whole_sound after c own handle d row payload sound here.came (its ∙ sym (ap row_found here.at))
+    (subst (λ (b : BookView). BindsRow row (whole_bound b after c own handle d row payload)) (sym same) binds))
+part_sound t after c own handle row (Some part.TooLarge) sound its came binds =
     quiet_sound (each_to c (let_go after c own handle MessageSizeExceeded)) after (quiet_to c (let_go after c own handle MessageSizeExceeded) (let_go_quiet after c own handle MessageSizeExceeded)) sound
-part_sound t after c own handle row _ sound its came = sound
+part_sound t after c own handle row _ sound its came binds = sound
 
 pub transfer_sound : (t after : List Entry) (s : Step) (conn : ConnectionId) (sasl : Bool) (channel : ℕ) (x : Transfer) (carried : List ℕ) (own handle : ℕ) → Sound after
     → s.event ≡ event.Item conn (item.Frame sasl channel (perf.Transfer x) carried) → just_handled after ≡ Some (record { step = s; found = t })
     → IsOn sasl (theirs t conn.0 channel) (link_place t conn.0 own x.handle) own handle
+    → BindsRow (row_found t) (part_bound (book_in t) after conn.0 own handle (row_found t) (part_of (item.Frame sasl channel (perf.Transfer x) carried) (link_place t conn.0 own)))
     → Answered after (each_to conn.0 (part_put (book_in t) after conn.0 own handle (row_found t) (part_of (item.Frame sasl channel (perf.Transfer x) carried) (link_place t conn.0 own))))
     (part_bound (book_in t) after conn.0 own handle (row_found t) (part_of (item.Frame sasl channel (perf.Transfer x) carried) (link_place t conn.0 own)))
-transfer_sound t after s conn sasl channel x carried own handle sound came just here =
+transfer_sound t after s conn sasl channel x carried own handle sound came just here binds =
     part_sound t after conn.0 own handle (row_found t) (part_of (item.Frame sasl channel (perf.Transfer x) carried) (link_place t conn.0 own)) sound refl
-    (λ d payload is. came_whole t after s conn sasl channel x carried own handle d payload came just here is)
+    (λ d payload is. came_whole t after s conn sasl channel x carried own handle d payload came just here is) binds

@@ -128,7 +128,9 @@ drop_kept : (u : Trace) (c o h : ℕ) → link u c o h ≡ None → Kept u (chan
 drop_kept u c o h none was = record {
   law = was.law;
   own = was.own;
+  apart = was.apart;
   facts = λ n d r there name. fact n d r there (was.facts n d r there name);
+  volatile = λ n d k p there name from. was.volatile n d k p there name (stays n d p there from);
   standing = was.standing;
   named = was.named;
   ordered = was.ordered;
@@ -148,6 +150,11 @@ drop_kept u c o h none was = record {
         by true e false f r g over = absurd (clash (sym over))
         by false e q f r g over = absurd (clash (sym over))
 
+    stays : (n : ℕ) (d : Delivery) (p : Origin) → delivery u n ≡ Some d → source d ≡ Some p → source (changed x d) ≡ Some p
+    stays n d p there from =
+        let at = attached_link p.link (link u p.link.conn.0 p.link.channel p.link.handle) (was.standing.producers n d p there from) in
+        source_spared false (is_gone (gone.Link c o h)) d p from (not_on u c o h p.link at.0 none at.1)
+
     fact : (n : ℕ) (d : Delivery) (r : RowNumber) → delivery u n ≡ Some d → RowFact u (book_in u) r (changed x d) → RowFact u (book_in u) r d
     fact n d r there known =
         let settled : d.presettled ≡ false = sym (leaves_changed x d).settled ∙ known.settled in
@@ -158,9 +165,7 @@ drop_kept u c o h none was = record {
           named = sym alike.named;
           settled = sym alike.settled;
           outcome = sym alike.outcome;
-          comes = λ p from.
-              let at = attached_link p.link (link u p.link.conn.0 p.link.channel p.link.handle) (was.standing.producers n d p there from) in
-              source_spared false (is_gone (gone.Link c o h)) d p from (not_on u c o h p.link at.0 none at.1);
+          comes = λ p from. stays n d p there from;
         })
         (λ p key from durable. durable) (λ p tag from has. has) known
 
@@ -282,7 +287,7 @@ taken_kept t u c own ours a at was = by (holder u (key_at u c (answer_to a 0))) 
         let out : Item = detach_item x.channel x.handle false (Some Stolen) in
         let first : Kept u (change.Ends (gone.Link x.conn.0 x.channel x.handle) false ∷ []) = subst (λ (v : Option Attachment). Kept u (stolen_from v)) (held_before x holds) was in
         put_answer (Out x.conn.0 out ∷ u) c own (largest_frame u c) ours a key (key_then x) (none_then x holds) (asked_then x)
-        (next_kept x.conn.0 out u (change.Ends (gone.Link x.conn.0 x.channel x.handle) false) [] tt refl tt tt (λ n d. refl) (λ a e. e) first)
+        (next_kept x.conn.0 out u (change.Ends (gone.Link x.conn.0 x.channel x.handle) false) [] tt refl tt tt tt (λ n d. refl) (λ a e. e) first)
 
 -- an attach that is refused
 

@@ -9,7 +9,7 @@ use Rattle.router_trace.specs.declared.binding.DeliveryName.{DeliveryName}
 use Rattle.router_trace.specs.declared.binding.Holding.{Holding}
 use Rattle.router_trace.specs.declared.binding.Origin.{Origin}
 use Rattle.router_trace.specs.declared.binding.Rank.{Rank}
-use Rattle.router_trace.specs.Trace.{Entry, Did, Out, Took, Bound, Booked, Began, is_opening, IsOneRun}
+use Rattle.router_trace.specs.Trace.{Entry, Did, Out, Took, Bound, Booked, Routed, Began, is_opening, IsOneRun}
 use Rattle.router_trace.specs.Deliveries.{Delivery, has_row, bound, joined, holds_standing, presettles, either_origin, origin_of, with_binding, unless_called, bindings, name_in, number_named, delivery, sending, named, is_over, unless_over, after_put, after_event, channels_found, acts_found, rank_in}
 use Rattle.theorems.specs.Each.{EachBound}
 use Rattle.theorems.specs.OneConsumer.{IsOrNone, IsOf, joined_in, WhileThere, IsOfMessage}
@@ -140,6 +140,7 @@ of_messages (Out c i ∷ t) n d h =
     (subst (λ (e : Delivery). Follows None was.0 e) (sym was.2) (item_follows (number_named t) i c n (sending t c) was.0))
 of_messages (Took c k ∷ t) n d h = later_message (Took c k) t n d d refl (of_messages t n d h) (same d)
 of_messages (Booked acts full ∷ t) n d h = later_message (Booked acts full) t n d d refl (of_messages t n d h) (same d)
+of_messages (Routed passage ∷ t) n d h = later_message (Routed passage) t n d d refl (of_messages t n d h) (same d)
 of_messages (Began g ∷ t) n d h = absurd cc
 of_messages (Bound b ∷ t) n d h = bound_message b t n d h (λ e there. of_messages t n e there)
 
@@ -156,4 +157,5 @@ each_bound P (Out c i ∷ later) t b each = each_bound P later t b each
 each_bound P (Took c k ∷ later) t b each = each_bound P later t b each
 each_bound P (Bound a ∷ later) t b each = each_bound P later t b each.1
 each_bound P (Booked acts full ∷ later) t b each = each_bound P later t b each
+each_bound P (Routed passage ∷ later) t b each = each_bound P later t b each
 each_bound P (Began g ∷ later) t b each = each_bound P later t b each

@@ -7,7 +7,7 @@ use Rattle.router_trace.specs.declared.condition.Condition.TheVariants.{Resource
 use Rattle.router_trace.specs.declared.binding.Binding.{Binding}
 use Rattle.router_trace.specs.declared.event.Event.{Event}
 use Rattle.router_trace.specs.declared.event.Event.TheVariants as event
-use Rattle.router_trace.specs.Trace.{Entry, Did, Out, Took, Bound, Booked, Began, Put, Step, goes, each_to, puts, newest, newer}
+use Rattle.router_trace.specs.Trace.{Entry, Did, Out, Took, Bound, Booked, Routed, Began, Put, Step, goes, each_to, puts, newest, newer}
 use Rattle.router_trace.specs.Connection.{conn, due, is_full}
 use Rattle.router_trace.specs.Refusing.{refuses, rises}
 use Rattle.state_messages.specs.Messages.{with_bound}
@@ -37,6 +37,7 @@ room_calm (Out c i ∷ t) room = room_calm t room
 room_calm (Took c n ∷ t) room = room_calm t room
 room_calm (Bound b ∷ t) room = room_calm t room
 room_calm (Booked acts full ∷ t) room = room_calm t room
+room_calm (Routed passage ∷ t) room = room_calm t room
 room_calm (Began g ∷ t) room = room_calm t room
 
 -- the state before
@@ -96,6 +97,7 @@ same_newest (Out c i ∷ t) = same_newest t
 same_newest (Took c n ∷ t) = same_newest t
 same_newest (Bound b ∷ t) = same_newest t
 same_newest (Booked acts full ∷ t) = same_newest t
+same_newest (Routed passage ∷ t) = same_newest t
 same_newest (Began g ∷ t) = refl
 
 pub same_refused : (t : List Entry) (e : Event) → Calm t → refuses t e ≡ plain_refuses (untaken t) e

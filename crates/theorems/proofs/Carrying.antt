@@ -11,7 +11,7 @@ use Rattle.amqp_model.specs.declared.item.Item.{Item}
 use Rattle.amqp_model.specs.declared.item.Item.TheVariants as item
 use Rattle.router_trace.specs.declared.binding.Binding.{Binding}
 use Rattle.router_trace.specs.declared.binding.DeliveryName.{DeliveryName}
-use Rattle.router_trace.specs.Trace.{Entry, Did, Out, Took, Bound, Booked, Began, IsOneRun}
+use Rattle.router_trace.specs.Trace.{Entry, Did, Out, Took, Bound, Booked, Routed, Began, IsOneRun}
 use Rattle.router_trace.specs.Deliveries.{Delivery, bindings, counters, holds_standing, number_named, delivery, sending, named, unless_over, after_frame, closes, ended_by, put_in, after_put, after_event, carried, tag_in, is_number, channels_found, acts_found, held_by}
 use Rattle.theorems.specs.OneConsumer.{IsOf, WhileThere}
 use Rattle.theorems.specs.Each.{EachOut}
@@ -205,6 +205,7 @@ none_early (Out c i ∷ t) n all small early =
 none_early (Began g ∷ t) n all small early = refl
 none_early (Took c k ∷ t) n all small early = none_early t n all small early
 none_early (Booked acts full ∷ t) n all small early = none_early t n all small early
+none_early (Routed passage ∷ t) n all small early = none_early t n all small early
 none_early (Bound b ∷ t) n all small early = none_early t n all (lower t b small) (lower_still (is_none (holds_standing b.kind)) early)
   where
     lower_still : (new : Bool) → (if new then bindings t + 1 else bindings t) < n → bindings t < n
@@ -288,6 +289,7 @@ went (Out c i ∷ t) n all small d there = out_went t c n i small (went t n all.
 went (Began g ∷ t) n all small d there = absurd cc
 went (Took c k ∷ t) n all small d there = went t n all small d there
 went (Booked acts full ∷ t) n all small d there = went t n all small d there
+went (Routed passage ∷ t) n all small d there = went t n all small d there
 went (Bound b ∷ t) n all small d there = bound_went b t n all (lower t b small) (went t n all (lower t b small)) d there
 
 -- after the last frame of a message, all of it was sent
@@ -312,6 +314,7 @@ all_complete (Out c i ∷ t) all = (completes t c i all.1 all.0, all_complete t 
 all_complete (Took c k ∷ t) all = all_complete t all
 all_complete (Bound b ∷ t) all = all_complete t all
 all_complete (Booked acts full ∷ t) all = all_complete t all
+all_complete (Routed passage ∷ t) all = all_complete t all
 all_complete (Began g ∷ t) all = all_complete t all
 
 -- the bytes sent are always a beginning
@@ -357,6 +360,7 @@ begins_later (Out c i ∷ later) t b one numbered all small =
 begins_later (Took c k ∷ later) t b one numbered all small = begins_later later t b one.1 numbered all small
 begins_later (Bound a ∷ later) t b one numbered all small = begins_later later t b one.1 numbered all (lower (later ++ Bound b ∷ t) a small)
 begins_later (Booked acts full ∷ later) t b one numbered all small = begins_later later t b one.1 numbered all small
+begins_later (Routed passage ∷ later) t b one numbered all small = begins_later later t b one.1 numbered all small
 begins_later (Began g ∷ later) t b one numbered all small = absurd (let wrong : true ≡ false = one.0 in cc)
 
 pub goes_in_order : (u : List Entry) → AllCarried u → GoesInOrder u

@@ -18,7 +18,7 @@ use Rattle.route_table.specs.declared.sections.Distribution.TheVariants.{Balance
 use Rattle.router_trace.specs.declared.event.Event.TheVariants as event
 use Rattle.router_trace.specs.declared.handle.Attachment.{Attachment}
 use Rattle.router_trace.specs.Configuration.{distribution, is_multicast}
-use Rattle.router_trace.specs.Trace.{Trace, Step, Did, Out, Took, Bound, Booked, Began, goes}
+use Rattle.router_trace.specs.Trace.{Trace, Step, Did, Out, Took, Bound, Booked, Routed, Began, goes}
 use Rattle.router_trace.specs.Links.{Link, attachments, link, link_place, numbered}
 use Rattle.router_trace.specs.Sessions.{theirs}
 use Rattle.router_trace.specs.Settling.{part_of}
@@ -212,6 +212,7 @@ none_to (Out c i ∷ t) h n just = none_to t h n just
 none_to (Took c k ∷ t) h n just = absurd (none_not_some just)
 none_to (Bound b ∷ t) h n just = absurd (none_not_some just)
 none_to (Booked acts full ∷ t) h n just = absurd (none_not_some just)
+none_to (Routed passage ∷ t) h n just = none_to t h n just
 none_to (Began g ∷ t) h n just = absurd (none_not_some just)
 
 copied_other : (format : ℕ) (payload : List ℕ) (before : List Attachment) (n : ℕ) (u : Trace) → AllOther n before → bound_to_since u n ≡ 0 → bound_to_since (copied_to format payload before u) n ≡ 0

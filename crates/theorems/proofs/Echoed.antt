@@ -45,7 +45,7 @@ use Rattle.reply_rows.specs.Acts.{answer_of, full_at, found_journal}
 use Rattle.reply_rows.specs.Booking.{attach_unless, booked_attach, book_refusal, booked_transfer, booked_perf, booked, repeats}
 use Rattle.reply_rows.specs.Finding.{finds}
 use Rattle.reply_rows.specs.LinkRows.{refusal, attach_or, attach_at, session_detach_reply, link_echo, is_reached, detach_for, link_flow_reply, is_anonymous, is_among, delivery_by, delivery_on, is_unattached, link_transfer_reply, asks, flow_on as link_flow_on}
-use Rattle.reply_rows.specs.Rows.{Finds, Links, header_by, open_by, out_of_turn, close_by, begin_by, begin_reply, end_reply, echo, flow_on, flow_reply, attach_reply, transfer_reply, detach_reply, disposition_reply, in_turn, turn_by, perf_reply, item_reply}
+use Rattle.reply_rows.specs.Rows.{answering, Finds, Links, header_by, open_by, out_of_turn, close_by, begin_by, begin_reply, end_reply, echo, flow_on, flow_reply, attach_reply, transfer_reply, detach_reply, disposition_reply, in_turn, turn_by, perf_reply, item_reply}
 use Rattle.state_connections.proofs.Lists.{by_test}
 use Rattle.theorems.specs.Credit.{counts_on, counts_within}
 
@@ -180,15 +180,19 @@ close_told : (known : Known) (r : Result (Unit {0}) ConnFault) → Tells known (
 close_told known (Ok q) = tt
 close_told known (Err f) = out_told known f
 
-begin_told : (known : Known) (at : sessions.Place) (free : Option ℕ) (n : ℕ) (x : ABegin) → Tells known (begin_reply at free n x)
-begin_told known sessions.nowhere free n x = by free x.remote_channel
+begin_told : (known : Known) (at : sessions.Place) (free : Option ℕ) (awaits : ℕ → Bool) (n : ℕ) (x : ABegin) → Tells known (begin_reply at free awaits n x)
+begin_told known sessions.nowhere free awaits n x = by free x.remote_channel
   where
-    by : (free m : Option ℕ) → Tells known (begin_by n free m)
-    by free (Some channel) = tt
+    answers : (q : Bool) → Tells known (answering q)
+    answers true = tt
+    answers false = tt
+
+    by : (free m : Option ℕ) → Tells known (begin_by n free awaits m)
+    by free (Some own) = answers (awaits own)
     by None None = tt
     by (Some own) None = tt
-begin_told known sessions.ending free n x = tt
-begin_told known (sessions.on own h) free n x = tt
+begin_told known sessions.ending free awaits n x = tt
+begin_told known (sessions.on own h) free awaits n x = tt
 
 end_told : (known : Known) (at : sessions.Place) → Tells known (end_reply at)
 end_told known sessions.nowhere = tt
@@ -270,7 +274,7 @@ perf_told t s d n body payload p is = by body is
 
     by : (body : Perf) → s.event ≡ event.Item d (item.Frame false n body payload) → Tells (link (Did s ∷ t) d.0) (perf_reply p (finds t d.0) n body)
     by (perf.Open x) is = open_told (link (Did s ∷ t) d.0) x (open_in_turn x p)
-    by (perf.Begin x) is = turned (perf.Begin x) (begin_told (link (Did s ∷ t) d.0) (place t d.0 n) (finds t d.0).free_channel n x)
+    by (perf.Begin x) is = turned (perf.Begin x) (begin_told (link (Did s ∷ t) d.0) (place t d.0 n) (finds t d.0).free_channel (finds t d.0).awaits n x)
     by (perf.Attach x) is = turned (perf.Attach x) (attach_told (link (Did s ∷ t) d.0) (place t d.0 n) (link_place t d.0) (finds t d.0).free_handle x)
     by (perf.Flow x) is = turned (perf.Flow x) (flow_told t s d n x payload is)
     by (perf.Transfer x) is = turned (perf.Transfer x) (transfer_told (link (Did s ∷ t) d.0) (place t d.0 n) (link_place t d.0) (finds t d.0).claimed x)

@@ -33,12 +33,13 @@ use Rattle.router_reply.specs.Replies.{closing_of, ends}
 use Rattle.state_connections.proofs.Lists.{by_test}
 use Rattle.theorems.proofs.Begun.{AreBegun, did_owned}
 use Rattle.theorems.proofs.Booked.{answer_for, changes_of}
-use Rattle.theorems.proofs.Changing.{alike_it, closed_is}
+use Rattle.theorems.proofs.Changing.{Alike, alike_it, closed_is}
 use Rattle.theorems.proofs.Facts.{DidClaims, did_facts}
 use Rattle.theorems.proofs.Hearing.{IsNamed, gives_by, gives, heard_is}
 use Rattle.theorems.proofs.Keeps.{Kept, Ahead, next_kept, same_kept, plain_kept}
 use Rattle.theorems.proofs.Naming.{AreNamed, did_named}
 use Rattle.theorems.proofs.Standing.{did_standing}
+use Rattle.theorems.proofs.Volatile.{did_all_volatile}
 
 clash : true ≡ false → ⊥
 clash e = cc
@@ -50,10 +51,10 @@ never true = refl
 never false = refl
 
 close_kept : (c : ℕ) (e : Option Condition) (w : Trace) (ys : List Change) → Kept w (lost c ∷ ys) → Kept (Out c (close_item e) ∷ w) ys
-close_kept c e w ys was = next_kept c (close_item e) w (lost c) ys tt refl tt tt (λ n d. closed_is (number_named w) false 0 (record { error = option_map error_of e }) [] c n (sending w c) d) (λ a e. rw e refl) was
+close_kept c e w ys was = next_kept c (close_item e) w (lost c) ys tt refl tt tt tt (λ n d. closed_is (number_named w) false 0 (record { error = option_map error_of e }) [] c n (sending w c) d) (λ a e. rw e refl) was
 
 open_kept : (id : List ℕ) (c : ℕ) (w : Trace) (ys : List Change) → Kept w ys → Kept (Out c (open_item id) ∷ w) ys
-open_kept id c w ys was = same_kept c (open_item id) w ys tt refl tt tt (λ n d. no_ends false (put_ends (open_item id) c) (λ a. never (a.conn.0 == c)) d) was
+open_kept id c w ys was = same_kept c (open_item id) w ys tt refl tt tt tt (λ n d. no_ends false (put_ends (open_item id) c) (λ a. never (a.conn.0 == c)) d) was
 
 closing_kept : (id : List ℕ) (p : Conn) (c : ℕ) (e : Condition) (w : Trace) (ys : List Change) → Kept w (lost c ∷ ys) → Kept (goes (each_to c (closing id p e)) w) ys
 closing_kept id p c e w ys was = by p.opened
@@ -79,12 +80,12 @@ said_kept id p t c i w Header none was = plain_kept c header_item w refl was
 said_kept id p t c i w Open none was = plain_kept c (open_item id) w refl was
 said_kept id p t c i w Close none was = close_kept c None w [] was
 said_kept id p t c i w (CloseWith x) none was = closing_kept id p c x w [] was
-said_kept id p t c i w (Begin own peers) none was = plain_kept c (begin_item own peers) w refl was
-said_kept id p t c i w (End own x) none was = next_kept c (end_item own x) w (change.Ends (gone.Session c own) false) [] tt refl tt tt (λ n d. refl) (λ a e. e) was
+said_kept id p t c i w (Begin own peers) none was = plain_kept c (begin_item own (Some peers)) w refl was
+said_kept id p t c i w (End own x) none was = next_kept c (end_item own x) w (change.Ends (gone.Session c own) false) [] tt refl tt tt tt (λ n d. refl) (λ a e. e) was
 said_kept id p t c i w (Flow own told) none was = plain_kept c (flow_item own told) w refl was
 said_kept id p t c i w (Attach own) none was = subst (λ (xs : List Change). Kept w xs) none was
 said_kept id p t c i w (Refuse own handle x) none was = was
-said_kept id p t c i w (Detach own handle closed x) none was = next_kept c (detach_item own handle closed x) w (change.Ends (gone.Link c own handle) closed) [] tt refl tt tt (λ n d. refl) (λ a e. e) was
+said_kept id p t c i w (Detach own handle closed x) none was = next_kept c (detach_item own handle closed x) w (change.Ends (gone.Link c own handle) closed) [] tt refl tt tt tt (λ n d. refl) (λ a e. e) was
 said_kept id p t c i w (LinkFlow own told at) none was = plain_kept c (link_flow_item own told at) w refl was
 said_kept id p t c i w (Taken own handle) none was = was
 said_kept id p t c i w (Settle own) none was = was
@@ -181,12 +182,17 @@ did_kept : (s : Step) (t : Trace) (g : Delivery → Delivery) (xs ys : List Chan
 did_kept s t g xs ys same claims begun was = record {
   law = was.law;
   own = was.own;
-  facts = did_facts s t g xs ys was.standing (λ n d there. alike_it (changed_by xs (g d)) (changed_by ys (after_event s.event (channels_found t) (named t) (acts_found t) n d)) (same n d there)) claims was.facts;
+  apart = was.apart;
+  facts = did_facts s t g xs ys was.standing alike claims was.facts;
+  volatile = did_all_volatile s t g xs ys alike claims was.volatile;
   standing = did_standing s t was.standing;
   named = did_named s t was.named;
   ordered = was.ordered;
   owned = did_owned s t ys begun was.owned;
 }
+  where
+    alike : (n : ℕ) (d : Delivery) → delivery t n ≡ Some d → Alike (changed_by xs (g d)) (changed_by ys (after_event s.event (channels_found t) (named t) (acts_found t) n d))
+    alike n d there = alike_it (changed_by xs (g d)) (changed_by ys (after_event s.event (channels_found t) (named t) (acts_found t) n d)) (same n d there)
 
 changed_more : (xs ys : List Change) (d : Delivery) → changed_by (xs ++ ys) d ≡ changed_by ys (changed_by xs d)
 changed_more [] ys d = refl

@@ -141,7 +141,7 @@ left_claim (perf.Disposition x) own p v handle spared settles = by (own == p.lin
         gone f = let both = both_true x.settled (in_range x.first (last_of x) p.id) f in settles x refl role both.0 (eqb-true own p.link.channel e) both.1
 left_claim body own p v handle spared settles = unended body own p v handle spared
 
-out_claims : (c : ℕ) (i : Item) (t : List Entry) (n : ℕ) (e : Delivery) (p : Origin) (tag : List ℕ) → delivery (Out c i ∷ t) n ≡ Some e → source e ≡ Some p → HasClaim t p tag → HasClaim (Out c i ∷ t) p tag
+pub out_claims : (c : ℕ) (i : Item) (t : List Entry) (n : ℕ) (e : Delivery) (p : Origin) (tag : List ℕ) → delivery (Out c i ∷ t) n ≡ Some e → source e ≡ Some p → HasClaim t p tag → HasClaim (Out c i ∷ t) p tag
 out_claims c i t n e p tag now from has = record { claim = has.claim; there = by_test (c == p.link.conn.0) (λ f. rw f (here f)) (λ f. rw f has.there); on_link = has.on_link; tagged = has.tagged; apart = λ said is same. still said same is (out_said c i t p.link.conn.0 p.link.channel p.link.handle) }
   where
     still : (said : Said) → said.id ≡ Some p.id → said_of (link (Out c i ∷ t) p.link.conn.0 p.link.channel p.link.handle) ≡ Some said
@@ -224,11 +224,11 @@ fact_stays t u b r e same claims was =
     fact_moved t u b r e e (record { named = refl; settled = refl; outcome = refl; comes = λ p from. from }) (λ p key from durable. ap durable_key (same p.link) ∙ durable)
     (λ p tag from has. claims p tag has) was
 
-took_claims : (c k : ℕ) (t : Trace) (p : Origin) (tag : List ℕ) → HasClaim t p tag → HasClaim (Took c k ∷ t) p tag
+pub took_claims : (c k : ℕ) (t : Trace) (p : Origin) (tag : List ℕ) → HasClaim t p tag → HasClaim (Took c k ∷ t) p tag
 took_claims c k t p tag has = record { claim = has.claim; there = has.there; on_link = has.on_link; tagged = has.tagged; apart = has.apart }
 
 -- a binding leaves the claim's link and its tag
-bound_claims : (b : Binding) (t : Trace) (p : Origin) (tag : List ℕ) → HasClaim t p tag → HasClaim (Bound b ∷ t) p tag
+pub bound_claims : (b : Binding) (t : Trace) (p : Origin) (tag : List ℕ) → HasClaim t p tag → HasClaim (Bound b ∷ t) p tag
 bound_claims b t p tag has = by (origin_of b.kind)
   where
     Has : Option Claim → Type 0

@@ -25,7 +25,7 @@ use Rattle.router_trace.specs.declared.channel.PeerChannel.{PeerChannel}
 use Rattle.router_trace.specs.declared.event.Event.{Event}
 use Rattle.router_trace.specs.declared.event.Event.TheVariants as event
 use Rattle.router_trace.specs.declared.handle.Attachment.{Attachment}
-use Rattle.router_trace.specs.Trace.{Entry, Did, Out, Took, Booked, Bound, Began, is_opening, IsOneRun}
+use Rattle.router_trace.specs.Trace.{Entry, Did, Out, Took, Booked, Routed, Bound, Began, is_opening, IsOneRun}
 use Rattle.router_trace.specs.Deliveries.{Delivery, bindings, counters, name_of, name_in, same_name, number_named, unless_called, bound, joined, joins_standing, with_binding, either_origin, delivery, sending, named, is_over, unless_over, after_frame, decided, source, untold, unsettled, told, ended, decided_at_end, suspended_at_end, closes, is_undecided, is_meant, is_named, decision, terminal, is_gone_with, after_origin, after_ends, ended_by, put_in, after_put, carried, tag_in, is_number, is_on, is_settled_at, disposed, outcome_or, outcome_named, given, heard_in, heard, lost_with, after_event, origin_id, channels_found, acts_found, sender, forsaken, rank_in, holds_standing, held_by, resumed_held}
 use Rattle.theorems.specs.OneConsumer.{IsOrNone, is_row_of, joined_in, WhileThere}
 use Rattle.state_connections.proofs.Lists.{by_test}
@@ -185,6 +185,7 @@ joined_both (Did s ∷ later) first name = joined_both later first name
 joined_both (Out c i ∷ later) first name = joined_both later first name
 joined_both (Took c k ∷ later) first name = joined_both later first name
 joined_both (Booked acts full ∷ later) first name = joined_both later first name
+joined_both (Routed passage ∷ later) first name = joined_both later first name
 joined_both (Began g ∷ later) first name = joined_both later first name
 joined_both (Bound b ∷ later) first name =
     ap (λ (o : Option Origin). if is_row_of b.row name then either_origin (joins_standing b.kind) o else o) (joined_both later first name)
@@ -253,6 +254,7 @@ fresh_counter (Did s ∷ t) k n h = fresh_counter t k n h
 fresh_counter (Out c i ∷ t) k n h = fresh_counter t k n h
 fresh_counter (Took c j ∷ t) k n h = fresh_counter t k n h
 fresh_counter (Booked acts full ∷ t) k n h = fresh_counter t k n h
+fresh_counter (Routed passage ∷ t) k n h = fresh_counter t k n h
 fresh_counter (Began g ∷ t) k n h = absurd cc
 fresh_counter (Bound b ∷ t) k n h = by b.row (is_none (holds_standing b.kind)) h (fresh_counter t k n)
   where
@@ -316,6 +318,7 @@ entry_follows (Out c i) t n given =
 entry_follows (Took c k) t n given = nothing_joined (Took c k ∷ []) (λ name. refl) (delivery t n) (delivery t n) (all_same (delivery t n))
 entry_follows (Began g) t n given = all_gone (Began g ∷ []) (delivery t n)
 entry_follows (Booked acts full) t n given = nothing_joined (Booked acts full ∷ []) (λ name. refl) (delivery t n) (delivery t n) (all_same (delivery t n))
+entry_follows (Routed passage) t n given = nothing_joined (Routed passage ∷ []) (λ name. refl) (delivery t n) (delivery t n) (all_same (delivery t n))
 entry_follows (Bound b) t n given = by (holds_standing b.kind) refl
   where
     too_high : (n k : ℕ) → n ≤ k → k + 1 ≡ n → ⊥
@@ -338,6 +341,7 @@ more_bound (Out c i) t n one h = h
 more_bound (Took c k) t n one h = h
 more_bound (Began g) t n one h = absurd cc
 more_bound (Booked acts full) t n one h = h
+more_bound (Routed passage) t n one h = h
 more_bound (Bound b) t n one h = by (is_none (holds_standing b.kind))
   where
     one_more : (n k : ℕ) → n ≤ k → n ≤ k + 1

@@ -30,7 +30,7 @@ use Rattle.reply_rows.specs.Asking.{attach_in, resumed_key, decided_for, map_dec
 use Rattle.reply_rows.specs.Deciding.{event_changes, as_kept, decided, forgotten, terminus_of_event}
 use Rattle.theorems.specs.AsTold.{IsKeptAsTold}
 use Rattle.theorems.proofs.Accepting.{Asked, asked_act, OfDelivery, of_delivery, no_admitted}
-use Rattle.theorems.proofs.AcceptedFirst.{with_one}
+use Rattle.theorems.proofs.DecidedFirst.{with_one}
 use Rattle.theorems.proofs.Among.{Stands, stands_in_both, stands_in_filter_map, stands_in_map}
 use Rattle.theorems.proofs.Changing.{undecided_is}
 use Rattle.theorems.proofs.Ended.{IsEnded, ended_by_all, event_gives}

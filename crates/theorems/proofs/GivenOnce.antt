@@ -18,7 +18,7 @@ use Rattle.router_trace.specs.Trace.{Trace, Beginning}
 use Rattle.reply_rows.specs.Acts.{acts_of, book_in, booked}
 use Rattle.theorems.specs.Lives.{InLives}
 use Rattle.theorems.specs.OwnConsumer.{admits, makes, times_among, times_done, NumbersAreGivenOnce}
-use Rattle.theorems.proofs.AcceptedFirst.{moves_keep_all}
+use Rattle.theorems.proofs.EveryMove.{moves_keep_all}
 use Rattle.theorems.proofs.Booked.{acts_apply, ordered_acts}
 use Rattle.theorems.proofs.Lives.{lives_keep}
 use Rattle.theorems.proofs.Brings.{no_brings}

@@ -14,7 +14,7 @@ use Rattle.router_trace.specs.declared.handle.PeerHandle.{PeerHandle}
 use Rattle.router_trace.specs.Following.{is_sending}
 use Rattle.router_trace.specs.Links.{Link, address_by, after_our_flow, after_our_transfer, after_their_flow, after_their_transfer, asked, attached, attachments, ends_handle_in, heard_link, is_handle, key_at, link, link_after, link_at, link_by, link_in, names, names_by, their_handle}
 use Rattle.router_trace.specs.Sessions.{maps, theirs}
-use Rattle.router_trace.specs.Trace.{Trace, Did, Out, Took, Bound, Booked, Began}
+use Rattle.router_trace.specs.Trace.{Trace, Did, Out, Took, Bound, Booked, Routed, Began}
 use Rattle.state_connections.proofs.Lists.{by_test}
 use Rattle.theorems.specs.Carried.{CarriesMessage, CarriesWhatWasBound, perf_carries}
 use Rattle.theorems.specs.Each.{EachOut}
@@ -136,4 +136,5 @@ going_sends (Out d i ∷ t) each c o h m is going = by (going_sends t each.1)
 going_sends (Took d n ∷ t) each c o h m is going = going_sends t each c o h m is going
 going_sends (Bound b ∷ t) each c o h m is going = going_sends t each c o h m is going
 going_sends (Booked acts full ∷ t) each c o h m is going = going_sends t each c o h m is going
+going_sends (Routed passage ∷ t) each c o h m is going = going_sends t each c o h m is going
 going_sends (Began g ∷ t) each c o h m is going = absurd (none_not_some is)

@@ -7,7 +7,7 @@ use Rattle.amqp_model.specs.declared.item.Item.{Item}
 use Rattle.amqp_model.specs.declared.item.Item.TheVariants as item
 use Rattle.amqp_conn.specs.declared.conn.Conn.{Conn}
 use Rattle.amqp_session.specs.Session.{Session}
-use Rattle.router_trace.specs.Trace.{Beginning, Entry, Put, Did, Out, Took, Bound, Booked, Began, did, goes, puts, each_to, ups, step_of}
+use Rattle.router_trace.specs.Trace.{Beginning, Entry, Put, Did, Out, Took, Bound, Booked, Routed, Began, did, goes, puts, each_to, ups, step_of}
 use Rattle.router_trace.specs.Configuration.{beginning}
 use Rattle.book_model.specs.declared.act.Act.{Act}
 use Rattle.router_trace.specs.declared.binding.Binding.{Binding}
@@ -17,7 +17,8 @@ use Rattle.router_trace.specs.declared.event.ConnectionId.{ConnectionId}
 use Rattle.router_trace.specs.declared.event.Event.{Event}
 use Rattle.router_trace.specs.declared.handle.Attachment.{Attachment}
 use Rattle.router_trace.specs.declared.event.Event.TheVariants as event
-use Rattle.router_trace.specs.Connection.{Connection, conn, ended, took, unless_empty, drained, standing, is_live, is_full, is_due, has, due, found, live, live_of, at_event}
+use Rattle.router_trace.specs.Routed.{passed_to}
+use Rattle.router_trace.specs.Connection.{Connection, conn, ended, with_passed, took, unless_empty, drained, standing, is_live, is_full, is_due, has, due, found, live, live_of, at_event}
 use Rattle.router_trace.specs.Refusing.{refuses}
 use Rattle.router_trace.specs.Frames.{header_item}
 use Rattle.router_trace.specs.LinkFrames.{answer_to}
@@ -54,7 +55,7 @@ use Rattle.router_core.proofs.Linked.{none_if, holder_linked}
 use Rattle.router_core.proofs.Once.{filter_has}
 use Rattle.router_core.proofs.Ordered.{Ordered, Without, written_all, goes_spares, each_without, bound_spares, ends_spares}
 use Rattle.router_core.proofs.Told.{Told, goes_strange}
-use Rattle.router_core.proofs.Order.{push_some, heard_turns, no_session}
+use Rattle.router_core.proofs.Order.{push_some, passed_none, heard_turns, no_session}
 use Rattle.router_core.proofs.PassedOrder.{passed_steps}
 use Rattle.router_core.proofs.Replied.{replied_turns, resumed_turns}
 use Rattle.router_core.proofs.Resuming.{resumed_keeps, resumed_same}
@@ -84,6 +85,10 @@ waits_took n None h = refl
 waits_took n (Some v) h =
     waits_gone v.phase.closed (drained n v) (drop n v.waiting) (ap (λ (is : List Item). drop n is) h ∙ drop-nil n)
 
+waits_passed : (v : Option Connection) → waiting_of v ≡ [] → waiting_of (option_map (with_passed None) v) ≡ []
+waits_passed None h = refl
+waits_passed (Some v) h = h
+
 quiet : (t : List Entry) (c : ℕ) → outs t c ≡ [] → waiting_of (conn t c) ≡ []
 quiet [] c h = refl
 quiet (Did s ∷ t) c h =
@@ -92,6 +97,9 @@ quiet (Out d i ∷ t) c h =
     by_test (d == c) (λ e. absurd (push_some (outs t c) i (rw e at h))) (λ e. rw e (quiet t c (rw e at h)))
 quiet (Bound b ∷ t) c h = quiet t c h
 quiet (Booked acts full ∷ t) c h = quiet t c h
+quiet (Routed passage ∷ t) c h =
+    let none = passed_none (passed_to passage c) (outs t c) h in
+    subst (λ (p : Option Item). waiting_of (option_map (with_passed p) (conn t c)) ≡ []) (sym none.0) (waits_passed (conn t c) (quiet t c none.1))
 quiet (Began g ∷ t) c h = refl
 quiet (Took d n ∷ t) c h =
     by_test (d == c) (λ e. rw e (waits_took n (conn t c) (quiet t c h))) (λ e. rw e (quiet t c h))
@@ -171,6 +179,7 @@ untold (Out d i ∷ t) c h = goes_strange (record { conn = d; item = i } ∷ [])
 untold (Took d n ∷ t) c h = untold t c h
 untold (Bound b ∷ t) c h = untold t c h
 untold (Booked acts full ∷ t) c h = untold t c h
+untold (Routed passage ∷ t) c h = untold t c h
 untold (Began g ∷ t) c h = refl
 
 -- an item of another connection puts nothing if no link is attached

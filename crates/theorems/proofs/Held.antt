@@ -82,6 +82,8 @@ standing_can u q n quiet = record {
   producer = λ p from. absurd (no_source q p quiet from);
   new = λ new r named. absurd (none_not_some (sym new));
   joined = λ r h d is named was. subst (λ (x : Holding). RowFact u (book_in u) r (held_by x d)) (some_same is) (held_fact u r q d quiet was);
+  volatile = λ none. absurd (none_not_some (sym none));
+  rowed = λ h is none. none_not_some (sym none);
 }
 
 pub can_hold : (u : Trace) (b : Binding) (q : Holding) → resumed_held q ≡ None → HoldsRow u b q → IsOrdered (book_in u) → IsSound (book_in u) → CanBind u b
@@ -115,6 +117,8 @@ can_hold u b q quiet holds ordered sound = subst (CanBind u) (sym holds.holds) (
       producer = λ p from. absurd (no_source q p quiet from);
       new = λ new r named. subst (λ (m : RowNumber). RowFact u (book_in u) m (bound (name_in u made) (rank_in u made) made)) (some_same named) fact;
       joined = λ r h d is. absurd (none_not_some is);
+      volatile = λ none. absurd (none_not_some (sym none));
+      rowed = λ h is none. none_not_some is;
     }
 
 -- one that is settled has a delivery that stands

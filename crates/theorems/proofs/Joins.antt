@@ -36,6 +36,7 @@ use Rattle.theorems.proofs.Looking.{found_in, found_below}
 use Rattle.theorems.proofs.Settling.{found_at_number}
 use Rattle.theorems.proofs.Standing.{Sends}
 use Rattle.theorems.proofs.Tests.{some_same, none_not_some}
+use Rattle.theorems.proofs.Volatile.{IsVolatile}
 
 -- the row is the one of its number, and older than the next
 
@@ -112,6 +113,9 @@ pub record CanBind (u : Trace) (b : Binding) : Type 0 where
   pub producer : (q : Origin) → source (bound (name_in u b) (rank_in u b) b) ≡ Some q → is_attached u q.link ≡ true
   pub new : holds_standing b.kind ≡ None → (r : RowNumber) → b.row ≡ Some r → RowFact u (book_in u) r (bound (name_in u b) (rank_in u b) b)
   pub joined : (r : RowNumber) (q : Holding) (d : Delivery) → holds_standing b.kind ≡ Some q → b.row ≡ Some r → RowFact u (book_in u) r d → RowFact u (book_in u) r (held_by q d)
+  -- what has no row comes on a link that isn't durable, and joins nothing
+  pub volatile : b.row ≡ None → (p : Origin) → source (bound (name_in u b) (rank_in u b) b) ≡ Some p → IsVolatile u p
+  pub rowed : (q : Holding) → holds_standing b.kind ≡ Some q → b.row ≡ None → ⊥
 
 clash : false ≡ true → ⊥
 clash e = cc
@@ -146,6 +150,8 @@ can_join u b p joins ordered sound = subst (CanBind u) (sym joins.joins) (by (ca
       joined = λ r q d is named was.
           subst (λ (h : Holding). RowFact u (book_in u) r (held_by h d)) (some_same is)
           (fact (with_origin p d) was.settled (kept_of d r named was) (λ o from. sym (some_same from)) r named);
+      volatile = λ none. absurd (none_not_some (sym none));
+      rowed = λ q is none. none_not_some (sym none);
     }
 
     new_one : (o : Option DeliveryState) → joins.row.outcome ≡ o → CanBind u (joining (holding.Resumed p) n (New o))
@@ -154,6 +160,8 @@ can_join u b p joins ordered sound = subst (CanBind u) (sym joins.joins) (by (ca
       producer = λ q from. origin_attached u b p joins q (some_same from);
       new = λ new r named. fact (bound (name_in u (joining (holding.Resumed p) n (New o))) (rank_in u (joining (holding.Resumed p) n (New o))) (joining (holding.Resumed p) n (New o))) refl (inr is) (λ q from. sym (some_same from)) r named;
       joined = λ r q d is. absurd (none_not_some is);
+      volatile = λ none. absurd (none_not_some (sym none));
+      rowed = λ q is none. none_not_some is;
     }
       where
         never : (o : Option DeliveryState) → (is_none o && not (false || is_none o)) ≡ false

@@ -51,6 +51,9 @@ use Rattle.theorems.proofs.Naming.{AreNamed, is_sent_in, is_sent, out_named, IsN
 use Rattle.theorems.proofs.Quiet.{drains_quiet}
 use Rattle.theorems.proofs.Sound.{is_loud_in, is_loud, QuietPut}
 use Rattle.theorems.proofs.Standing.{Standing, fresh_in, IsFresh, out_standing, took_standing}
+use Rattle.theorems.proofs.Followed.{item_left}
+use Rattle.theorems.proofs.Undecided.{Comes, comes_left, comes_frames}
+use Rattle.theorems.proofs.Volatile.{Volatile, VolatileOf, TellsVolatile, item_volatile, out_all_volatile, took_all_volatile}
 
 clash : true ≡ false → ⊥
 clash e = cc
@@ -59,7 +62,9 @@ clash e = cc
 pub record Kept (t : Trace) (xs : List Change) : Type 0 where
   pub law : EachOut OutcomeIsKept t
   pub own : EachOut TellsItsOwnRow t
+  pub apart : EachOut TellsVolatile t
   pub facts : Facts t xs
+  pub volatile : Volatile t xs
   pub standing : Standing t
   pub named : AreNamed t
   pub ordered : IsOrdered (book_in t)
@@ -69,7 +74,9 @@ pub record Kept (t : Trace) (xs : List Change) : Type 0 where
 pub record Ahead (t : Trace) (g : Delivery → Delivery) (xs : List Change) : Type 0 where
   pub law : EachOut OutcomeIsKept t
   pub own : EachOut TellsItsOwnRow t
+  pub apart : EachOut TellsVolatile t
   pub facts : FactsOf t g xs
+  pub volatile : VolatileOf t g xs
   pub standing : Standing t
   pub named : AreNamed t
   pub ordered : IsOrdered (book_in t)
@@ -169,7 +176,9 @@ pub quiet_kept : (c : ℕ) (i : Item) (t : Trace) → IsFresh t c i → is_sent 
 quiet_kept c i t fresh quiet spares was = record {
   law = (item_decided i t c was.facts, was.law);
   own = (item_own i t c was.facts, was.own);
+  apart = (item_volatile i t c was.volatile, was.apart);
   facts = out_facts c i t [] [] was.standing fresh (λ n d there settled. alike_item (number_named t) i c n (sending t c) d settled (spares n d there)) was.facts;
+  volatile = out_all_volatile c i t [] [] was.standing fresh (λ n d. item_left Comes comes_left comes_frames (number_named t) i c n (sending t c) d) was.volatile;
   standing = out_standing c i t fresh was.standing;
   named = out_named c i t quiet was.named;
   ordered = was.ordered;
@@ -177,24 +186,28 @@ quiet_kept c i t fresh quiet spares was = record {
 }
 
 -- one that is the next of the changes to come, and one that changes nothing
-pub next_kept : (c : ℕ) (i : Item) (t : Trace) (x : Change) (ys : List Change) → IsFresh t c i → is_sent i ≡ false → OutcomeIsKept t c i → TellsItsOwnRow t c i
+pub next_kept : (c : ℕ) (i : Item) (t : Trace) (x : Change) (ys : List Change) → IsFresh t c i → is_sent i ≡ false → OutcomeIsKept t c i → TellsItsOwnRow t c i → TellsVolatile t c i
     → ((n : ℕ) (d : Delivery) → after_put (number_named t) i c n (sending t c) d ≡ changed x d) → ((a : Attachment) → ends_it x a ≡ true → ended_by i c a ≡ true) → Kept t (x ∷ ys) → Kept (Out c i ∷ t) ys
-next_kept c i t x ys fresh quiet keeps owns is ends was = record {
+next_kept c i t x ys fresh quiet keeps owns apart is ends was = record {
   law = (keeps, was.law);
   own = (owns, was.own);
+  apart = (apart, was.apart);
   facts = out_facts c i t (x ∷ ys) ys was.standing fresh (λ n d there settled. alike_it (changed_by ys (changed x d)) (changed_by ys (after_put (number_named t) i c n (sending t c) d)) (ap (changed_by ys) (is n d))) was.facts;
+  volatile = out_all_volatile c i t (x ∷ ys) ys was.standing fresh (λ n d p from. ap (λ (e : Delivery). source (changed_by ys e)) (sym (is n d)) ∙ from) was.volatile;
   standing = out_standing c i t fresh was.standing;
   named = out_named c i t quiet was.named;
   ordered = was.ordered;
   owned = out_owned c i t (x ∷ ys) ys fresh was.standing (λ a e f. ends a (next_one (ends_it x a) (is_ending ys a) e f)) was.owned;
 }
 
-pub same_kept : (c : ℕ) (i : Item) (t : Trace) (ys : List Change) → IsFresh t c i → is_sent i ≡ false → OutcomeIsKept t c i → TellsItsOwnRow t c i
+pub same_kept : (c : ℕ) (i : Item) (t : Trace) (ys : List Change) → IsFresh t c i → is_sent i ≡ false → OutcomeIsKept t c i → TellsItsOwnRow t c i → TellsVolatile t c i
     → ((n : ℕ) (d : Delivery) → after_put (number_named t) i c n (sending t c) d ≡ d) → Kept t ys → Kept (Out c i ∷ t) ys
-same_kept c i t ys fresh quiet keeps owns is was = record {
+same_kept c i t ys fresh quiet keeps owns apart is was = record {
   law = (keeps, was.law);
   own = (owns, was.own);
+  apart = (apart, was.apart);
   facts = out_facts c i t ys ys was.standing fresh (λ n d there settled. alike_it (changed_by ys d) (changed_by ys (after_put (number_named t) i c n (sending t c) d)) (ap (changed_by ys) (is n d))) was.facts;
+  volatile = out_all_volatile c i t ys ys was.standing fresh (λ n d p from. ap (λ (e : Delivery). source (changed_by ys e)) (sym (is n d)) ∙ from) was.volatile;
   standing = out_standing c i t fresh was.standing;
   named = out_named c i t quiet was.named;
   ordered = was.ordered;
@@ -262,7 +275,17 @@ plain_goes [] t plain was = was
 plain_goes (p ∷ ps) t plain was = plain_goes ps (Out p.conn p.item ∷ t) plain.1 (plain_kept p.conn p.item t plain.0 was)
 
 pub took_kept : (c k : ℕ) (t : Trace) → Kept t [] → Kept (Took c k ∷ t) []
-took_kept c k t was = record { law = was.law; own = was.own; facts = took_facts c k t [] was.facts; standing = took_standing c k t was.standing; named = was.named; ordered = was.ordered; owned = took_owned c k t [] was.owned }
+took_kept c k t was = record {
+  law = was.law;
+  own = was.own;
+  apart = was.apart;
+  facts = took_facts c k t [] was.facts;
+  volatile = took_all_volatile c k t [] was.volatile;
+  standing = took_standing c k t was.standing;
+  named = was.named;
+  ordered = was.ordered;
+  owned = took_owned c k t [] was.owned;
+}
 
 -- what follows an event's rows
 
@@ -324,8 +347,10 @@ sent_kept t small was = sends_elim t (λ ps. Kept (goes ps t) []) small was (λ 
         record {
           law = (item_decided i t d.link.conn.0 was.facts, was.law);
           own = (item_own i t d.link.conn.0 was.facts, was.own);
+          apart = (item_volatile i t d.link.conn.0 was.volatile, was.apart);
           facts = out_facts d.link.conn.0 i t [] [] was.standing tt
               (λ m e here settled. alike_item (number_named t) i d.link.conn.0 m (sending t d.link.conn.0) e settled (λ undecided. never (e.link.conn.0 == d.link.conn.0))) was.facts;
+          volatile = out_all_volatile d.link.conn.0 i t [] [] was.standing tt (λ m e. item_left Comes comes_left comes_frames (number_named t) i d.link.conn.0 m (sending t d.link.conn.0) e) was.volatile;
           standing = out_standing d.link.conn.0 i t tt was.standing;
           named = sent_named t n d false x payload there is was.named;
           ordered = was.ordered;

@@ -32,7 +32,7 @@ use Rattle.router_trace.specs.Connection.{conn, due, found, standing, live_of}
 use Rattle.router_trace.specs.Clocks.{terms, written, needs_beat}
 use Rattle.router_trace.specs.Refusing.{refuses}
 use Rattle.router_trace.specs.DeliveryFrames.{kept_outcome}
-use Rattle.router_trace.specs.Deliveries.{Delivery, bindings, counters, delivery, outcome_as, outcome_or}
+use Rattle.router_trace.specs.Deliveries.{Delivery, origin_of, source, bindings, counters, delivery, outcome_as, outcome_or}
 use Rattle.router_trace.specs.Links.{link, link_place, free_handle}
 use Rattle.router_trace.specs.Peers.{largest_frame}
 use Rattle.router_trace.specs.Sessions.{theirs}
@@ -47,20 +47,20 @@ use Rattle.reply_rows.specs.Acts.{live_answer, finds_full, journaled, book_in, a
 use Rattle.reply_rows.specs.Deciding.{ended_by, lost}
 use Rattle.router_reply.specs.Resuming.{resumed}
 use Rattle.router_reply.specs.Replies.{closing_of, ends, heard, map_told, bound_for, item_put, item_bound, item_row, bound_by, copied_by, own_row, replied_after, replied}
-use Rattle.router_core.specs.declared.driving.Sent.{Sent}
 use Rattle.router_core.specs.Moves.{Goes, IsTrace}
 use Rattle.core_machine.specs.Moves.{Move, handles, takes}
 use Rattle.router_core.specs.Replies.{handled}
-use Rattle.router_core.specs.Runs.{took_all, MayStep, MaySteps, Run}
 use Rattle.core_machine.specs.Moves.{Taking, took_one}
 use Rattle.core_machine.specs.Turns.{is_out_of_turn, is_started, declines}
+use Rattle.core_runs.specs.declared.driving.Sent.{Sent}
+use Rattle.core_runs.specs.Runs.{took_all, MayStep, MaySteps, Run}
 use Rattle.router_core.proofs.Booking.{booked_keeps}
 use Rattle.router_core.proofs.Books.{started_handled}
 use Rattle.router_core.proofs.Copied.{CopyStep, all_copied, copied_alone, copied_keeps, copied_takes, made}
 use Rattle.router_core.proofs.Following.{all_keep}
 use Rattle.router_core.proofs.Resuming.{resumed_keeps}
 use Rattle.theorems.specs.Carried.{HasSmallNumbers}
-use Rattle.theorems.specs.Came.{ComesFrom, TakesUp}
+use Rattle.theorems.specs.Came.{BindsMessage, ComesFrom, TakesUp}
 use Rattle.theorems.specs.Each.{EachOut}
 use Rattle.theorems.specs.Lives.{GoesInTurn}
 use Rattle.theorems.specs.OwnRow.{TellsItsOwnRow}
@@ -75,6 +75,7 @@ use Rattle.theorems.proofs.Booked.{acts_apply, ordered_acts, changes_of, booked_
 use Rattle.theorems.proofs.Hearing.{gives}
 use Rattle.theorems.proofs.Owning.{began_owned, booked_owned}
 use Rattle.theorems.proofs.Begun.{AreBegun}
+use Rattle.theorems.proofs.Changing.{leaves_by}
 use Rattle.theorems.proofs.Claimed.{HasClaim}
 use Rattle.theorems.proofs.Ending.{takes_none, answer_rest, CameBegun, CameClaims, came_kept, due_there, ends_kept}
 use Rattle.theorems.proofs.Firsts.{came_begun}
@@ -93,6 +94,7 @@ use Rattle.theorems.proofs.Rowing.{Holds, MayBind, bound_kept, copy_kept, Receiv
 use Rattle.theorems.proofs.Sound.{Sound, none_sound, opened_sound, sound_start, did_sound, took_sound, batch_sound}
 use Rattle.theorems.proofs.Standing.{Sends, began_standing, booked_standing}
 use Rattle.theorems.proofs.Tests.{none_not_some}
+use Rattle.theorems.proofs.Volatile.{IsVolatile, Volatile, VolatileOf, TellsVolatile}
 use Rattle.reply_rows.proofs.Transfers.{IfTaken, transfer_taken}
 
 clash : true ≡ false → ⊥
@@ -238,11 +240,33 @@ event_rows id t s (event.Tick ms) is may was =
 event_rows id t s (event.Up c p) is may was = was
 event_rows id t s event.Start is may was = was
 
+-- an event's acts and changes leave deliveries without a row as they are
+given_source : (acts : List Act) (e : Event) (d : Delivery) → source (gives e acts d) ≡ source d
+given_source acts (event.Item c (item.Frame true channel body payload)) d = refl
+given_source acts (event.Item c (item.Frame false channel (perf.Attach a) payload)) d = refl
+given_source acts (event.Item c (item.Frame false channel body payload)) d = refl
+given_source acts (event.Item c i) d = refl
+given_source acts (event.Up c p) d = refl
+given_source acts (event.Down c) d = refl
+given_source acts (event.Tick ms) d = refl
+given_source acts event.Start d = refl
+
+booked_volatile : (t : Trace) (e : Event) → Volatile t [] → VolatileOf (booked t e) (gives e (acts_of t e)) (changes_of t e)
+booked_volatile t e was n d k p there name from =
+    let old : IsVolatile t p = was n d k p there name (sym (given_source (acts_of t e) e d) ∙ (leaves_by (changes_of t e) (gives e (acts_of t e) d)).comes p from) in
+    record {
+      volatile = old.volatile;
+      tag = old.tag;
+      claimed = record { claim = old.claimed.claim; there = old.claimed.there; on_link = old.claimed.on_link; tagged = old.claimed.tagged; apart = old.claimed.apart };
+    }
+
 booked_kept : (t : Trace) (e : Event) → (e ≡ event.Start → (n : ℕ) → delivery t n ≡ None) → Kept t [] → Ahead (booked t e) (gives e (acts_of t e)) (changes_of t e)
 booked_kept t e none was = record {
   law = was.law;
   own = was.own;
+  apart = was.apart;
   facts = booked_facts t e was.standing was.owned was.ordered none was.facts;
+  volatile = booked_volatile t e was.volatile;
   standing = booked_standing t (acts_of t e) was.standing;
   named = was.named;
   ordered = ordered_acts t e was.ordered;
@@ -278,13 +302,24 @@ rest_none t u (event.Up c p) b is = absurd (none_not_some is)
 rest_none t u event.Start b is = absurd (none_not_some is)
 
 -- a message that is bound has its claim
+its_claim : (id : List ℕ) (t : Trace) (s : Step) → CameBegun s t → Kept t [] → (b : Binding) → bound_by (booked t s.event) (heard id (booked t s.event) s) s.event ≡ Some b
+    → (binds : BindsMessage (heard id (booked t s.event) s) b) (p : Origin) → origin_of b.kind ≡ Some p → HasClaim (heard id (booked t s.event) s) p (tag_bytes binds.message)
+its_claim id t s begun was b is binds p from =
+    whole_claim id s (booked t e) (due t e) (subst (λ (zs : List Change). AreBegun s (booked t e) (map lost (due t e) ++ zs)) (rest_none t u e b is) begun)
+    (booked_owned (acts_of t e) (due t e) t [] was.owned) (due_there s (booked t e)) binds.conn binds.own binds.handle binds.producer binds.message b.payload binds.came p
+    (subst (λ (o : Option Origin). ComesFrom o u binds.conn binds.own binds.handle binds.producer binds.message) from binds.from)
+  where
+    e : Event
+    e = s.event
+
+    u : Trace
+    u = heard id (booked t e) s
+
 message_claims : (id : List ℕ) (t : Trace) (s : Step) → CameBegun s t → Kept t [] → MessageClaims id t s
 message_claims id t s begun was b is r adm binds p from =
     subst (λ (q : List ℕ). HasClaim u p q)
     (sym (ap tag_bytes (same_told u adm.conn adm.own adm.handle binds.conn binds.own binds.handle adm.message binds.message b.payload b.payload adm.came binds.came)) ∙ admitted_tag)
-    (whole_claim id s (booked t e) (due t e) (subst (λ (zs : List Change). AreBegun s (booked t e) (map lost (due t e) ++ zs)) (rest_none t u e b is) begun)
-    (booked_owned (acts_of t e) (due t e) t [] was.owned) (due_there s (booked t e)) binds.conn binds.own binds.handle binds.producer binds.message b.payload binds.came p
-    (subst (λ (o : Option Origin). ComesFrom o u binds.conn binds.own binds.handle binds.producer binds.message) from binds.from))
+    (its_claim id t s begun was b is binds p from)
   where
     e : Event
     e = s.event
@@ -305,7 +340,7 @@ replied_kept id t s sound book begun none was =
     let e : Event = s.event in
     let u : Trace = heard id (booked t e) s in
     let behind : Kept u (answer_rest t e) = ends_kept id s (booked t e) (answer_rest t e) (came_kept s t (event_claims t s begun) begun (booked_kept t e none was)) in
-    event_rows id t s e refl (may_bind id t s (batch_sound t (acts_of t e) sound) (message_claims id t s begun was) behind.ordered (heard_book id t s was.ordered book)) behind
+    event_rows id t s e refl (may_bind id t s (batch_sound t (acts_of t e) sound) (message_claims id t s begun was) (λ b is binds p from. (tag_bytes binds.message, its_claim id t s begun was b is binds p from)) behind.ordered (heard_book id t s was.ordered book)) behind
 
 -- numbers that are small now were small before
 
@@ -413,7 +448,9 @@ start_all g sound = record {
   kept = λ small. record {
     law = tt;
     own = tt;
+    apart = tt;
     facts = λ n d r there name. absurd (none_not_some there);
+    volatile = λ n d k p there name from. absurd (none_not_some there);
     standing = began_standing g [];
     named = λ n id d there undecided has. absurd (none_not_some there);
     ordered = sound_is_ordered g.book sound;
@@ -443,10 +480,11 @@ pub record Past (t : Trace) : Type 0 where
   pub sound : Sound t
   pub law : EachOut OutcomeIsKept t
   pub own : EachOut TellsItsOwnRow t
+  pub apart : EachOut TellsVolatile t
   pub brings : Brings t
 
 pub no_past : Past []
-no_past = record { rows = no_rows; sound = none_sound; law = tt; own = tt; brings = no_brings }
+no_past = record { rows = no_rows; sound = none_sound; law = tt; own = tt; apart = tt; brings = no_brings }
 
 opened_all : (g : Beginning) (below : Trace) → g.book ≡ book_in below → Past below → All (opened g below)
 opened_all g below book was = record {
@@ -456,7 +494,9 @@ opened_all g below book was = record {
   kept = λ small. record {
     law = was.law;
     own = was.own;
+    apart = was.apart;
     facts = λ n d r there name. absurd (none_not_some there);
+    volatile = λ n d k p there name from. absurd (none_not_some there);
     standing = began_standing g below;
     named = λ n id d there undecided has. absurd (none_not_some there);
     ordered = subst IsOrdered (sym book) (sound_is_ordered (book_in below) was.brings.book);
@@ -471,7 +511,7 @@ pub moves_past : (id : List ℕ) (ms : List Move) (g : Beginning) (below u : Tra
 moves_past id ms g below u book was went small =
     let all : All u = moves_all id ms (opened g below) u (opened_all g below book was) went in
     let kept = all.kept small in
-    record { rows = all.rows; sound = all.sound; law = kept.law; own = kept.own; brings = all.brings }
+    record { rows = all.rows; sound = all.sound; law = kept.law; own = kept.own; apart = kept.apart; brings = all.brings }
 
 pub cut_past : (t : Trace) (e : Event) → Past t → Past (did e ∷ booked t e)
 cut_past t e was = record {
@@ -479,6 +519,7 @@ cut_past t e was = record {
   sound = did_sound (step_of e) (booked t e) (booked_keeps Sound t e (λ acts w. batch_sound t acts w) was.sound);
   law = was.law;
   own = was.own;
+  apart = was.apart;
   brings = cut_brings t e was.brings;
 }
 

@@ -49,6 +49,7 @@ pub mod Settling
 pub mod KeptForm
 pub mod Ended
 pub mod Facts
+pub mod Volatile
 pub mod Decisions
 pub mod Giving
 pub mod Forgetting
@@ -75,8 +76,8 @@ pub mod AsTold
 pub mod Among
 pub mod Accepting
 -- Runs that end by stops.
+pub mod EveryMove
 pub mod Lives
-pub mod AcceptedFirst
 -- The outcome that a row has is the one that is told.
 pub mod Forms
 pub mod ToldAsKept
@@ -85,8 +86,12 @@ pub mod EncodedScenes
 pub mod ToldInScripts
 -- The consumer of a row.
 pub mod Origins
+pub mod DecidedFirst
 pub mod OwnConsumer
 pub mod GivenOnce
+pub mod AcceptedFirst
+pub mod ToldRightly
+pub mod ToldWrongly
 -- The order on a connection.
 pub mod Headed
 pub mod OnlyHeaders

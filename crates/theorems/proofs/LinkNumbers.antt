@@ -16,7 +16,7 @@ use Rattle.router_trace.specs.declared.handle.Attachment.{Attachment}
 use Rattle.router_trace.specs.declared.handle.Asked.{Asked}
 use Rattle.router_trace.specs.Following.{is_sending}
 use Rattle.router_trace.specs.Links.{Link, address_by, asked, attached, attachments, begins, begun_link, initial_of, is_taken, key_at, last_of_key, link, link_after, link_in, newest_by, newest_in, same_key, way_of}
-use Rattle.router_trace.specs.Trace.{Trace, Did, Out, Took, Bound, Booked, Began, IsOneRun}
+use Rattle.router_trace.specs.Trace.{Trace, Did, Out, Took, Bound, Booked, Routed, Began, IsOneRun}
 use Rattle.state_connections.proofs.Lists.{by_test}
 use Rattle.state_links.proofs.Numbered.{old_key}
 use Rattle.theorems.proofs.Standing.{WasLink, SameLink, same_link, attaches, attaches_in, exact_key, did_link, out_link, was_link_on}
@@ -125,6 +125,7 @@ link_low (Out d i ∷ t) c o h m is = by (came d i t c o h m is) (link_low t c o
 link_low (Took d n ∷ t) c o h m is = link_low t c o h m is
 link_low (Bound b ∷ t) c o h m is = link_low t c o h m is
 link_low (Booked acts full ∷ t) c o h m is = link_low t c o h m is
+link_low (Routed passage ∷ t) c o h m is = link_low t c o h m is
 link_low (Began g ∷ t) c o h m is = absurd (none_not_some is)
 
 attached_more : (later before : Trace) → IsOneRun later → attachments before ≤ attachments (later ++ before)
@@ -135,6 +136,7 @@ attached_more (Out d i ∷ later) before one =
 attached_more (Took d n ∷ later) before one = attached_more later before one.1
 attached_more (Bound b ∷ later) before one = attached_more later before one.1
 attached_more (Booked acts full ∷ later) before one = attached_more later before one.1
+attached_more (Routed passage ∷ later) before one = attached_more later before one.1
 attached_more (Began g ∷ later) before one = absurd (clash one.0)
 
 -- a link whose number was given before was there then
@@ -157,6 +159,7 @@ link_before (Out d i ∷ later) before c o h m one is low = by (came d i (later 
 link_before (Took d n ∷ later) before c o h m one is low = link_before later before c o h m one.1 is low
 link_before (Bound b ∷ later) before c o h m one is low = link_before later before c o h m one.1 is low
 link_before (Booked acts full ∷ later) before c o h m one is low = link_before later before c o h m one.1 is low
+link_before (Routed passage ∷ later) before c o h m one is low = link_before later before c o h m one.1 is low
 link_before (Began g ∷ later) before c o h m one is low = absurd (clash one.0)
 
 -- Keys.
@@ -208,6 +211,7 @@ key_of_last (Out d i ∷ t) k a l last is number = by (newest d i t k a last) (c
 key_of_last (Took d n ∷ t) k a l last is number = key_of_last t k a l last is number
 key_of_last (Bound b ∷ t) k a l last is number = key_of_last t k a l last is number
 key_of_last (Booked acts full ∷ t) k a l last is number = key_of_last t k a l last is number
+key_of_last (Routed passage ∷ t) k a l last is number = key_of_last t k a l last is number
 key_of_last (Began g ∷ t) k a l last is number = absurd (none_not_some last)
 
 -- Ways.
@@ -233,4 +237,5 @@ role_is (Out d i ∷ t) c o h m is = by (came d i t c o h m is) (role_is t c o h
 role_is (Took d n ∷ t) c o h m is = role_is t c o h m is
 role_is (Bound b ∷ t) c o h m is = role_is t c o h m is
 role_is (Booked acts full ∷ t) c o h m is = role_is t c o h m is
+role_is (Routed passage ∷ t) c o h m is = role_is t c o h m is
 role_is (Began g ∷ t) c o h m is = absurd (none_not_some is)

@@ -27,6 +27,7 @@ use Rattle.theorems.proofs.Locked.{goes}
 use Rattle.theorems.proofs.Mapped.{Mapped, moves_mapped}
 use Rattle.theorems.proofs.Rows.{Rows, no_rows, opened_rows, moves_rows, cut_rows}
 use Rattle.theorems.proofs.Sound.{Sound, none_sound, opened_sound, did_sound, batch_sound}
+use Rattle.theorems.proofs.Volatile.{TellsVolatile}
 use Rattle.theorems.proofs.WindowsKept.{moves_keep}
 
 module _ (P : Trace → Type 0)
@@ -108,6 +109,9 @@ lives_past id (x ∷ xs) u all small =
 
 pub lives_outcomes : InSmallLives (EachOut OutcomeIsKept)
 lives_outcomes = λ id lives u all small. (lives_past id lives u all small).law
+
+pub lives_tell_volatile : InSmallLives (EachOut TellsVolatile)
+lives_tell_volatile = λ id lives u all small. (lives_past id lives u all small).apart
 
 pub lives_tell_own : InSmallLives (EachOut TellsItsOwnRow)
 lives_tell_own = λ id lives u all small. (lives_past id lives u all small).own

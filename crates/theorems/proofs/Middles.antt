@@ -25,7 +25,7 @@ use Rattle.router_trace.specs.declared.event.Event.TheVariants as event
 use Rattle.router_trace.specs.declared.handle.Asked.{Asked}
 use Rattle.router_trace.specs.declared.handle.PeerHandle.{PeerHandle}
 use Rattle.router_trace.specs.declared.handle.PeerHandle.TheVariants as handle
-use Rattle.router_trace.specs.Trace.{Entry, Did, Out, Took, Bound, Booked, Began}
+use Rattle.router_trace.specs.Trace.{Entry, Did, Out, Took, Bound, Booked, Routed, Began}
 use Rattle.router_trace.specs.Deliveries.{tag_in}
 use Rattle.router_trace.specs.Sessions.{maps, theirs}
 use Rattle.router_trace.specs.Links.{Link, LinkPlace, nowhere, detaching, on, on_link, Happened, sends, receives, link, link_in, link_after, link_at, link_by, heard_link, link_place, link_place_by, their_handle, names, attached, begins, begun_link, initial_of, came_to, flowed_from, flowed_to, started, after_our_flow, after_our_transfer, after_their_flow, after_their_transfer, key_at, asked, attachments, address_by, ends_handle_in, with_our_grant, with_count}
@@ -186,4 +186,5 @@ whole_said u c own h message payload came = by u came.just
     by (Took d k ∷ w) just = absurd (none_not_some just)
     by (Bound b ∷ w) just = absurd (none_not_some just)
     by (Booked acts full ∷ w) just = absurd (none_not_some just)
+    by (Routed passage ∷ w) just = by w just
     by (Began g ∷ w) just = absurd (none_not_some just)

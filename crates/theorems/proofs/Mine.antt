@@ -10,15 +10,16 @@ use Rattle.router_trace.specs.declared.channel.PeerChannel.{PeerChannel}
 use Rattle.router_trace.specs.declared.terms.Terms.{Terms}
 use Rattle.router_trace.specs.declared.event.Event.{Event}
 use Rattle.router_trace.specs.declared.event.Event.TheVariants as event
-use Rattle.router_trace.specs.Trace.{Entry, Did, Out, Took, Bound, Booked, Began, Put, goes, ups}
+use Rattle.router_trace.specs.Trace.{Entry, Did, Out, Took, Bound, Booked, Routed, Began, Put, goes, ups}
 use Rattle.router_trace.specs.Connection.{conn, fresh, standing, due, has, found, live_of}
 use Rattle.router_trace.specs.Clocks.{moment, moment_at, terms, terms_at, written, written_at, channel_max_of}
-use Rattle.router_trace.specs.Sessions.{unless_close, offered, offered_at, answered_channel, answered_at, answered_by, theirs, theirs_at, theirs_after, session, session_at, after_item, place, place_by, free_channel, is_free, channels}
+use Rattle.router_trace.specs.Routed.{passed_to, if_passed}
+use Rattle.router_trace.specs.Sessions.{unless_close, offered, offered_at, awaited, awaited_at, awaited_after, answered_channel, answered_at, answered_by, theirs, theirs_at, theirs_after, session, session_at, after_item, place, place_by, free_channel, is_free, channels}
 use Rattle.reply_rows.specs.Finding.{free_for}
 use Rattle.router_core.specs.Moves.{outs}
 use Rattle.theorems.specs.Alone.{is_about, own_part, comes_up}
 use Rattle.state_connections.proofs.Lists.{by_test}
-use Rattle.theorems.proofs.Plain.{stand, stand_after, plain_at, standing_item, standing_took, standing_at}
+use Rattle.theorems.proofs.Plain.{stand, stand_after, plain_at, standing_item, standing_passed, standing_took, standing_at}
 
 -- events about others change nothing
 
@@ -47,26 +48,40 @@ else_offered (event.Up d p) c v h = refl
 else_offered (event.Tick ms) c v h = refl
 else_offered event.Start c v h = refl
 
-else_answered : (e : Event) (c : ℕ) (v : Option ℕ) → is_about c e ≡ false → answered_at e c v ≡ v
-else_answered (event.Down d) c v h = rw h refl
-else_answered (event.Item d i) c v h = refl
-else_answered (event.Up d p) c v h = refl
-else_answered (event.Tick ms) c v h = refl
-else_answered event.Start c v h = refl
+else_awaited : (e : Event) (c o : ℕ) (known : ℕ → Option PeerChannel) (v : Option BeginState) → is_about c e ≡ false → awaited_at e c o known v ≡ v
+else_awaited (event.Item d i) c o known v h = rw h refl
+else_awaited (event.Down d) c o known v h = rw h refl
+else_awaited (event.Up d p) c o known v h = refl
+else_awaited (event.Tick ms) c o known v h = refl
+else_awaited event.Start c o known v h = refl
 
-else_theirs : (e : Event) (c p : ℕ) (v : Option PeerChannel) → is_about c e ≡ false → theirs_at e c p v ≡ v
-else_theirs (event.Item d i) c p v h = rw h refl
-else_theirs (event.Down d) c p v h = rw h refl
-else_theirs (event.Up d q) c p v h = refl
-else_theirs (event.Tick ms) c p v h = refl
-else_theirs event.Start c p v h = refl
+else_answered : (e : Event) (c o : ℕ) (known : ℕ → Option PeerChannel) (asked : Option BeginState) (v : Option ℕ) → is_about c e ≡ false
+    → answered_at e c o known asked v ≡ v
+else_answered (event.Down d) c o known asked v h = rw h refl
+else_answered (event.Item d i) c o known asked v h = rw h refl
+else_answered (event.Up d p) c o known asked v h = refl
+else_answered (event.Tick ms) c o known asked v h = refl
+else_answered event.Start c o known asked v h = refl
 
-else_session : (e : Event) (c o : ℕ) (known : ℕ → Option PeerChannel) (v : Option Session) → is_about c e ≡ false → session_at e c o known v ≡ v
-else_session (event.Item d i) c o known v h = rw h refl
-else_session (event.Down d) c o known v h = rw h refl
-else_session (event.Up d p) c o known v h = refl
-else_session (event.Tick ms) c o known v h = refl
-else_session event.Start c o known v h = refl
+else_theirs : (e : Event) (c p : ℕ) (asked : ℕ → Option BeginState) (v : Option PeerChannel) → is_about c e ≡ false → theirs_at e c p asked v ≡ v
+else_theirs (event.Item d i) c p asked v h = rw h refl
+else_theirs (event.Down d) c p asked v h = rw h refl
+else_theirs (event.Up d q) c p asked v h = refl
+else_theirs (event.Tick ms) c p asked v h = refl
+else_theirs event.Start c p asked v h = refl
+
+else_session : (e : Event) (c o : ℕ) (known : ℕ → Option PeerChannel) (asked : Option BeginState) (v : Option Session) → is_about c e ≡ false
+    → session_at e c o known asked v ≡ v
+else_session (event.Item d i) c o known asked v h = rw h refl
+else_session (event.Down d) c o known asked v h = rw h refl
+else_session (event.Up d p) c o known asked v h = refl
+else_session (event.Tick ms) c o known asked v h = refl
+else_session event.Start c o known asked v h = refl
+
+-- nor does what passes on a routed link to others
+unpassed : {A : Type 0} (change : Item → A → A) (p : Option Item) (v : A) → is_some p ≡ false → if_passed change p v ≡ v
+unpassed change None v h = refl
+unpassed change (Some i) v h = absurd cc
 
 else_plain : (e : Event) (c n : ℕ) (v : Option Conn) → is_about c e ≡ false → plain_at e c n v ≡ v
 else_plain (event.Up d p) c n v h = rw h refl
@@ -83,6 +98,7 @@ apart (Out d i ∷ t) c = if d == c then option_and_then (stand_after i) (apart 
 apart (Took d n ∷ t) c = apart t c
 apart (Bound b ∷ t) c = apart t c
 apart (Booked acts full ∷ t) c = apart t c
+apart (Routed passage ∷ t) c = apart t c
 apart (Began g ∷ t) c = None
 
 -- the views of a connection
@@ -95,6 +111,7 @@ own_moment (Out d i ∷ t) c = by_test (d == c) (λ e. rw e (own_moment t c)) (�
 own_moment (Took d n ∷ t) c = own_moment t c
 own_moment (Bound b ∷ t) c = own_moment t c
 own_moment (Booked acts full ∷ t) c = own_moment t c
+own_moment (Routed passage ∷ t) c = by_test (is_some (passed_to passage c)) (λ e. rw e (own_moment t c)) (λ e. rw e (own_moment t c))
 own_moment (Began g ∷ t) c = refl
 
 pub own_terms : (t : List Entry) (c : ℕ) → terms t c ≡ terms (own_part c t) c
@@ -105,6 +122,7 @@ own_terms (Out d i ∷ t) c = by_test (d == c) (λ e. rw e (rw e (ap (unless_clo
 own_terms (Took d n ∷ t) c = own_terms t c
 own_terms (Bound b ∷ t) c = own_terms t c
 own_terms (Booked acts full ∷ t) c = own_terms t c
+own_terms (Routed passage ∷ t) c = by_test (is_some (passed_to passage c)) (λ e. rw e (own_terms t c)) (λ e. rw e (own_terms t c))
 own_terms (Began g ∷ t) c = refl
 
 own_offered : (t : List Entry) (c : ℕ) → offered t c ≡ offered (own_part c t) c
@@ -115,6 +133,7 @@ own_offered (Out d i ∷ t) c = by_test (d == c) (λ e. rw e (rw e (ap (unless_c
 own_offered (Took d n ∷ t) c = own_offered t c
 own_offered (Bound b ∷ t) c = own_offered t c
 own_offered (Booked acts full ∷ t) c = own_offered t c
+own_offered (Routed passage ∷ t) c = by_test (is_some (passed_to passage c)) (λ e. rw e (own_offered t c)) (λ e. rw e (own_offered t c))
 own_offered (Began g ∷ t) c = refl
 
 pub own_written : (t : List Entry) (c : ℕ) → written t c ≡ written (own_part c t) c
@@ -125,41 +144,64 @@ own_written (Out d i ∷ t) c = by_test (d == c) (λ e. rw e (rw e (ap (λ m. un
 own_written (Took d n ∷ t) c = own_written t c
 own_written (Bound b ∷ t) c = own_written t c
 own_written (Booked acts full ∷ t) c = own_written t c
+own_written (Routed passage ∷ t) c =
+    by_test (is_some (passed_to passage c))
+    (λ e. rw e (λ j. if_passed (λ i last. Some (own_moment t c j)) (passed_to passage c) (own_written t c j)))
+    (λ e. rw e (unpassed (λ i last. Some (moment t)) (passed_to passage c) (written t c) e ∙ own_written t c))
 own_written (Began g ∷ t) c = refl
 
-own_answered : (t : List Entry) (c o : ℕ) → answered_channel t c o ≡ answered_channel (own_part c t) c o
-own_answered [] c o = refl
-own_answered (Did s ∷ t) c o =
-    by_test (is_about c s.event) (λ e. rw e (ap (answered_at s.event c) (own_answered t c o)))
-    (λ e. rw e (else_answered s.event c (answered_channel t c o) e ∙ own_answered t c o))
-own_answered (Out d i ∷ t) c o = by_test (d == c) (λ e. rw e (rw e (ap (answered_by i o) (own_answered t c o)))) (λ e. rw e (own_answered t c o))
-own_answered (Took d n ∷ t) c o = own_answered t c o
-own_answered (Bound b ∷ t) c o = own_answered t c o
-own_answered (Booked acts full ∷ t) c o = own_answered t c o
-own_answered (Began g ∷ t) c o = refl
+mutual
+  pub own_awaited : (t : List Entry) (c o : ℕ) → awaited t c o ≡ awaited (own_part c t) c o
+  own_awaited [] c o = refl
+  own_awaited (Did s ∷ t) c o =
+      by_test (is_about c s.event) (λ e. rw e (λ j. awaited_at s.event c o (λ p. own_theirs t c p j) (own_awaited t c o j)))
+      (λ e. rw e (else_awaited s.event c o (theirs t c) (awaited t c o) e ∙ own_awaited t c o))
+  own_awaited (Out d i ∷ t) c o = by_test (d == c) (λ e. rw e (rw e (ap (awaited_after i o) (own_awaited t c o)))) (λ e. rw e (own_awaited t c o))
+  own_awaited (Took d n ∷ t) c o = own_awaited t c o
+  own_awaited (Bound b ∷ t) c o = own_awaited t c o
+  own_awaited (Booked acts full ∷ t) c o = own_awaited t c o
+  own_awaited (Routed passage ∷ t) c o = by_test (is_some (passed_to passage c)) (λ e. rw e (own_awaited t c o)) (λ e. rw e (own_awaited t c o))
+  own_awaited (Began g ∷ t) c o = refl
 
-pub own_theirs : (t : List Entry) (c p : ℕ) → theirs t c p ≡ theirs (own_part c t) c p
-own_theirs [] c p = refl
-own_theirs (Did s ∷ t) c p =
-    by_test (is_about c s.event) (λ e. rw e (ap (theirs_at s.event c p) (own_theirs t c p)))
-    (λ e. rw e (else_theirs s.event c p (theirs t c p) e ∙ own_theirs t c p))
-own_theirs (Out d i ∷ t) c p =
-    by_test (d == c) (λ e. rw e (rw e (λ j. theirs_after i p (λ o. own_answered t c o j) (own_theirs t c p j)))) (λ e. rw e (own_theirs t c p))
-own_theirs (Took d n ∷ t) c p = own_theirs t c p
-own_theirs (Bound b ∷ t) c p = own_theirs t c p
-own_theirs (Booked acts full ∷ t) c p = own_theirs t c p
-own_theirs (Began g ∷ t) c p = refl
+  own_answered : (t : List Entry) (c o : ℕ) → answered_channel t c o ≡ answered_channel (own_part c t) c o
+  own_answered [] c o = refl
+  own_answered (Did s ∷ t) c o =
+      by_test (is_about c s.event) (λ e. rw e (λ j. answered_at s.event c o (λ p. own_theirs t c p j) (own_awaited t c o j) (own_answered t c o j)))
+      (λ e. rw e (else_answered s.event c o (theirs t c) (awaited t c o) (answered_channel t c o) e ∙ own_answered t c o))
+  own_answered (Out d i ∷ t) c o = by_test (d == c) (λ e. rw e (rw e (ap (answered_by i o) (own_answered t c o)))) (λ e. rw e (own_answered t c o))
+  own_answered (Took d n ∷ t) c o = own_answered t c o
+  own_answered (Bound b ∷ t) c o = own_answered t c o
+  own_answered (Booked acts full ∷ t) c o = own_answered t c o
+  own_answered (Routed passage ∷ t) c o = by_test (is_some (passed_to passage c)) (λ e. rw e (own_answered t c o)) (λ e. rw e (own_answered t c o))
+  own_answered (Began g ∷ t) c o = refl
+
+  pub own_theirs : (t : List Entry) (c p : ℕ) → theirs t c p ≡ theirs (own_part c t) c p
+  own_theirs [] c p = refl
+  own_theirs (Did s ∷ t) c p =
+      by_test (is_about c s.event) (λ e. rw e (λ j. theirs_at s.event c p (λ o. own_awaited t c o j) (own_theirs t c p j)))
+      (λ e. rw e (else_theirs s.event c p (awaited t c) (theirs t c p) e ∙ own_theirs t c p))
+  own_theirs (Out d i ∷ t) c p =
+      by_test (d == c) (λ e. rw e (rw e (λ j. theirs_after i p (λ o. own_answered t c o j) (own_theirs t c p j)))) (λ e. rw e (own_theirs t c p))
+  own_theirs (Took d n ∷ t) c p = own_theirs t c p
+  own_theirs (Bound b ∷ t) c p = own_theirs t c p
+  own_theirs (Booked acts full ∷ t) c p = own_theirs t c p
+  own_theirs (Routed passage ∷ t) c p = by_test (is_some (passed_to passage c)) (λ e. rw e (own_theirs t c p)) (λ e. rw e (own_theirs t c p))
+  own_theirs (Began g ∷ t) c p = refl
 
 pub own_session : (t : List Entry) (c o : ℕ) → session t c o ≡ session (own_part c t) c o
 own_session [] c o = refl
 own_session (Did s ∷ t) c o =
-    by_test (is_about c s.event) (λ e. rw e (λ j. session_at s.event c o (λ p. own_theirs t c p j) (own_session t c o j)))
-    (λ e. rw e (else_session s.event c o (theirs t c) (session t c o) e ∙ own_session t c o))
+    by_test (is_about c s.event) (λ e. rw e (λ j. session_at s.event c o (λ p. own_theirs t c p j) (own_awaited t c o j) (own_session t c o j)))
+    (λ e. rw e (else_session s.event c o (theirs t c) (awaited t c o) (session t c o) e ∙ own_session t c o))
 own_session (Out d i ∷ t) c o =
     by_test (d == c) (λ e. rw e (rw e (λ j. after_item i o (own_offered t c j) (own_session t c o j)))) (λ e. rw e (own_session t c o))
 own_session (Took d n ∷ t) c o = own_session t c o
 own_session (Bound b ∷ t) c o = own_session t c o
 own_session (Booked acts full ∷ t) c o = own_session t c o
+own_session (Routed passage ∷ t) c o =
+    by_test (is_some (passed_to passage c))
+    (λ e. rw e (λ j. if_passed (λ i v. after_item i o (own_offered t c j) v) (passed_to passage c) (own_session t c o j)))
+    (λ e. rw e (unpassed (λ i v. after_item i o (offered t c) v) (passed_to passage c) (session t c o) e ∙ own_session t c o))
 own_session (Began g ∷ t) c o = refl
 
 pub own_outs : (t : List Entry) (c : ℕ) → outs t c ≡ outs (own_part c t) c
@@ -169,6 +211,10 @@ own_outs (Out d i ∷ t) c = by_test (d == c) (λ e. rw e (rw e (ap (λ (is : Li
 own_outs (Took d n ∷ t) c = own_outs t c
 own_outs (Bound b ∷ t) c = own_outs t c
 own_outs (Booked acts full ∷ t) c = own_outs t c
+own_outs (Routed passage ∷ t) c =
+    by_test (is_some (passed_to passage c))
+    (λ e. rw e (ap (λ (is : List Item). if_passed (λ i js. js ++ i ∷ []) (passed_to passage c) is) (own_outs t c)))
+    (λ e. rw e (unpassed (λ i js. js ++ i ∷ []) (passed_to passage c) (outs t c) e ∙ own_outs t c))
 own_outs (Began g ∷ t) c = refl
 
 pub own_place : (t : List Entry) (c p : ℕ) → place t c p ≡ place (own_part c t) c p
@@ -176,7 +222,7 @@ own_place t c p = λ j. place_by (own_theirs t c p j) (λ o. own_session t c o j
 
 own_channel : (t : List Entry) (c most : ℕ) → free_channel t c most ≡ free_channel (own_part c t) c most
 unfolding free_channel
-own_channel t c most = λ j. find (is_free most (λ o. own_session t c o j)) channels
+own_channel t c most = λ j. find (is_free most (λ o. own_session t c o j) (λ o. own_awaited t c o j)) channels
 
 pub own_free : (t : List Entry) (c : ℕ) → free_for t c ≡ free_for (own_part c t) c
 own_free t c = λ j. own_channel t c (channel_max_of (own_terms t c j)) j
@@ -189,6 +235,7 @@ own_apart (Out d i ∷ t) c = by_test (d == c) (λ e. rw e (rw e (ap (option_and
 own_apart (Took d n ∷ t) c = own_apart t c
 own_apart (Bound b ∷ t) c = own_apart t c
 own_apart (Booked acts full ∷ t) c = own_apart t c
+own_apart (Routed passage ∷ t) c = by_test (is_some (passed_to passage c)) (λ e. rw e (own_apart t c)) (λ e. rw e (own_apart t c))
 own_apart (Began g ∷ t) c = refl
 
 -- its outbox was not full when an event came, and it was admitted
@@ -199,6 +246,7 @@ Eased c (Out d i ∷ t) = Eased c t
 Eased c (Took d n ∷ t) = Eased c t
 Eased c (Bound b ∷ t) = Eased c t
 Eased c (Booked acts full ∷ t) = Eased c t
+Eased c (Routed passage ∷ t) = Eased c t
 Eased c (Began g ∷ t) = Eased c t
 
 pub eased_goes : (c : ℕ) (ps : List Put) (t : List Entry) → Eased c t → Eased c (goes ps t)
@@ -232,6 +280,7 @@ stood_apart (Out d i ∷ t) c eased =
 stood_apart (Took d n ∷ t) c eased = standing_took (d == c) n (conn t c) ∙ stood_apart t c eased
 stood_apart (Bound b ∷ t) c eased = stood_apart t c eased
 stood_apart (Booked acts full ∷ t) c eased = stood_apart t c eased
+stood_apart (Routed passage ∷ t) c eased = standing_passed (passed_to passage c) (conn t c) ∙ stood_apart t c eased
 stood_apart (Began g ∷ t) c eased = refl
 
 -- the phase of a live connection follows from its own part

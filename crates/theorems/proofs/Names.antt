@@ -3,7 +3,7 @@ use Rattle.std.proofs.Common.{◌≡◌, sym, ap, refl, subst, ℕ, ◌+◌, ◌
 use Rattle.std.specs.Prelude.{Option, Some, None, IfSome, is_none, if◌then◌else◌}
 use Rattle.book_model.specs.declared.row.RowNumber.{RowNumber}
 use Rattle.router_trace.specs.declared.binding.DeliveryName.{DeliveryName}
-use Rattle.router_trace.specs.Trace.{Entry, Did, Out, Took, Bound, Booked, Began, is_opening, IsOneRun}
+use Rattle.router_trace.specs.Trace.{Entry, Did, Out, Took, Bound, Booked, Routed, Began, is_opening, IsOneRun}
 use Rattle.router_trace.specs.Deliveries.{Delivery, counters, name_of, delivery, tag_of, tagged}
 use Rattle.theorems.specs.Each.{EachBound}
 use Rattle.theorems.specs.Carried.{HasSmallRow, HasSmallNumbers}
@@ -16,6 +16,7 @@ more_counters (Did s) t one = omega arith
 more_counters (Out c i) t one = omega arith
 more_counters (Took c k) t one = omega arith
 more_counters (Booked acts full) t one = omega arith
+more_counters (Routed passage) t one = omega arith
 more_counters (Began g) t one = absurd cc
 more_counters (Bound b) t one = by (is_none b.row)
   where

@@ -11,11 +11,11 @@ use Rattle.book_model.specs.declared.terminus.Terminus.{Terminus}
 use Rattle.book_model.specs.declared.terminus.TerminusNumber.{TerminusNumber}
 use Rattle.book_model.specs.Book.{BookView, admitted, decided, forgotten, with_row, effect, effects}
 use Rattle.router_trace.specs.Configuration.{opened}
-use Rattle.router_trace.specs.Trace.{Trace, Entry, Did, Out, Took, Bound, Booked, Began}
+use Rattle.router_trace.specs.Trace.{Trace, Entry, Did, Out, Took, Bound, Booked, Routed, Began}
 use Rattle.reply_rows.specs.Acts.{book_in, booked}
 use Rattle.theorems.specs.Lives.{InLives}
 use Rattle.theorems.specs.OwnConsumer.{WasDone}
-use Rattle.theorems.proofs.AcceptedFirst.{moves_keep_all}
+use Rattle.theorems.proofs.EveryMove.{moves_keep_all}
 use Rattle.theorems.proofs.Among.{Stands, stands_in_both, stands_in_filter, stands_in_filter_map, parts}
 use Rattle.theorems.proofs.Lives.{lives_keep}
 use Rattle.theorems.proofs.Tests.{some_same, none_not_some}
@@ -67,6 +67,7 @@ Continues (Out c i ∷ t) = Continues t
 Continues (Took c n ∷ t) = Continues t
 Continues (Bound b ∷ t) = Continues t
 Continues (Booked acts full ∷ t) = Continues t
+Continues (Routed passage ∷ t) = Continues t
 Continues (Began g ∷ t) = (g.book ≡ book_in t) × Continues t
 
 before_it : (later v : Trace) → Continues (later ++ v) → Continues v
@@ -76,6 +77,7 @@ before_it (Out c i ∷ later) v all = before_it later v all
 before_it (Took c n ∷ later) v all = before_it later v all
 before_it (Bound b ∷ later) v all = before_it later v all
 before_it (Booked acts full ∷ later) v all = before_it later v all
+before_it (Routed passage ∷ later) v all = before_it later v all
 before_it (Began g ∷ later) v all = before_it later v all.1
 
 pub part_continues : (v u : Trace) → IsPart v u → Continues u → Continues v
@@ -232,4 +234,5 @@ origins (Out c i ∷ t) all = same_origins (Out c i) t refl (origins t all)
 origins (Took c n ∷ t) all = same_origins (Took c n) t refl (origins t all)
 origins (Bound b ∷ t) all = same_origins (Bound b) t refl (origins t all)
 origins (Booked acts full ∷ t) all = booked_origins t acts full (origins t all)
+origins (Routed passage ∷ t) all = same_origins (Routed passage) t refl (origins t all)
 origins (Began g ∷ t) all = same_origins (Began g) t all.0 (origins t all.1)

@@ -23,7 +23,7 @@ use Rattle.router_trace.specs.declared.event.ConnectionId.{ConnectionId}
 use Rattle.router_trace.specs.declared.event.Event.{Event}
 use Rattle.router_trace.specs.declared.event.Event.TheVariants as event
 use Rattle.router_trace.specs.declared.handle.Attachment.{Attachment}
-use Rattle.router_trace.specs.Trace.{Entry, Did, Out, Took, Booked, Bound, Began, Step, is_opening}
+use Rattle.router_trace.specs.Trace.{Entry, Did, Out, Took, Booked, Routed, Bound, Began, Step, is_opening}
 use Rattle.router_trace.specs.Links.{ends_handle}
 use Rattle.router_trace.specs.Sessions.{maps}
 use Rattle.router_trace.specs.Deliveries.{Delivery, outcome_in, holds_standing, bindings, number_named, delivery, sending, named, failed, after_frame, decided, source, untold, unsettled, told, ended, decided_at_end, suspended_at_end, is_undecided, is_meant, is_named, is_number, last_of, decision, terminal, is_gone_with, after_origin, after_ends, ended_by, put_in, after_put, carried, tag_in, is_on, is_settled_at, disposed, outcome_or, outcome_named, given, heard_in, heard, lost_with, after_event, origin_id, channels_found, acts_found, sender, forsaken}
@@ -323,6 +323,7 @@ outcomes_given (Out c i ∷ t) n d s h e =
     (put_from c i t n was.0 s (sym (ap (λ (f : Delivery). f.outcome) was.2) ∙ e))
 outcomes_given (Took c k ∷ t) n d s h e = later_decided (Took c k) t n s refl (outcomes_given t n d s h e)
 outcomes_given (Booked acts full ∷ t) n d s h e = later_decided (Booked acts full) t n s refl (outcomes_given t n d s h e)
+outcomes_given (Routed passage ∷ t) n d s h e = later_decided (Routed passage) t n s refl (outcomes_given t n d s h e)
 outcomes_given (Began g ∷ t) n d s h e = absurd cc
 outcomes_given (Bound b ∷ t) n d s h e = bound_given b t n d s h e (λ x there. outcomes_given t n x s there)
 

@@ -5,8 +5,9 @@ use Rattle.amqp_model.specs.declared.item.Item.{Item}
 use Rattle.amqp_conn.specs.declared.conn.Conn.{Conn}
 use Rattle.router_trace.specs.declared.event.Event.{Event}
 use Rattle.router_trace.specs.declared.event.Event.TheVariants as event
-use Rattle.router_trace.specs.Trace.{Entry, Did, Out, Took, Bound, Booked, Began, Put, goes, ups}
-use Rattle.router_trace.specs.Connection.{Connection, conn, phase_after, with_item, drained, unless_empty, took, fresh, standing, is_full, is_due, due, unless_due, found, live, live_of, at_event}
+use Rattle.router_trace.specs.Routed.{passed_to}
+use Rattle.router_trace.specs.Trace.{Entry, Did, Out, Took, Bound, Booked, Routed, Began, Put, goes, ups}
+use Rattle.router_trace.specs.Connection.{Connection, conn, phase_after, with_item, with_passed, drained, unless_empty, took, fresh, standing, is_full, is_due, due, unless_due, found, live, live_of, at_event}
 use Rattle.theorems.specs.Takes.{untaken}
 use Rattle.state_connections.proofs.Lists.{by_test, filter_none}
 use Rattle.state_connections.proofs.Turns.{due_none, stays}
@@ -36,6 +37,7 @@ plain (Out d i ∷ t) c = if d == c then option_and_then (stand_after i) (plain 
 plain (Took d n ∷ t) c = plain t c
 plain (Bound b ∷ t) c = plain t c
 plain (Booked acts full ∷ t) c = plain t c
+plain (Routed passage ∷ t) c = plain t c
 plain (Began g ∷ t) c = None
 
 abbrev pub plain_live : List Entry → List ℕ
@@ -49,6 +51,7 @@ Calm (Out d i ∷ t) = Calm t
 Calm (Took d n ∷ t) = Calm t
 Calm (Bound b ∷ t) = Calm t
 Calm (Booked acts full ∷ t) = Calm t
+Calm (Routed passage ∷ t) = Calm t
 Calm (Began g ∷ t) = Calm t
 
 pub calm_goes : (ps : List Put) (t : List Entry) → Calm t → Calm (goes ps t)
@@ -81,6 +84,11 @@ pub standing_item : (b : Bool) (i : Item) (v : Option Connection)
 standing_item true i None = refl
 standing_item true i (Some v) = stand_item i v.phase
 standing_item false i v = refl
+
+pub standing_passed : (p : Option Item) (v : Option Connection) → standing (option_map (with_passed p) v) ≡ standing v
+standing_passed p None = refl
+standing_passed None (Some v) = refl
+standing_passed (Some i) (Some v) = refl
 
 standing_gone : (b : Bool) (x : Connection) (rest : List Item) → x.phase.closed ≡ b → standing (if b then unless_empty x rest else Some x) ≡ stand x.phase
 standing_gone true x [] e = sym (stand_over x.phase e)
@@ -115,6 +123,7 @@ stood (Out d i ∷ t) calm c =
 stood (Took d n ∷ t) calm c = standing_took (d == c) n (conn t c) ∙ stood t calm c
 stood (Bound b ∷ t) calm c = stood t calm c
 stood (Booked acts full ∷ t) calm c = stood t calm c
+stood (Routed passage ∷ t) calm c = standing_passed (passed_to passage c) (conn t c) ∙ stood t calm c
 stood (Began g ∷ t) calm c = refl
 
 -- and so are those that are live

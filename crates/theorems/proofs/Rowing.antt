@@ -1,6 +1,6 @@
 -- What an event's row puts keeps what holds, but for attaches: what the answer says, the answers to a disposition, and what is put for a transfer.
 use Rattle.std.proofs.Common.{◌≡◌, ◌∙◌, sym, ap, refl, subst, ℕ, ◌<◌, Bool, true, false, not, ◌&&◌, List, [], ◌∷◌, ◌++◌, append-nil}
-use Rattle.std.specs.Prelude.{◌==◌, nat_lt, Option, Some, None, is_none, if◌then◌else◌}
+use Rattle.std.specs.Prelude.{◌==◌, nat_lt, Option, Some, None, is_none, is_some, if◌then◌else◌}
 use Rattle.std.proofs.lemmas.Bool.{eqb-true, eq-eqb}
 use Rattle.amqp_model.specs.declared.perf.Disposition.{Disposition as ADisposition}
 use Rattle.amqp_model.specs.declared.perf.Perf.TheVariants as perf
@@ -28,7 +28,7 @@ use Rattle.router_trace.specs.Trace.{Trace, Bound, Put, goes, puts, each_to}
 use Rattle.router_trace.specs.Deliveries.{Delivery, bound, called, origin_in, origin_of, outcome_in, presettles, either_origin, source, name_in, delivery, is_undecided, terminal, last_of, ended_by as put_ends, outcome_as, told_in, rank_in, holds_standing, told_of}
 use Rattle.router_trace.specs.Following.{link_of, is_sending}
 use Rattle.router_trace.specs.LinkFrames.{detach_item}
-use Rattle.router_trace.specs.Links.{Link, link, link_place, has_number, is_attached, if_attached, last_of_key}
+use Rattle.router_trace.specs.Links.{Link, durable_key, link, link_place, has_number, is_attached, if_attached, last_of_key}
 use Rattle.router_trace.specs.Settling.{open_ids, part_of, unbound}
 use Rattle.state_messages.specs.Asking.{is_consumer, if_consumer, consumer_with}
 use Rattle.state_messages.specs.Messages.{copy_to, with_bound}
@@ -37,10 +37,11 @@ use Rattle.reply_rows.specs.declared.answer.Answer.TheVariants.{Taken, Settle}
 use Rattle.reply_rows.specs.Rows.{said}
 use Rattle.reply_rows.specs.Acts.{book_in}
 use Rattle.router_state.specs.Copying.{goes_to_all}
-use Rattle.reply_transfers.specs.Transfers.{claimed_id, lasts_on, let_go, unless_many, ignored_put, row_resumed, unless_joined, resumed_put, let_down_as, let_down_by, let_down, unbound_put, consumer_for, whole_put, part_put, settled_answers}
+use Rattle.reply_transfers.specs.Transfers.{claimed_id, from_link, lasts_on, let_go, unless_many, ignored_put, row_resumed, unless_joined, resumed_put, let_down_as, let_down_by, let_down, unbound_put, consumer_for, whole_put, part_put, settled_answers}
 use Rattle.reply_rows.specs.Deciding.{ended_by}
 use Rattle.router_reply.specs.Replies.{row_found, bound_for, links_put, item_put}
-use Rattle.theorems.specs.Came.{TakesUp, BindsMessage, ComesFrom}
+use Rattle.theorems.specs.Came.{TakesUp, BindsMessage, ComesFrom, HasRowOn}
+use Rattle.theorems.proofs.Claimed.{HasClaim}
 use Rattle.theorems.proofs.Consuming.{consumer_sends}
 use Rattle.theorems.proofs.Ending.{TakesNone, takes_none, said_kept}
 use Rattle.theorems.proofs.Facts.{KeptAs, Agrees, RowFact, bound_facts}
@@ -51,6 +52,7 @@ use Rattle.theorems.proofs.Naming.{bound_named}
 use Rattle.theorems.proofs.Resumed.{IsCalled, called_is}
 use Rattle.theorems.proofs.Standing.{Sends, bound_standing}
 use Rattle.theorems.proofs.Tests.{some_same, none_not_some}
+use Rattle.theorems.proofs.Volatile.{bound_all_volatile}
 
 clash : true ≡ false → ⊥
 clash e = cc
@@ -161,21 +163,50 @@ from_origin : (o : Option Origin) (p : Origin) → either_origin o None ≡ Some
 from_origin None p is = absurd (none_not_some is)
 from_origin (Some q) p is = is
 
+-- one that has no row came on a link that isn't durable, unless its producer had settled it
+not_lasting : (q : Bool) (o : Option Origin) (row : Option RowNumber) (p : Origin) → HasRowOn q o row → o ≡ Some p → row ≡ None → q ≡ false
+not_lasting false o row p has is none = refl
+not_lasting true None row p has is none = absurd (none_not_some is)
+not_lasting true (Some q) None p has is none = absurd (clash (sym has))
+not_lasting true (Some q) (Some r) p has is none = absurd (none_not_some (sym none))
+
+key_none : (o : Option LinkKey) → is_some o ≡ false → o ≡ None
+key_none None e = refl
+key_none (Some k) e = absurd (clash e)
+
+came_from : (o : Option Origin) (u : Trace) (c own handle : ℕ) (l : Link) (d : Told) → ComesFrom o u c own handle l d → (p : Origin) → o ≡ Some p → p.link ≡ from_link c own handle l
+came_from None u c own handle l d from p is = absurd (none_not_some is)
+came_from (Some q) u c own handle l d from p is = sym (ap (λ (x : Origin). x.link) (some_same is)) ∙ from.0
+
+no_key : (u : Trace) (b : Binding) → BindsMessage u b → b.row ≡ None → (p : Origin) → origin_of b.kind ≡ Some p → durable_key (link_of u p.link) ≡ None
+no_key u b binds none p own =
+    ap (λ (a : Attachment). durable_key (link_of u a)) (came_from (origin_of b.kind) u binds.conn binds.own binds.handle binds.producer binds.message binds.from p own)
+    ∙ ap durable_key binds.attached
+    ∙ key_none (durable_key (Some binds.producer)) (not_lasting (lasts_on (Some binds.producer)) (origin_of b.kind) b.row p binds.has_row own none)
+
 -- of a message
-pub can_message : (u : Trace) (b : Binding) (o : Option Origin) → b.kind ≡ kind.Message o → BindsMessage u b → ((r : RowNumber) → b.row ≡ Some r → RowFact u (book_in u) r (bound (name_in u b) (rank_in u b) b)) → CanBind u b
-can_message u b o is binds fact = record {
+pub can_message : (u : Trace) (b : Binding) (o : Option Origin) → b.kind ≡ kind.Message o → BindsMessage u b → ((r : RowNumber) → b.row ≡ Some r → RowFact u (book_in u) r (bound (name_in u b) (rank_in u b) b))
+    → (b.row ≡ None → (p : Origin) → origin_of b.kind ≡ Some p → (tag : List ℕ) × HasClaim u p tag) → CanBind u b
+can_message u b o is binds fact claims = record {
   consumer = λ undecided. consumer_sends u binds.producer b.consumer binds.chosen;
   producer = λ p from. from_attached (origin_of b.kind) u binds.conn binds.own binds.handle binds.producer binds.message binds.from binds.attached p
       (from_origin (origin_of b.kind) p (ap (λ (k : BindingKind). either_origin (origin_of b.kind) (told_of k)) (sym is) ∙ from));
   new = λ new r named. fact r named;
   joined = λ r q d joins. absurd (none_not_some (ap holds_standing (sym is) ∙ joins));
+  volatile = λ none p from.
+      let own : origin_of b.kind ≡ Some p = from_origin (origin_of b.kind) p (ap (λ (k : BindingKind). either_origin (origin_of b.kind) (told_of k)) (sym is) ∙ from) in
+      let claim = claims none p own in
+      record { volatile = no_key u b binds none p own; tag = claim.0; claimed = claim.1 };
+  rowed = λ q joins none. none_not_some (ap holds_standing (sym is) ∙ joins);
 }
 
 pub bound_kept : (b : Binding) (u : Trace) → CanBind u b → Kept u [] → Kept (Bound b ∷ u) []
 bound_kept b u can was = record {
   law = was.law;
   own = was.own;
+  apart = was.apart;
   facts = bound_facts b u can.new can.joined was.facts;
+  volatile = bound_all_volatile b u can.volatile can.rowed was.volatile;
   standing = bound_standing b u can.consumer can.producer was.standing;
   named = bound_named b u was.named;
   ordered = was.ordered;
@@ -190,6 +221,8 @@ copy_kept u format payload a sends was =
       producer = λ p from. absurd (none_not_some from);
       new = λ new r named. absurd (none_not_some named);
       joined = λ r q d joins. absurd (none_not_some joins);
+      volatile = λ none p from. absurd (none_not_some from);
+      rowed = λ q joins none. none_not_some joins;
     }) was
 
 -- a row that is taken up
@@ -275,6 +308,8 @@ taken_up_kept u b takes holds was =
       producer = producer;
       new = λ new. taken_fact u b takes holds was;
       joined = λ r q d joins. absurd (none_not_some (ap holds_standing (sym takes.taken) ∙ joins));
+      volatile = λ none. absurd (none_not_some (sym none ∙ takes.number));
+      rowed = λ q joins none. none_not_some (sym none ∙ takes.number);
     }) was
   where
     producer : (p : Origin) → source (bound (name_in u b) (rank_in u b) b) ≡ Some p → is_attached u p.link ≡ true

@@ -11,7 +11,7 @@ use Rattle.book_model.specs.Book.{BookView, effect, effects}
 use Rattle.router_trace.specs.Configuration.{beginning, opened}
 use Rattle.router_trace.specs.Connection.{conn, due}
 use Rattle.router_trace.specs.declared.handle.Attachment.{Attachment}
-use Rattle.router_trace.specs.Trace.{Beginning, Entry, Did, Out, Took, Bound, Booked, Began, Put, Step, did, goes, puts, each_to}
+use Rattle.router_trace.specs.Trace.{Beginning, Entry, Did, Out, Took, Bound, Booked, Routed, Began, Put, Step, did, goes, puts, each_to}
 use Rattle.router_trace.specs.declared.binding.Binding.{Binding}
 use Rattle.router_trace.specs.Deliveries.{is_message}
 use Rattle.router_trace.specs.declared.event.Event.{Event}
@@ -61,6 +61,7 @@ Before (Out c i ∷ t) = Before t
 Before (Took c k ∷ t) = Unit {0}
 Before (Bound b ∷ t) = Unit {0}
 Before (Booked acts full ∷ t) = EachRowIsBoundOnce t
+Before (Routed passage ∷ t) = Before t
 Before (Began g ∷ t) = Unit {0}
 
 before_acts : (u : List Entry) (h : Handled) (acts : List Act) (full : List ℕ) (t : List Entry) → just_handled u ≡ Some h → h.found ≡ Booked acts full ∷ t → Before u → EachRowIsBoundOnce t
@@ -70,6 +71,7 @@ before_acts (Out c i ∷ w) h acts full t just is before = before_acts w h acts 
 before_acts (Took c k ∷ w) h acts full t just is before = absurd (none_not_some just)
 before_acts (Bound b ∷ w) h acts full t just is before = absurd (none_not_some just)
 before_acts (Booked x more ∷ w) h acts full t just is before = absurd (none_not_some just)
+before_acts (Routed passage ∷ w) h acts full t just is before = before_acts w h acts full t just is before
 before_acts (Began g ∷ w) h acts full t just is before = absurd (none_not_some just)
 
 -- nothing is bound since then, and nothing done to the book
@@ -86,6 +88,7 @@ since (Out c i ∷ w) h n just = let was = since w h n just in record { times = 
 since (Took c k ∷ w) h n just = absurd (none_not_some just)
 since (Bound b ∷ w) h n just = absurd (none_not_some just)
 since (Booked x full ∷ w) h n just = absurd (none_not_some just)
+since (Routed passage ∷ w) h n just = let was = since w h n just in record { times = was.times; book = was.book }
 since (Began g ∷ w) h n just = absurd (none_not_some just)
 
 next_after : (b : BookView) (x : Admission) → (effects b (Admit x ∷ [])).next_row ≡ b.next_row + 1

@@ -483,6 +483,28 @@ out_stays d i t c o h fresh standing some spared = by (link t c o h) refl some
         let now = link_is (if d == c then ends_handle i o h else false) (link t c o h) (link (Out d i ∷ t) c o h) l (out_behaves d i t c o h apart) (spared_there d i (place c o h) spared) there in
         record { now = ap is_some now.there; durable = ap durable_key there ∙ same_durable l now.behind now.same ∙ ap durable_key (sym now.there) }
 
+-- one that isn't durable stays so
+
+still_volatile : (over : Bool) (v w : Option Link) → Behaves over v w → durable_key v ≡ None → durable_key w ≡ None
+still_volatile over v w behaves none = ap durable_key behaves.is ∙ by over v none
+  where
+    by : (over : Bool) (v : Option Link) → durable_key v ≡ None → durable_key (if over then None else option_map behaves.change v) ≡ None
+    by true v none = refl
+    by false None none = refl
+    by false (Some l) none = sym (same_durable l (behaves.change l) (behaves.same l)) ∙ none
+
+pub did_volatile : (s : Step) (t : List Entry) (a : Attachment) → durable_key (link_of t a) ≡ None → durable_key (link_of (Did s ∷ t) a) ≡ None
+did_volatile s t a none =
+    still_volatile (is_lost s.event a.conn.0) (link_of t a) (link_of (Did s ∷ t) a)
+    (event_behaves s.event a.conn.0 a.channel a.handle (theirs t a.conn.0) (their_handle t a.conn.0 a.channel) (link_of t a)) none
+
+pub out_volatile : (d : ℕ) (i : Item) (t : List Entry) → IsFresh t d i → Standing t → (a : Attachment) → is_attached t a ≡ true → durable_key (link_of t a) ≡ None
+    → durable_key (link_of (Out d i ∷ t) a) ≡ None
+out_volatile d i t fresh standing a attached none =
+    let at = attached_link a (link t a.conn.0 a.channel a.handle) attached in
+    let apart = apart_from d i t a.conn.0 a.channel a.handle at.0 fresh (standing.answered a.conn.0 a.channel a.handle at.0 at.1) in
+    still_volatile (if d == a.conn.0 then ends_handle i a.channel a.handle else false) (link_of t a) (link_of (Out d i ∷ t) a) (out_behaves d i t a.conn.0 a.channel a.handle apart) none
+
 over_gone : (q : Bool) (v : Option Link) → q ≡ true → (if q then None else v) ≡ None
 over_gone true v e = refl
 over_gone false v e = absurd (clash (sym e))

@@ -11,12 +11,12 @@ use Rattle.router_trace.specs.Trace.{Trace}
 use Rattle.reply_rows.specs.Acts.{book_in}
 use Rattle.core_machine.specs.declared.fault.CoreFault.{CoreFault}
 use Rattle.core_machine.specs.Moves.{Move}
-use Rattle.router_core.specs.declared.driving.Driven.{Driven}
-use Rattle.router_core.specs.declared.driving.Sent.{Sent}
 use Rattle.router_core.specs.declared.router.Core.{Core}
 use Rattle.router_core.specs.Handling.{Fits, store_of}
-use Rattle.router_core.specs.Leaving.{IsLeftAfter, IsLeftBy, LeftBy}
-use Rattle.router_core.specs.Runs.{Run, events_of}
+use Rattle.core_runs.specs.declared.driving.Driven.{Driven}
+use Rattle.core_runs.specs.declared.driving.Sent.{Sent}
+use Rattle.core_runs.specs.Leaving.{IsLeftAfter, IsLeftBy, LeftBy}
+use Rattle.core_runs.specs.Runs.{Run, events_of}
 use Rattle.theorems.specs.Lives.{Life, Lives, CutOff, GoesInTurn}
 use Rattle.theorems.specs.Stops.{IsUnderWay, EndsLife, EndsAnswered, stopped}
 use Rattle.theorems.proofs.KeptFirst.{LeadsInTurn, leads_on, turns_on, run_leads, steps_lead}

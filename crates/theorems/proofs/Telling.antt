@@ -14,7 +14,7 @@ use Rattle.router_trace.specs.declared.binding.DeliveryName.{DeliveryName}
 use Rattle.router_trace.specs.declared.binding.Holding.{Holding}
 use Rattle.router_trace.specs.declared.binding.Holding.TheVariants as holding
 use Rattle.router_trace.specs.declared.binding.Origin.{Origin}
-use Rattle.router_trace.specs.Trace.{Entry, Did, Out, Took, Bound, Booked, Began, is_opening, IsOneRun}
+use Rattle.router_trace.specs.Trace.{Entry, Did, Out, Took, Bound, Booked, Routed, Began, is_opening, IsOneRun}
 use Rattle.router_trace.specs.Deliveries.{Delivery, bindings, bound, joined, joins_standing, with_binding, name_in, same_name, number_named, unless_called, delivery, sending, named, unless_over, either_origin, source, untold, unsettled, told, is_meant, last_of, origin_id, ended_by, after_put, after_event, channels_found, acts_found, rank_in, holds_standing, held_by, resumed_held}
 use Rattle.amqp_session.specs.Serials.{distance}
 use Rattle.amqp_session.specs.Ranges.{in_range}
@@ -203,6 +203,11 @@ spent (Booked acts full ∷ t) n = by (spent t n)
     by : Spent t n → Spent (Booked acts full ∷ t) n
     by (inl none) = inl none
     by (inr was) = inr (record { once = was.once; given = was.given; none = was.none })
+spent (Routed passage ∷ t) n = by (spent t n)
+  where
+    by : Spent t n → Spent (Routed passage ∷ t) n
+    by (inl none) = inl none
+    by (inr was) = inr (record { once = was.once; given = was.given; none = was.none })
 spent (Bound b ∷ t) n = by_test (is_joined (joins_standing b.kind) (name_in t b) (delivery t n)) (λ e. inl (rw e refl)) (λ e. as_before e (spent t n))
   where
     as_before : is_joined (joins_standing b.kind) (name_in t b) (delivery t n) ≡ false → Spent t n → Spent (Bound b ∷ t) n
@@ -335,6 +340,7 @@ entry_under c own id later (Out d i) t n one given none =
 entry_under c own id later (Took d k) t n one given none = none
 entry_under c own id later (Began g) t n one given none = absurd cc
 entry_under c own id later (Booked acts full) t n one given none = none
+entry_under c own id later (Routed passage) t n one given none = none
 entry_under c own id later (Bound b) t n one given none = bound_under c own id later b t n given none
 
 later_under : (c own id : ℕ) (later t : List Entry) (n : ℕ) → IsOneRun later → n ≤ bindings t → WhileThere (NotUnder c own id) (delivery t n) → Under c own id later (later ++ t) n

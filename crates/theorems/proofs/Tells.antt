@@ -7,7 +7,7 @@ use Rattle.router_trace.specs.declared.binding.BindingKind.{BindingKind}
 use Rattle.router_trace.specs.declared.binding.BindingKind.TheVariants as kind
 use Rattle.router_trace.specs.declared.binding.DeliveryName.TheVariants.{Counter}
 use Rattle.router_trace.specs.declared.binding.Origin.{Origin}
-use Rattle.router_trace.specs.Trace.{Entry, Did, Out, Took, Bound, Booked, Began}
+use Rattle.router_trace.specs.Trace.{Entry, Did, Out, Took, Bound, Booked, Routed, Began}
 use Rattle.router_trace.specs.Deliveries.{Delivery, has_row, bindings, counters, name_of, is_message, origin_of, either_origin, joins_standing, presettles, delivery, rank_at}
 use Rattle.router_trace.specs.Following.{is_to_be_told, outcome_to, tell, tells_of, tells}
 use Rattle.router_core.proofs.Due.{ranked_elim}
@@ -29,6 +29,7 @@ none_without_row (Did s ∷ later) k = none_without_row later k
 none_without_row (Out c i ∷ later) k = none_without_row later k
 none_without_row (Took c j ∷ later) k = none_without_row later k
 none_without_row (Booked acts full ∷ later) k = none_without_row later k
+none_without_row (Routed passage ∷ later) k = none_without_row later k
 none_without_row (Began g ∷ later) k = none_without_row later k
 none_without_row (Bound b ∷ later) k = by b.row (none_without_row later k)
   where

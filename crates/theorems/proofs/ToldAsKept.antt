@@ -28,7 +28,7 @@ use Rattle.router_trace.specs.Configuration.{opened}
 use Rattle.router_trace.specs.Connection.{conn, due}
 use Rattle.router_trace.specs.Deliveries.{Delivery, acts_found, outcome_held, outcome_in, joined_by, joined_to, called, terminal, decision, failed}
 use Rattle.router_trace.specs.DeliveryFrames.{kept_outcome}
-use Rattle.router_trace.specs.Trace.{Beginning, Entry, Trace, Did, Out, Took, Bound, Booked, Began, Put, Step, step_of, goes, puts, each_to}
+use Rattle.router_trace.specs.Trace.{Beginning, Entry, Trace, Did, Out, Took, Bound, Booked, Routed, Began, Put, Step, step_of, goes, puts, each_to}
 use Rattle.state_messages.specs.Messages.{copy_to, with_bound}
 use Rattle.resume_core.specs.Resuming.{entries_of, told_in, told_of, outcome_told, outcome_given, either_outcome, row_tag}
 use Rattle.reply_rows.specs.Acts.{acts_of, book_found, book_in, booked}
@@ -84,6 +84,7 @@ frames_end (Out c i ∷ later) t encoded = frames_end later t encoded
 frames_end (Took c n ∷ later) t encoded = frames_end later t encoded
 frames_end (Bound b ∷ later) t encoded = frames_end later t encoded
 frames_end (Booked acts full ∷ later) t encoded = frames_end later t encoded
+frames_end (Routed passage ∷ later) t encoded = frames_end later t encoded
 frames_end (Began g ∷ later) t encoded = frames_end later t encoded
 
 -- What a binding brings, the journal has as it is told.
@@ -347,6 +348,7 @@ each_in_row (Out c i ∷ t) kept encoded all = (item_in_row i t c kept.1 encoded
 each_in_row (Took c n ∷ t) kept encoded all = each_in_row t kept.1 encoded all
 each_in_row (Bound b ∷ t) kept encoded all = each_in_row t kept.1 encoded all
 each_in_row (Booked acts full ∷ t) kept encoded all = each_in_row t kept.1 encoded all
+each_in_row (Routed passage ∷ t) kept encoded all = each_in_row t kept.1 encoded all
 each_in_row (Began g ∷ t) kept encoded all = each_in_row t kept.1 encoded all
 
 pub lives_have_told : InSmallLives RowsHaveWhatIsTold

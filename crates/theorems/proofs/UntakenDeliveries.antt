@@ -5,7 +5,8 @@ use Rattle.router_trace.specs.declared.binding.Binding.{Binding}
 use Rattle.router_trace.specs.declared.binding.DeliveryName.{DeliveryName}
 use Rattle.router_trace.specs.declared.binding.Origin.{Origin}
 use Rattle.router_trace.specs.declared.handle.Attachment.{Attachment}
-use Rattle.router_trace.specs.Trace.{Entry, Did, Out, Took, Bound, Booked, Began}
+use Rattle.router_trace.specs.Routed.{passed_to, if_passed}
+use Rattle.router_trace.specs.Trace.{Entry, Did, Out, Took, Bound, Booked, Routed, Began}
 use Rattle.router_trace.specs.Links.{is_lost, has_number, attachments, newest_by, numbered}
 use Rattle.router_trace.specs.Deliveries.{Delivery, none_if_ended, ended_first, acts_found, channels_found, bindings, counters, holds_standing, origin_of, with_binding, name_of, name_in, same_name, number_named, delivery, called, unless_over, after_event, after_put, sending_by, sending, named_by, named, next_id_by, next_id, stands_on, rank_at, rank_in, rank_of, ranked, last_row, last_with}
 use Rattle.router_trace.specs.DeliveryFrames.{next_frame, largest_out, rest_of, first_transfer, later_transfer}
@@ -25,6 +26,7 @@ same_bindings (Out d i ∷ t) = same_bindings t
 same_bindings (Took d n ∷ t) = same_bindings t
 same_bindings (Bound b ∷ t) = ap (λ (n : ℕ). if is_none (holds_standing b.kind) then n + 1 else n) (same_bindings t)
 same_bindings (Booked acts full ∷ t) = same_bindings t
+same_bindings (Routed passage ∷ t) = same_bindings t
 same_bindings (Began g ∷ t) = refl
 
 pub same_counters : (t : List Entry) → counters t ≡ counters (untaken t)
@@ -34,6 +36,7 @@ same_counters (Out d i ∷ t) = same_counters t
 same_counters (Took d n ∷ t) = same_counters t
 same_counters (Bound b ∷ t) = ap (λ (n : ℕ). if is_none b.row then n + 1 else n) (same_counters t)
 same_counters (Booked acts full ∷ t) = same_counters t
+same_counters (Routed passage ∷ t) = same_counters t
 same_counters (Began g ∷ t) = refl
 
 same_name_in : (t : List Entry) (b : Binding) → name_in t b ≡ name_in (untaken t) b
@@ -46,6 +49,7 @@ same_numbers (Out d i ∷ t) name = same_numbers t name
 same_numbers (Took d n ∷ t) name = same_numbers t name
 same_numbers (Bound b ∷ t) name = λ j. if is_none (holds_standing b.kind) && same_name (same_name_in t b j) name then Some (same_bindings t j + 1) else same_numbers t name j
 same_numbers (Booked acts full ∷ t) name = same_numbers t name
+same_numbers (Routed passage ∷ t) name = same_numbers t name
 same_numbers (Began g ∷ t) name = refl
 
 same_sending : (t : List Entry) (c o h : ℕ) → sending t c o h ≡ sending (untaken t) c o h
@@ -55,6 +59,7 @@ same_sending (Out d i ∷ t) c o h = λ j. if d == c then sending_by (λ name. s
 same_sending (Took d n ∷ t) c o h = same_sending t c o h
 same_sending (Bound b ∷ t) c o h = same_sending t c o h
 same_sending (Booked acts full ∷ t) c o h = same_sending t c o h
+same_sending (Routed passage ∷ t) c o h = same_sending t c o h
 same_sending (Began g ∷ t) c o h = refl
 
 pub same_named : (t : List Entry) (c o id : ℕ) → named t c o id ≡ named (untaken t) c o id
@@ -64,6 +69,7 @@ same_named (Out d i ∷ t) c o id = λ j. if d == c then named_by (λ name. same
 same_named (Took d n ∷ t) c o id = same_named t c o id
 same_named (Bound b ∷ t) c o id = same_named t c o id
 same_named (Booked acts full ∷ t) c o id = same_named t c o id
+same_named (Routed passage ∷ t) c o id = same_named t c o id
 same_named (Began g ∷ t) c o id = refl
 
 same_next_id : (t : List Entry) (c o : ℕ) → next_id t c o ≡ next_id (untaken t) c o
@@ -73,6 +79,7 @@ same_next_id (Out d i ∷ t) c o = ap (λ (n : ℕ). if d == c then next_id_by i
 same_next_id (Took d n ∷ t) c o = same_next_id t c o
 same_next_id (Bound b ∷ t) c o = same_next_id t c o
 same_next_id (Booked acts full ∷ t) c o = same_next_id t c o
+same_next_id (Routed passage ∷ t) c o = ap (λ (n : ℕ). if_passed (λ i next. next_id_by i o next) (passed_to passage c) n) (same_next_id t c o)
 same_next_id (Began g ∷ t) c o = refl
 
 same_ended : (t : List Entry) → ended_first t ≡ ended_first (untaken t)
@@ -82,6 +89,7 @@ same_ended (Out d i ∷ t) = refl
 same_ended (Took d n ∷ t) = same_ended t
 same_ended (Bound b ∷ t) = refl
 same_ended (Booked acts full ∷ t) = refl
+same_ended (Routed passage ∷ t) = refl
 same_ended (Began g ∷ t) = refl
 
 same_acts_found : (t : List Entry) → acts_found t ≡ acts_found (untaken t)
@@ -91,6 +99,7 @@ same_acts_found (Out d i ∷ t) = refl
 same_acts_found (Took d n ∷ t) = same_acts_found t
 same_acts_found (Bound b ∷ t) = refl
 same_acts_found (Booked acts full ∷ t) = refl
+same_acts_found (Routed passage ∷ t) = refl
 same_acts_found (Began g ∷ t) = refl
 
 same_channels : (t : List Entry) (c p : ℕ) → channels_found t c p ≡ channels_found (untaken t) c p
@@ -103,6 +112,7 @@ same_last_row (Out d i ∷ t) = same_last_row t
 same_last_row (Took d n ∷ t) = same_last_row t
 same_last_row (Bound b ∷ t) = ap (last_with b) (same_last_row t)
 same_last_row (Booked acts full ∷ t) = same_last_row t
+same_last_row (Routed passage ∷ t) = same_last_row t
 same_last_row (Began g ∷ t) = refl
 
 same_rank_in : (t : List Entry) (b : Binding) → rank_in t b ≡ rank_in (untaken t) b
@@ -116,6 +126,7 @@ same_delivery (Out c i ∷ t) n = λ j. option_and_then (λ d. unless_over (afte
 same_delivery (Took c k ∷ t) n = same_delivery t n
 same_delivery (Bound b ∷ t) n = λ j. with_binding (holds_standing b.kind) (same_name_in t b j) (same_rank_in t b j) b (same_bindings t j + 1 == n) (same_delivery t n j)
 same_delivery (Booked acts full ∷ t) n = same_delivery t n
+same_delivery (Routed passage ∷ t) n = same_delivery t n
 same_delivery (Began g ∷ t) n = refl
 
 same_ranks : (t : List Entry) (n : ℕ) → rank_at t n ≡ rank_at (untaken t) n
@@ -132,6 +143,7 @@ same_claims (Out d i ∷ t) c o id = ap (λ (v : Option Claim). if d == c then c
 same_claims (Took d n ∷ t) c o id = same_claims t c o id
 same_claims (Bound b ∷ t) c o id = ap (bind_claim (origin_of b.kind) c o id) (same_claims t c o id)
 same_claims (Booked acts full ∷ t) c o id = same_claims t c o id
+same_claims (Routed passage ∷ t) c o id = same_claims t c o id
 same_claims (Began g ∷ t) c o id = refl
 
 pub same_numbered : (t : List Entry) (n : ℕ) → numbered t n ≡ numbered (untaken t) n
@@ -141,6 +153,7 @@ same_numbered (Out d i ∷ t) n = λ j. newest_by i d (same_attachments t j + 1)
 same_numbered (Took d k ∷ t) n = same_numbered t n
 same_numbered (Bound b ∷ t) n = same_numbered t n
 same_numbered (Booked acts full ∷ t) n = same_numbered t n
+same_numbered (Routed passage ∷ t) n = same_numbered t n
 same_numbered (Began g ∷ t) n = refl
 
 -- outcomes to producers

@@ -6,7 +6,7 @@ use Rattle.route_credit.specs.Granting.{choice, grants_of}
 use Rattle.route_credit.specs.Pool.{copies}
 use Rattle.state_pools.specs.Sharing.{Figure, consumer, producer, sharing}
 use Rattle.router_trace.specs.declared.handle.Attachment.{Attachment}
-use Rattle.router_trace.specs.Trace.{Entry, Did, Out, Took, Bound, Booked, Began}
+use Rattle.router_trace.specs.Trace.{Entry, Did, Out, Took, Bound, Booked, Routed, Began}
 use Rattle.route_table.specs.Places.{distribution_of}
 use Rattle.router_trace.specs.Configuration.{routing, distribution}
 use Rattle.router_trace.specs.Links.{Link, Happened, sends, receives, if_attached, numbered, place_of, attachments}
@@ -31,6 +31,7 @@ same_routing (Out c i ∷ t) = same_routing t
 same_routing (Took c n ∷ t) = same_routing t
 same_routing (Bound b ∷ t) = same_routing t
 same_routing (Booked acts full ∷ t) = same_routing t
+same_routing (Routed passage ∷ t) = same_routing t
 same_routing (Began g ∷ t) = refl
 
 pub same_distribution : (t : List Entry) (address : List ℕ) → distribution t address ≡ distribution (untaken t) address
@@ -76,6 +77,7 @@ same_last (Began g ∷ t) address = refl
 same_last (Bound b ∷ t) address =
     λ j. if is_message b.kind && is_of address (same_link t b.consumer.conn.0 b.consumer.channel b.consumer.handle j) b.consumer.number then b.consumer.number else same_last t address j
 same_last (Booked acts full ∷ t) address = same_last t address
+same_last (Routed passage ∷ t) address = same_last t address
 
 same_pool : (t : List Entry) (address : List ℕ) → pool_of t address ≡ pool_of (untaken t) address
 same_pool t address = λ j. sharing (same_distribution t address j) (λ n. same_figure t n j) (same_attachments t j) (same_last t address j) address

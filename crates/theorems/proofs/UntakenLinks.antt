@@ -5,13 +5,13 @@ use Rattle.amqp_model.specs.declared.perf.Attach.{Attach as AnAttach}
 use Rattle.book_model.specs.declared.terminus.LinkKey.{LinkKey}
 use Rattle.router_trace.specs.declared.handle.Asked.{Asked}
 use Rattle.router_trace.specs.declared.handle.Attachment.{Attachment}
-use Rattle.router_trace.specs.Trace.{Entry, Did, Out, Took, Bound, Booked, Began}
-use Rattle.router_trace.specs.Links.{Link, durable_key, is_durable_at, holds_durable, asked, asked_at, is_lost, answers_by, answered_handle, their_handle_at, their_handle_after, their_handle, is_taken, attachments, key_of, key_at, link_at, link_after, link, has_number, if_attached, same_key, newest_by, last_of_key, holder, link_place_by, link_place, handle_max_at, told_handle_max, most_after, highest_handle, is_free_handle, first_free_below, free_handle}
+use Rattle.router_trace.specs.Trace.{Entry, Did, Out, Took, Bound, Booked, Routed, Began}
+use Rattle.router_trace.specs.Links.{Link, durable_key, is_durable_at, holds_durable, asked, asked_at, is_lost, answers_by, answered_handle, their_handle_at, their_handle_after, their_handle, is_taken, attachments, key_of, key_at, link_at, link_after, link, has_number, if_attached, same_key, newest_by, last_of_key, holder, link_place_by, link_place, handle_max_at, told_handle_max, most_after, most_at, highest_handle, is_free_handle, first_free_below, free_handle}
 use Rattle.router_trace.specs.Peers.{user_at, user, container_at, Container, container, largest_frame}
 use Rattle.router_trace.specs.Sessions.{unless_close}
 use Rattle.state_messages.specs.Asking.{is_consumer, if_consumer, consumer_with}
 use Rattle.theorems.specs.Takes.{untaken}
-use Rattle.theorems.proofs.Untaken.{same_theirs}
+use Rattle.theorems.proofs.Untaken.{same_awaited, same_theirs}
 
 -- what is known of peers
 
@@ -22,6 +22,7 @@ same_user (Out d i ∷ t) c = ap (λ (v : Option (List ℕ)). if d == c then unl
 same_user (Took d n ∷ t) c = same_user t c
 same_user (Bound b ∷ t) c = same_user t c
 same_user (Booked acts full ∷ t) c = same_user t c
+same_user (Routed passage ∷ t) c = same_user t c
 same_user (Began g ∷ t) c = refl
 
 same_container : (t : List Entry) (c : ℕ) → container t c ≡ container (untaken t) c
@@ -31,6 +32,7 @@ same_container (Out d i ∷ t) c = ap (λ (v : Option Container). if d == c then
 same_container (Took d n ∷ t) c = same_container t c
 same_container (Bound b ∷ t) c = same_container t c
 same_container (Booked acts full ∷ t) c = same_container t c
+same_container (Routed passage ∷ t) c = same_container t c
 same_container (Began g ∷ t) c = refl
 
 pub same_largest : (t : List Entry) (c : ℕ) → largest_frame t c ≡ largest_frame (untaken t) c
@@ -48,6 +50,7 @@ same_asked (Out d i ∷ t) c = ap (λ (v : Option Asked). if d == c then unless_
 same_asked (Took d n ∷ t) c = same_asked t c
 same_asked (Bound b ∷ t) c = same_asked t c
 same_asked (Booked acts full ∷ t) c = same_asked t c
+same_asked (Routed passage ∷ t) c = same_asked t c
 same_asked (Began g ∷ t) c = refl
 
 same_answers : (t : List Entry) (c o h : ℕ) → answered_handle t c o h ≡ answered_handle (untaken t) c o h
@@ -57,6 +60,7 @@ same_answers (Out d i ∷ t) c o h = λ j. if d == c then answers_by i o h (same
 same_answers (Took d n ∷ t) c o h = same_answers t c o h
 same_answers (Bound b ∷ t) c o h = same_answers t c o h
 same_answers (Booked acts full ∷ t) c o h = same_answers t c o h
+same_answers (Routed passage ∷ t) c o h = same_answers t c o h
 same_answers (Began g ∷ t) c o h = refl
 
 pub same_handle : (t : List Entry) (c o p : ℕ) → their_handle t c o p ≡ their_handle (untaken t) c o p
@@ -67,6 +71,7 @@ same_handle (Out d i ∷ t) c o p =
 same_handle (Took d n ∷ t) c o p = same_handle t c o p
 same_handle (Bound b ∷ t) c o p = same_handle t c o p
 same_handle (Booked acts full ∷ t) c o p = same_handle t c o p
+same_handle (Routed passage ∷ t) c o p = same_handle t c o p
 same_handle (Began g ∷ t) c o p = refl
 
 same_told : (t : List Entry) (c : ℕ) → told_handle_max t c ≡ told_handle_max (untaken t) c
@@ -76,15 +81,17 @@ same_told (Out d i ∷ t) c = ap (λ (v : Option ℕ). if d == c then unless_clo
 same_told (Took d n ∷ t) c = same_told t c
 same_told (Bound b ∷ t) c = same_told t c
 same_told (Booked acts full ∷ t) c = same_told t c
+same_told (Routed passage ∷ t) c = same_told t c
 same_told (Began g ∷ t) c = refl
 
 same_highest : (t : List Entry) (c o : ℕ) → highest_handle t c o ≡ highest_handle (untaken t) c o
 same_highest [] c o = refl
-same_highest (Did s ∷ t) c o = ap (λ (v : Option ℕ). if is_lost s.event c then None else v) (same_highest t c o)
+same_highest (Did s ∷ t) c o = λ j. most_at s.event c o (λ p. same_theirs t c p j) (same_awaited t c o j) (same_highest t c o j)
 same_highest (Out d i ∷ t) c o = λ j. if d == c then most_after i o (same_told t c j) (same_highest t c o j) else same_highest t c o j
 same_highest (Took d n ∷ t) c o = same_highest t c o
 same_highest (Bound b ∷ t) c o = same_highest t c o
 same_highest (Booked acts full ∷ t) c o = same_highest t c o
+same_highest (Routed passage ∷ t) c o = same_highest t c o
 same_highest (Began g ∷ t) c o = refl
 
 pub same_free_handle : (t : List Entry) (c o : ℕ) → free_handle t c o ≡ free_handle (untaken t) c o
@@ -100,6 +107,7 @@ same_attachments (Out d i ∷ t) = ap (λ (n : ℕ). if is_taken i then n + 1 el
 same_attachments (Took d n ∷ t) = same_attachments t
 same_attachments (Bound b ∷ t) = same_attachments t
 same_attachments (Booked acts full ∷ t) = same_attachments t
+same_attachments (Routed passage ∷ t) = same_attachments t
 same_attachments (Began g ∷ t) = refl
 
 pub same_link : (t : List Entry) (c o h : ℕ) → link t c o h ≡ link (untaken t) c o h
@@ -110,6 +118,7 @@ same_link (Out d i ∷ t) c o h =
 same_link (Took d n ∷ t) c o h = same_link t c o h
 same_link (Bound b ∷ t) c o h = same_link t c o h
 same_link (Booked acts full ∷ t) c o h = same_link t c o h
+same_link (Routed passage ∷ t) c o h = same_link t c o h
 same_link (Began g ∷ t) c o h = refl
 
 pub same_link_place : (t : List Entry) (c o p : ℕ) → link_place t c o p ≡ link_place (untaken t) c o p
@@ -124,6 +133,7 @@ same_last k (Out d i ∷ t) = λ j. newest_by i d (same_attachments t j + 1) (λ
 same_last k (Took d n ∷ t) = same_last k t
 same_last k (Bound x ∷ t) = same_last k t
 same_last k (Booked acts full ∷ t) = same_last k t
+same_last k (Routed passage ∷ t) = same_last k t
 same_last k (Began g ∷ t) = refl
 
 pub same_attached : (t : List Entry) (v : Option Attachment) → if_attached t v ≡ if_attached (untaken t) v

@@ -53,7 +53,7 @@ use Rattle.reply_rows.specs.Asking.{held_key, if_sends}
 use Rattle.reply_rows.specs.Resuming.{asked_key, key_taken, key_by, key_in, taken_key, attach_in, if_receives, resumed_key, map_for}
 use Rattle.router_reply.specs.Replies.{map_told, stolen_by, attach_answer, taken_after, taken, refused, row_found, bound_for, copied_for, links_put, item_put}
 use Rattle.theorems.specs.Takes.{untaken}
-use Rattle.theorems.proofs.Untaken.{untaken_goes, same_place, same_free, same_journaled}
+use Rattle.theorems.proofs.Untaken.{untaken_goes, same_awaited, same_place, same_free, same_journaled}
 use Rattle.theorems.proofs.UntakenDeliveries.{same_named, same_delivery, same_called, same_claims, same_numbered}
 use Rattle.theorems.proofs.UntakenGrants.{same_distribution, same_choice, same_copies}
 use Rattle.theorems.proofs.UntakenLinks.{same_key_at, same_largest, same_free_handle, same_link, same_link_place, same_holder}
@@ -62,6 +62,7 @@ same_finds : (t : List Entry) (c : ℕ) → finds t c ≡ finds (untaken t) c
 same_finds t c = λ j. record {
   places = λ p. same_place t c p j;
   free_channel = same_free t c j;
+  awaits = λ own. is_some (same_awaited t c own j);
   links = λ o p. same_link_place t c o p j;
   free_handle = λ o. same_free_handle t c o j;
   claimed = λ o id. is_some (same_claims t c o id j);

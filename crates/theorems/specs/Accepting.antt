@@ -1,6 +1,6 @@
 -- Who accepted a durable message (AMQP 1.0 part 2, sections 2.6.12 and 2.6.13; part 3, section 3.4.2): the consumer of its row, by a disposition, or by the map
 -- of the attach with which its link came back. It may have been in an earlier run, since the book crosses a stop.
-use Rattle.std.specs.Prelude.{◌≡◌, ℕ, true, false, List, ◌∷◌, ◌++◌, Option, Some}
+use Rattle.std.specs.Prelude.{◌≡◌, ℕ, true, false, List, ◌∷◌, ◌++◌, Option, Some, None}
 use Rattle.amqp_model.specs.declared.perf.Attach.{Attach}
 use Rattle.amqp_model.specs.declared.perf.Disposition.{Disposition}
 use Rattle.amqp_model.specs.declared.perf.Perf.{Perf}
@@ -23,15 +23,16 @@ use Rattle.router_trace.specs.declared.event.ConnectionId.{ConnectionId}
 use Rattle.router_trace.specs.declared.event.Event.{Event}
 use Rattle.router_trace.specs.declared.event.Event.TheVariants as event
 use Rattle.router_trace.specs.Trace.{Trace}
-use Rattle.router_trace.specs.Deliveries.{Delivery, delivery, last_of}
+use Rattle.router_trace.specs.Deliveries.{Delivery, delivery, is_undecided, last_of}
 use Rattle.router_trace.specs.Sessions.{session_on}
 use Rattle.resume_core.specs.Resuming.{entries_of, told_of}
 use Rattle.reply_rows.specs.Booking.{wanted_key, wants_durable}
 use Rattle.reply_rows.specs.Acts.{acts_of, book_in, booked}
+use Rattle.theorems.specs.OwnConsumer.{WasBoundToOwn}
 use Rattle.theorems.specs.Told.{TellsOutcome}
 
--- By a disposition: one comes, as a receiver's, whose state is accepted; the row's delivery is undecided, stands on the session on which it comes, and has an id
--- in its range.
+-- By a disposition: one comes, as a receiver's, whose state is accepted; the row's delivery is undecided, stands on the
+-- session on which it comes, and has an id in its range; and its link is that of the row's own consumer.
 pub record ByDisposition (t : Trace) (e : Event) (row : RowNumber) : Type 0 where
   pub conn : ConnectionId
   pub channel : ℕ
@@ -45,6 +46,8 @@ pub record ByDisposition (t : Trace) (e : Event) (row : RowNumber) : Type 0 wher
   pub accepts : disposition.state ≡ Some state.Accepted
   pub there : delivery t number ≡ Some of
   pub its_row : of.name ≡ Row row
+  pub undecided : is_undecided of ≡ true
+  pub own : WasBoundToOwn t row of.link
   pub on_connection : of.link.conn.0 ≡ conn.0
   pub on_session : session_on t conn.0 channel ≡ Some of.link.channel
   pub has_id : of.id ≡ Some id
@@ -75,7 +78,8 @@ pub data Accepts (t : Trace) (e : Event) (row : RowNumber) : Type 0 where
   by_disposition : ByDisposition t e row → Accepts t e row
   by_map : ByMap t e row → Accepts t e row
 
--- A row was accepted, in this run or an earlier one: by an event with which its consumer accepted it, and whose acts decided it so.
+-- A row was accepted, in this run or an earlier one: by an event with which its consumer accepted it, and whose acts
+-- decided it so. The book had it before, and undecided.
 pub record WasAccepted (u : Trace) (row : RowNumber) : Type 0 where
   pub later : Trace
   pub event : Event
@@ -85,6 +89,12 @@ pub record WasAccepted (u : Trace) (row : RowNumber) : Type 0 where
   pub later_acts : List Act
   pub decides : acts_of before event ≡ earlier_acts ++ Decide (record { row = row; outcome = state.Accepted }) ∷ later_acts
   pub accepts : Accepts before event row
+  pub waiting : ARow
+  pub older : List ARow
+  pub newer : List ARow
+  pub in_the_book : (book_in before).rows ≡ older ++ waiting ∷ newer
+  pub its_number : waiting.number ≡ row
+  pub undecided : waiting.outcome ≡ None
 
 -- Each row of the book that is decided as accepted was accepted so.
 abbrev pub RowsAreAcceptedByConsumers : Trace → Type 0

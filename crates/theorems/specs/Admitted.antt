@@ -12,7 +12,7 @@ use Rattle.router_trace.specs.declared.binding.Origin.{Origin}
 use Rattle.router_trace.specs.Deliveries.{origin_of, is_message}
 use Rattle.router_trace.specs.Following.{link_of}
 use Rattle.router_trace.specs.Links.{durable_key}
-use Rattle.router_trace.specs.Trace.{Trace, Beginning, Did, Out, Took, Bound, Booked, Began}
+use Rattle.router_trace.specs.Trace.{Trace, Beginning, Did, Out, Took, Bound, Booked, Routed, Began}
 use Rattle.reply_rows.specs.Acts.{book_in}
 use Rattle.reply_rows.specs.Admitting.{terminus_for}
 use Rattle.theorems.specs.Came.{CameWhole}
@@ -67,6 +67,7 @@ times_bound (Out c i ∷ t) n = times_bound t n
 times_bound (Took c k ∷ t) n = times_bound t n
 times_bound (Bound b ∷ t) n = times_bound t n + (if is_message b.kind && is_row b.row n then 1 else 0)
 times_bound (Booked acts full ∷ t) n = times_bound t n
+times_bound (Routed passage ∷ t) n = times_bound t n
 times_bound (Began g ∷ t) n = times_bound t n
 
 -- each row is bound at most once by a message that came, and none that the book has yet to admit

@@ -1,10 +1,11 @@
 -- What is put out for one connection, whatever happens to others.
-use Rattle.std.specs.Prelude.{◌≡◌, ℕ, Bool, true, false, ◌==◌, if◌then◌else◌, List, [], ◌∷◌, filter}
+use Rattle.std.specs.Prelude.{◌≡◌, ℕ, Bool, true, false, ◌==◌, if◌then◌else◌, is_some, List, [], ◌∷◌, filter}
 use Rattle.std.specs.List.{list_any}
 use Rattle.router_trace.specs.Trace.{Beginning}
 use Rattle.router_trace.specs.declared.event.Event.{Event}
 use Rattle.router_trace.specs.declared.event.Event.TheVariants as event
-use Rattle.router_trace.specs.Trace.{Trace, Did, Out, Took, Bound, Booked, Began, Step}
+use Rattle.router_trace.specs.Routed.{passed_to}
+use Rattle.router_trace.specs.Trace.{Trace, Did, Out, Took, Bound, Booked, Routed, Began, Step}
 use Rattle.router_trace.specs.Configuration.{beginning}
 use Rattle.router_trace.specs.Connection.{conn, is_full, is_live}
 use Rattle.router_core.specs.Replies.{handled}
@@ -35,6 +36,7 @@ own_part c (Out d i ∷ t) = if d == c then Out d i ∷ own_part c t else own_pa
 own_part c (Took d n ∷ t) = own_part c t
 own_part c (Bound b ∷ t) = own_part c t
 own_part c (Booked acts full ∷ t) = own_part c t
+own_part c (Routed passage ∷ t) = if is_some (passed_to passage c) then Routed passage ∷ own_part c t else own_part c t
 own_part c (Began g ∷ t) = Began g ∷ own_part c t
 
 abbrev pub comes_up : ℕ → Event → Bool

@@ -5,10 +5,10 @@ use Rattle.book_model.specs.Sound.{IsSound}
 use Rattle.router_trace.specs.declared.event.Event.{Event}
 use Rattle.router_trace.specs.Trace.{Trace, Beginning}
 use Rattle.router_trace.specs.Configuration.{beginning}
-use Rattle.router_core.specs.declared.driving.Sent.{Sent}
-use Rattle.router_core.specs.Runs.{Run}
 use Rattle.router_core.specs.Moves.{IsTrace}
 use Rattle.core_machine.specs.Moves.{Move}
+use Rattle.core_runs.specs.declared.driving.Sent.{Sent}
+use Rattle.core_runs.specs.Runs.{Run}
 use Rattle.core_player.specs.declared.script.Step.{Step}
 use Rattle.router_play.specs.Script.{Scene, opening, Plays}
 use Rattle.theorems.specs.Lives.{GoesInTurn, InLives}

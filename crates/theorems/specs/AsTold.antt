@@ -18,7 +18,7 @@ use Rattle.router_trace.specs.declared.binding.DeliveryName.{DeliveryName}
 use Rattle.router_trace.specs.declared.binding.DeliveryName.TheVariants.{Row, Counter}
 use Rattle.router_trace.specs.declared.event.Event.{Event}
 use Rattle.router_trace.specs.declared.event.Event.TheVariants as event
-use Rattle.router_trace.specs.Trace.{Trace, Did, Out, Took, Bound, Booked, Began}
+use Rattle.router_trace.specs.Trace.{Trace, Did, Out, Took, Bound, Booked, Routed, Began}
 use Rattle.router_trace.specs.DeliveryFrames.{kept_outcome}
 use Rattle.reply_rows.specs.Acts.{book_in}
 use Rattle.theorems.specs.Each.{EachOut}
@@ -68,6 +68,7 @@ FramesAreEncoded (Out c i ∷ t) = FramesAreEncoded t
 FramesAreEncoded (Took c n ∷ t) = FramesAreEncoded t
 FramesAreEncoded (Bound b ∷ t) = FramesAreEncoded t
 FramesAreEncoded (Booked acts full ∷ t) = FramesAreEncoded t
+FramesAreEncoded (Routed passage ∷ t) = FramesAreEncoded t
 FramesAreEncoded (Began g ∷ t) = FramesAreEncoded t
 
 -- Where a disposition of the router reports the outcome of a delivery with a row, the book has that row, with the very state that is told.

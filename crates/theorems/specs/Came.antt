@@ -27,7 +27,7 @@ use Rattle.router_trace.specs.declared.channel.PeerChannel.TheVariants.{Mapped}
 use Rattle.router_trace.specs.declared.event.ConnectionId.{ConnectionId}
 use Rattle.journal_store.specs.Acting.{journal_outcome}
 use Rattle.router_trace.specs.declared.event.Event.TheVariants as event
-use Rattle.router_trace.specs.Trace.{Trace, Entry, Did, Out, Took, Bound, Booked, Began, Step}
+use Rattle.router_trace.specs.Trace.{Trace, Entry, Did, Out, Took, Bound, Booked, Routed, Began, Step}
 use Rattle.router_trace.specs.declared.binding.DeliveryName.TheVariants.{Row}
 use Rattle.router_trace.specs.declared.binding.TakenUp.{TakenUp}
 use Rattle.router_trace.specs.Deliveries.{Delivery, delivery as delivery_in, origin_of, joined_by, acts_found, called, outcome_among, outcome_as, origin_in, told_in, early_in, owned_in}
@@ -58,6 +58,7 @@ just_handled (Out c i ∷ t) = just_handled t
 just_handled (Took c n ∷ t) = None
 just_handled (Bound b ∷ t) = None
 just_handled (Booked acts full ∷ t) = None
+just_handled (Routed passage ∷ t) = just_handled t
 just_handled (Began g ∷ t) = None
 
 -- how many messages were bound after the last event handled
@@ -68,6 +69,7 @@ bound_since (Out c i ∷ t) = bound_since t
 bound_since (Took c n ∷ t) = bound_since t
 bound_since (Bound b ∷ t) = bound_since t + 1
 bound_since (Booked acts full ∷ t) = bound_since t
+bound_since (Routed passage ∷ t) = bound_since t
 bound_since (Began g ∷ t) = 0
 
 -- and how many of them to the link of a consumer, by its number
@@ -78,6 +80,7 @@ bound_to_since (Out c i ∷ t) n = bound_to_since t n
 bound_to_since (Took c k ∷ t) n = bound_to_since t n
 bound_to_since (Bound b ∷ t) n = bound_to_since t n + (if b.consumer.number == n then 1 else 0)
 bound_to_since (Booked acts full ∷ t) n = bound_to_since t n
+bound_to_since (Routed passage ∷ t) n = bound_to_since t n
 bound_to_since (Began g ∷ t) n = 0
 
 -- A message is complete, on a link of a connection on which the peer is the sender, by the router's channel and handle: the frame just received,
@@ -172,6 +175,7 @@ last_found (Out c i ∷ t) = last_found t
 last_found (Took c n ∷ t) = last_found t
 last_found (Bound b ∷ t) = last_found t
 last_found (Booked acts full ∷ t) = last_found t
+last_found (Routed passage ∷ t) = last_found t
 last_found (Began g ∷ t) = []
 
 -- A row is bound again when a consumer's durable link takes it up: the book that the attach found has it for the terminus

@@ -8,7 +8,7 @@ use Rattle.amqp_model.specs.declared.item.Item.{Item}
 use Rattle.amqp_model.specs.declared.item.Item.TheVariants as item
 use Rattle.router_trace.specs.declared.binding.Binding.{Binding}
 use Rattle.router_trace.specs.declared.binding.DeliveryName.{DeliveryName}
-use Rattle.router_trace.specs.Trace.{Trace, Did, Out, Took, Bound, Booked, Began, IsOneRun}
+use Rattle.router_trace.specs.Trace.{Trace, Did, Out, Took, Bound, Booked, Routed, Began, IsOneRun}
 use Rattle.router_trace.specs.Links.{Link, link}
 use Rattle.router_trace.specs.Following.{is_sending}
 use Rattle.router_trace.specs.Deliveries.{Delivery, bindings, counters, holds_standing, number_named, delivery, sending, carried, tag_in, tag_of, tagged, is_number}
@@ -85,6 +85,7 @@ bytes_out (Out c i ∷ t) n = bytes_by (number_named t) i n (sending t c) (bytes
 bytes_out (Took c k ∷ t) n = bytes_out t n
 bytes_out (Bound b ∷ t) n = bytes_out t n
 bytes_out (Booked acts full ∷ t) n = bytes_out t n
+bytes_out (Routed passage ∷ t) n = bytes_out t n
 bytes_out (Began g ∷ t) n = []
 
 -- It is a beginning of the message that was bound, and after a frame that says that no more are to come it is the whole message.

@@ -6,7 +6,7 @@ use Rattle.amqp_session.specs.Serials.{distance}
 use Rattle.amqp_link.specs.Credit.{count, credit}
 use Rattle.amqp_model.specs.declared.item.Item.{Item}
 use Rattle.amqp_model.specs.declared.item.Item.TheVariants as item
-use Rattle.router_trace.specs.Trace.{Trace, Did, Out, Took, Bound, Booked, Began}
+use Rattle.router_trace.specs.Trace.{Trace, Did, Out, Took, Bound, Booked, Routed, Began}
 use Rattle.router_trace.specs.Links.{Link, Happened, sends, receives, link}
 
 -- Before each transfer put out that starts a delivery the link's remaining credit is at least 1; each is put out on
@@ -55,4 +55,5 @@ WithinCredit (Out c i ∷ t) = within_credit i (link t c) × WithinCredit t
 WithinCredit (Took c n ∷ t) = WithinCredit t
 WithinCredit (Bound b ∷ t) = WithinCredit t
 WithinCredit (Booked acts full ∷ t) = WithinCredit t
+WithinCredit (Routed passage ∷ t) = WithinCredit t
 WithinCredit (Began g ∷ t) = WithinCredit t

@@ -6,3 +6,4 @@ pub use Rattle.theorems.specs.OwnRow.{TellsItsOwnRow}
 pub use Rattle.theorems.specs.Accepting.{RowsAreAcceptedByConsumers, AcceptedIsTrue}
 pub use Rattle.theorems.specs.Mapped.{MapIsOfBook, MapIsTrue}
 pub use Rattle.theorems.specs.OwnConsumer.{GoesToOwnConsumer, NumbersAreGivenOnce}
+pub use Rattle.theorems.specs.ToldRightly.{ToldRightly}

@@ -16,7 +16,7 @@ use Rattle.book_model.specs.Book.{BookView, empty_book, row_at, is_undecided}
 use Rattle.journal_store.specs.Acting.{journal_outcome}
 use Rattle.router_trace.specs.declared.binding.DeliveryName.{DeliveryName}
 use Rattle.router_trace.specs.declared.binding.DeliveryName.TheVariants.{Row, Counter}
-use Rattle.router_trace.specs.Trace.{Trace, Beginning, Did, Out, Took, Bound, Booked, Began}
+use Rattle.router_trace.specs.Trace.{Trace, Beginning, Did, Out, Took, Bound, Booked, Routed, Began}
 use Rattle.router_trace.specs.DeliveryFrames.{kept_outcome}
 use Rattle.reply_rows.specs.Acts.{book_in}
 use Rattle.theorems.specs.Each.{EachOut}
@@ -74,6 +74,7 @@ times_decided (Out c i ∷ t) n = times_decided t n
 times_decided (Took c k ∷ t) n = times_decided t n
 times_decided (Bound b ∷ t) n = times_decided t n
 times_decided (Booked acts full ∷ t) n = times_decided t n + times_in acts n
+times_decided (Routed passage ∷ t) n = times_decided t n
 times_decided (Began g ∷ t) n = times_decided t n
 
 -- Each row is decided at most once: not as long as it may still be decided, and not if it might not when the router was opened.

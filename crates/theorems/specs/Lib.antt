@@ -22,6 +22,7 @@ pub mod OwnRow
 pub mod Accepting
 pub mod Mapped
 pub mod OwnConsumer
+pub mod ToldRightly
 pub mod Keeping
 pub mod Admitted
 pub mod Order

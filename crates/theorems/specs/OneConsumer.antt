@@ -6,7 +6,7 @@ use Rattle.router_trace.specs.declared.binding.Binding.{Binding}
 use Rattle.router_trace.specs.declared.binding.DeliveryName.{DeliveryName}
 use Rattle.router_trace.specs.declared.binding.DeliveryName.TheVariants.{Row}
 use Rattle.router_trace.specs.declared.binding.Origin.{Origin}
-use Rattle.router_trace.specs.Trace.{Trace, Did, Out, Took, Bound, Booked, Began, IsOneRun}
+use Rattle.router_trace.specs.Trace.{Trace, Did, Out, Took, Bound, Booked, Routed, Began, IsOneRun}
 use Rattle.router_trace.specs.Deliveries.{Delivery, has_row, either_origin, origin_of, holds_standing, joins_standing, presettles, bindings, name_in, delivery}
 
 -- where an outcome is still to be reported: to the producer's delivery, or nowhere
@@ -26,6 +26,7 @@ joined_in (Took c k ∷ later) name = joined_in later name
 joined_in (Bound b ∷ later) name =
     if is_row_of b.row name then either_origin (joins_standing b.kind) (joined_in later name) else joined_in later name
 joined_in (Booked acts full ∷ later) name = joined_in later name
+joined_in (Routed passage ∷ later) name = joined_in later name
 joined_in (Began g ∷ later) name = joined_in later name
 
 -- A delivery is of what was bound: it goes to the link of the consumer that the message was bound to, with the payload

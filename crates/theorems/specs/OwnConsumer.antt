@@ -15,8 +15,8 @@ use Rattle.router_trace.specs.declared.binding.Binding.{Binding}
 use Rattle.router_trace.specs.declared.binding.DeliveryName.TheVariants.{Row}
 use Rattle.router_trace.specs.declared.handle.Attachment.{Attachment}
 use Rattle.router_trace.specs.Deliveries.{is_message}
-use Rattle.router_trace.specs.Links.{Link, durable_key}
-use Rattle.router_trace.specs.Trace.{Trace, Did, Out, Took, Bound, Booked, Began, IsOneRun}
+use Rattle.router_trace.specs.Links.{Link, durable_key, link}
+use Rattle.router_trace.specs.Trace.{Trace, Did, Out, Took, Bound, Booked, Routed, Began, IsOneRun}
 use Rattle.theorems.specs.Admitted.{IsAdmitted}
 use Rattle.theorems.specs.Carried.{CarriesMessage}
 
@@ -62,10 +62,26 @@ pub record IsOwnConsumer (t : Trace) (row : RowNumber) (a : Attachment) (l : Lin
   pub was_admitted : WasDone t (Admit admission)
   pub consumer : IsConsumer admission.consumer t row admission a l
 
--- Each transfer that the router puts out for a delivery with a row (`CarriesMessage`) goes to the link of the row's consumer.
+-- A row was bound in this run, last to the link of this attachment, which was attached then, and was that of the row's
+-- consumer.
+pub record WasBoundToOwn (t : Trace) (row : RowNumber) (a : Attachment) : Type 0 where
+  pub later : Trace
+  pub binding : Binding
+  pub before : Trace
+  pub trace : t ≡ later ++ Bound binding ∷ before
+  pub one_run : IsOneRun later
+  pub its_row : binding.row ≡ Some row
+  pub consumer : binding.consumer ≡ a
+  pub attached : Link
+  pub on_link : link before a.conn.0 a.channel a.handle ≡ Some attached
+  pub its_number : attached.number ≡ a.number
+  pub own : IsOwnConsumer t row a attached
+
+-- Each transfer that the router puts out carries a message (`CarriesMessage`), and if that has a row it goes to the
+-- link of the row's consumer.
 abbrev pub perf_goes_to_own : Perf → Trace → ℕ → ℕ → List ℕ → Type 0
 perf_goes_to_own (perf.Transfer x) t c own payload =
-    (carries : CarriesMessage t c own x payload) (row : RowNumber) → carries.of.name ≡ Row row → IsOwnConsumer t row carries.of.link carries.attached
+    (carries : CarriesMessage t c own x payload) × ((row : RowNumber) → carries.of.name ≡ Row row → IsOwnConsumer t row carries.of.link carries.attached)
 perf_goes_to_own _ t c own payload = Unit {0}
 
 abbrev pub GoesToOwnConsumer : Trace → ℕ → Item → Type 0
@@ -92,6 +108,7 @@ times_done does (Out c i ∷ t) n = times_done does t n
 times_done does (Took c k ∷ t) n = times_done does t n
 times_done does (Bound b ∷ t) n = times_done does t n
 times_done does (Booked acts full ∷ t) n = times_done does t n + times_among does acts n
+times_done does (Routed passage ∷ t) n = times_done does t n
 times_done does (Began g ∷ t) n = times_done does t n
 
 pub record IsGivenOnce (u : Trace) (n : ℕ) : Type 0 where

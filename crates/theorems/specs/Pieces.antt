@@ -2,7 +2,7 @@
 use Rattle.std.specs.Prelude.{◌≡◌, ℕ, false, ◌==◌, if◌then◌else◌, List, [], ◌∷◌, ◌++◌}
 use Rattle.route_table.specs.Settings.{Settings}
 use Rattle.router_trace.specs.declared.event.ConnectionId.{ConnectionId}
-use Rattle.router_trace.specs.Trace.{Trace, Did, Out, Took, Bound, Booked, Began}
+use Rattle.router_trace.specs.Trace.{Trace, Did, Out, Took, Bound, Booked, Routed, Began}
 use Rattle.router_trace.specs.Connection.{conn, is_full}
 use Rattle.theorems.specs.Takes.{untaken}
 use Rattle.core_player.specs.declared.script.Step.{Step}
@@ -36,6 +36,7 @@ AlwaysRoom (Out c i ∷ t) = AlwaysRoom t
 AlwaysRoom (Took c n ∷ t) = AlwaysRoom t
 AlwaysRoom (Bound b ∷ t) = AlwaysRoom t
 AlwaysRoom (Booked acts full ∷ t) = AlwaysRoom t
+AlwaysRoom (Routed passage ∷ t) = AlwaysRoom t
 AlwaysRoom (Began g ∷ t) = AlwaysRoom t
 
 -- Pieces make no difference: two scripts that differ only in how bytes of a connection are cut, whether into many

@@ -10,12 +10,12 @@ use Rattle.router_trace.specs.Trace.{Trace, Beginning}
 use Rattle.router_trace.specs.Configuration.{opened}
 use Rattle.reply_rows.specs.Acts.{book_in}
 use Rattle.core_machine.specs.Moves.{Move}
-use Rattle.router_core.specs.declared.driving.Driven.{Driven}
-use Rattle.router_core.specs.declared.driving.Sent.{Sent}
 use Rattle.router_core.specs.declared.router.Core.{Core}
 use Rattle.router_core.specs.Handling.{Fits, id_of, store_of}
-use Rattle.router_core.specs.Leaving.{IsLeftAfter, IsLeftBy, LeftBy}
-use Rattle.router_core.specs.Runs.{Run}
+use Rattle.core_runs.specs.declared.driving.Driven.{Driven}
+use Rattle.core_runs.specs.declared.driving.Sent.{Sent}
+use Rattle.core_runs.specs.Leaving.{IsLeftAfter, IsLeftBy, LeftBy}
+use Rattle.core_runs.specs.Runs.{Run}
 use Rattle.theorems.specs.Lives.{Life, Lives}
 
 -- A kind of two files that stop together, by what the trait `Twin` says of them: what a read gives, what a stop may

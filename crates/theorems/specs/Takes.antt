@@ -1,7 +1,7 @@
 -- Takes: when items are taken from the outboxes, and how many.
 use Rattle.std.specs.Prelude.{◌≡◌, ℕ, false, List, [], ◌∷◌}
 use Rattle.router_trace.specs.Trace.{Beginning}
-use Rattle.router_trace.specs.Trace.{Trace, Did, Out, Took, Bound, Booked, Began, Step}
+use Rattle.router_trace.specs.Trace.{Trace, Did, Out, Took, Bound, Booked, Routed, Began, Step}
 use Rattle.router_trace.specs.Configuration.{beginning}
 use Rattle.router_trace.specs.Connection.{conn, is_full}
 use Rattle.router_core.specs.Replies.{handled}
@@ -17,6 +17,7 @@ untaken (Out c i ∷ t) = Out c i ∷ untaken t
 untaken (Took c n ∷ t) = untaken t
 untaken (Bound b ∷ t) = Bound b ∷ untaken t
 untaken (Booked acts full ∷ t) = Booked acts full ∷ untaken t
+untaken (Routed passage ∷ t) = Routed passage ∷ untaken t
 untaken (Began g ∷ t) = Began g ∷ untaken t
 
 abbrev pub events_of : List Move → List Step

@@ -7,13 +7,13 @@ use Rattle.amqp_model.specs.declared.state.DeliveryState.{DeliveryState}
 use Rattle.disk_core.specs.Twin.{Contents}
 use Rattle.router_trace.specs.declared.event.Event.{Event}
 use Rattle.router_trace.specs.Trace.{Beginning}
-use Rattle.router_core.specs.declared.driving.Driven.{Driven}
 use Rattle.router_core.specs.declared.router.Core.{Core}
+use Rattle.core_runs.specs.declared.driving.Driven.{Driven}
 use Rattle.theorems.specs.Alike.{AnsweredAlone, SameWheneverTaken, SameHoweverCut}
 use Rattle.theorems.specs.AsTold.{IsSendable, IsKeptAsTold, OutcomeIsInRow, RowsHaveWhatIsTold}
 use Rattle.theorems.specs.Always.{Always, AlwaysFrom, AlwaysInTurn, AlwaysOnSound, InOneRun, InScripts, OnSound}
 use Rattle.theorems.specs.Credit.{WithinCredit}
-use Rattle.theorems.specs.Durable.{IsKeptFirst, RowIsAdmitted, EachRowIsBoundOnce, EachNewRowIsBound, OutcomeIsKept, EachOutcomeIsKept, EachRowIsDecidedOnce, RowsAreDecidedOnce, RowsAreAcceptedByConsumers, AcceptedIsTrue, MapIsOfBook, MapIsTrue, GoesToOwnConsumer, NumbersAreGivenOnce, TellsItsOwnRow}
+use Rattle.theorems.specs.Durable.{IsKeptFirst, RowIsAdmitted, EachRowIsBoundOnce, EachNewRowIsBound, OutcomeIsKept, EachOutcomeIsKept, EachRowIsDecidedOnce, RowsAreDecidedOnce, RowsAreAcceptedByConsumers, AcceptedIsTrue, MapIsOfBook, MapIsTrue, GoesToOwnConsumer, NumbersAreGivenOnce, TellsItsOwnRow, ToldRightly}
 use Rattle.theorems.specs.Each.{EachOut, EachBound}
 use Rattle.theorems.specs.Lives.{InLives, InSmallLives}
 use Rattle.theorems.specs.Locked.{Kind, UnderTheLock, UnderTheLockIfSmall}
@@ -82,6 +82,12 @@ abbrev pub AcceptedIsToldTruly : Type 0
 AcceptedIsToldTruly =
     InLives RowsAreAcceptedByConsumers × InSmallLives (EachOut AcceptedIsTrue) × AlwaysOnSound (EachOut MapIsOfBook) × InLives (EachOut MapIsTrue)
 
+-- What a producer is told of a durable delivery, by a disposition or by the map of an attach, is what was decided of its row,
+-- in this run or an earlier one: accepted only if the row's own consumer accepted it while it was undecided. Of a message
+-- without a row it is told that nobody takes it, and nothing else.
+abbrev pub ProducersAreToldRightly : Type 0
+ProducersAreToldRightly = InSmallLives (EachOut ToldRightly)
+
 -- What is sent of a row goes to the link of the consumer for which it was admitted, in this run or an earlier one; it
 -- was admitted once, and so its consumer's terminus was made once.
 abbrev pub RowsStayWithConsumers : Type 0
@@ -135,4 +141,5 @@ PiecesMakeNoDifference = SameHoweverCut
 -- beyond its granted credit.
 abbrev pub TheHeadline : {T : Type 0} → Stopping T → Core T → List (List Event) → Core T → Driven → Type 0
 TheHeadline d old groups new x =
-    AStopLeavesAPrefix d old groups new x × InLives RowsAreDecidedOnce × RowsStayWithConsumers × AcceptedIsToldTruly × InLives WithinCredit
+    AStopLeavesAPrefix d old groups new x × InLives RowsAreDecidedOnce × RowsStayWithConsumers × ProducersAreToldRightly
+    × AcceptedIsToldTruly × InLives WithinCredit

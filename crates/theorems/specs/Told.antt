@@ -13,7 +13,7 @@ use Rattle.amqp_link.specs.declared.part.Delivery.{Delivery as Told}
 use Rattle.book_model.specs.declared.row.RowNumber.{RowNumber}
 use Rattle.router_trace.specs.declared.binding.DeliveryName.{DeliveryName}
 use Rattle.router_trace.specs.declared.binding.Origin.{Origin}
-use Rattle.router_trace.specs.Trace.{Trace, Did, Out, Took, Bound, Booked, Began, IsOneRun}
+use Rattle.router_trace.specs.Trace.{Trace, Did, Out, Took, Bound, Booked, Routed, Began, IsOneRun}
 use Rattle.router_trace.specs.Deliveries.{Delivery, has_row, same_name, joins_standing, name_in, bindings, delivery, is_meant, origin_id}
 use Rattle.router_trace.specs.declared.condition.Condition.TheVariants.{NotImplemented}
 use Rattle.router_trace.specs.DeliveryFrames.{kept_outcome}
@@ -55,6 +55,7 @@ tellings (Out c i ∷ t) n = tellings t n + (if tells i c (delivery t n) then 1 
 tellings (Took c k ∷ t) n = tellings t n
 tellings (Bound b ∷ t) n = if is_joined (joins_standing b.kind) (name_in t b) (delivery t n) then 0 else tellings t n
 tellings (Booked acts full ∷ t) n = tellings t n
+tellings (Routed passage ∷ t) n = tellings t n
 tellings (Began g ∷ t) n = 0
 
 -- at most once in a run, whatever happens, and at most once more for each delivery with which the producer resumes it
@@ -98,8 +99,9 @@ abbrev pub unbound_state : Bool → DeliveryState
 unbound_state false = state.Released
 unbound_state true = state.Rejected (record { error = Some (error_of NotImplemented) })
 
--- Or a message that is just complete is released, or rejected on a multicast address: it is bound to none, as no consumer is chosen for it, or its link is
--- durable and it got no row. A durable link's isn't settled by that: its producer settles it.
+-- Or a message that is just complete is released, or rejected on a multicast address: it is bound to none, as no
+-- consumer is chosen for it, or its link is durable and it got no row. Either way its event admitted no row. A durable
+-- link's isn't settled by that: its producer settles it.
 pub record ReleasesMessage (t : Trace) (c own : ℕ) (x : Disposition) : Type 0 where
   pub handle : ℕ
   pub message : Told
@@ -109,6 +111,7 @@ pub record ReleasesMessage (t : Trace) (c own : ℕ) (x : Disposition) : Type 0 
   pub its_id : message.id ≡ Some x.first
   pub unsettled : is_claimed_on t c own handle x.first ≡ true
   pub unbound : IsUnbound t (link t c own handle) (row_found came.handled.found)
+  pub rowless : row_found came.handled.found ≡ None
   pub told : x.state ≡ Some (unbound_state (goes_to_all t (link t c own handle)))
   pub settled : x.settled ≡ not (lasts_on (link t c own handle))
 

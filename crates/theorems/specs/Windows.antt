@@ -5,7 +5,7 @@ use Rattle.amqp_model.specs.declared.perf.Perf.TheVariants as perf
 use Rattle.amqp_session.specs.Session.{Session, remote_window}
 use Rattle.amqp_model.specs.declared.item.Item.{Item}
 use Rattle.amqp_model.specs.declared.item.Item.TheVariants as item
-use Rattle.router_trace.specs.Trace.{Trace, Did, Out, Took, Bound, Booked, Began}
+use Rattle.router_trace.specs.Trace.{Trace, Did, Out, Took, Bound, Booked, Routed, Began}
 use Rattle.router_trace.specs.Sessions.{session}
 
 -- before each transfer put out the session's remote-incoming-window is at least 1 (2.5.6).
@@ -28,4 +28,5 @@ WindowKept (Out c i ∷ t) = keeps_window i (session t c) × WindowKept t
 WindowKept (Took c n ∷ t) = WindowKept t
 WindowKept (Bound b ∷ t) = WindowKept t
 WindowKept (Booked acts full ∷ t) = WindowKept t
+WindowKept (Routed passage ∷ t) = WindowKept t
 WindowKept (Began g ∷ t) = WindowKept t

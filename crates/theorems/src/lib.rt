@@ -9,6 +9,7 @@ pub use theorems::{
     durable_messages_are_kept_first, durable_outcomes_are_kept_first, frames_carry_what_was_bound,
     messages_are_bound_once, no_delivery_starts_beyond_credit, outcomes_are_as_given,
     outcomes_are_kept_as_told, outcomes_are_told_once, pieces_make_no_difference,
-    rows_stay_with_consumers, scripts_keep_order, scripts_keep_windows_and_credit,
-    takes_make_no_difference, the_headline, the_lock_keeps_them, windows_are_kept,
+    producers_are_told_rightly, rows_stay_with_consumers, scripts_keep_order,
+    scripts_keep_windows_and_credit, takes_make_no_difference, the_headline, the_lock_keeps_them,
+    windows_are_kept,
 };

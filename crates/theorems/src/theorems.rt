@@ -5,20 +5,22 @@ ghost use Rattle.theorems.specs.Stops.{stopping};
 ghost use Rattle.theorems.specs.Locked.{kind};
 ghost use Rattle.std.specs.Prelude.{IfOk};
 ghost use Rattle.router_core.specs.Machine.{opening_of};
-ghost use Rattle.router_core.specs.Runs.{events_of};
+ghost use Rattle.core_runs.specs.Runs.{events_of};
 ghost use Rattle.theorems.specs.Theorem.{TheHeadline, AStopLeavesAPrefix, ARouterGoesOn};
 ghost use Rattle.theorems.specs.Theorem.{NoDeliveryStartsBeyondCredit};
 ghost use Rattle.theorems.specs.Theorem.{ADeliveryHasOneConsumer, FramesCarryWhatWasBound, MessagesAreBoundOnce};
 ghost use Rattle.theorems.specs.Theorem.{OutcomesAreAsGiven, OutcomesAreToldOnce, DurableOutcomesAreKeptFirst};
 ghost use Rattle.theorems.specs.Theorem.{OutcomesAreKeptAsTold};
-ghost use Rattle.theorems.specs.Theorem.{AcceptedIsToldTruly, RowsStayWithConsumers, TheLockKeepsThem};
+ghost use Rattle.theorems.specs.Theorem.{AcceptedIsToldTruly, ProducersAreToldRightly};
+ghost use Rattle.theorems.specs.Theorem.{RowsStayWithConsumers, TheLockKeepsThem};
 ghost use Rattle.theorems.specs.Theorem.{DurableLinksAreKeptFirst, DurableMessagesAreKeptFirst};
 ghost use Rattle.theorems.specs.Theorem.{ConnectionsKeepOrder, WindowsAreKept};
 ghost use Rattle.theorems.specs.Theorem.{ScriptsKeepOrder, ScriptsKeepWindowsAndCredit};
 ghost use Rattle.theorems.specs.Theorem.{TakesMakeNoDifference, ConnectionsAreAnsweredAlone, PiecesMakeNoDifference};
 
+use core_runs::{Driven, drive};
 use disk_core::Twin;
-use router_core::{Config, Core, Driven, drive};
+use router_core::{Config, Core};
 use router_trace::Event;
 use std::alloc::Global;
 use twin_journal::OpenFault;
@@ -151,6 +153,17 @@ pub fn outcomes_are_kept_as_told()
 /// have been in an earlier run, whose end was lost to all but the book (AMQP 1.0 part 2, sections 2.6.12, 2.6.13 and 2.7.3).
 pub fn accepted_is_told_truly()
     ensures { AcceptedIsToldTruly }
+{}
+
+/// Over every list of runs, each ended by a stop anywhere: what a producer is told under an id that its durable link
+/// claims is true. If the link's terminus has an unforgotten row with the delivery's tag, it is the outcome with which
+/// that row was decided, in this run or an earlier one; and accepted is told only of a row that its own consumer
+/// accepted while it was undecided, by a disposition or by the map of an attach. Or the message just came, and is let
+/// down: released, or rejected on a multicast address; no other outcome is told of a delivery without a row. So does
+/// each entry of the map of the router's attach to a producer tell of the row of its tag, or is null if that was
+/// undecided when the link came back (AMQP 1.0 part 2, sections 2.6.12, 2.6.13, 2.7.3 and 2.7.6).
+pub fn producers_are_told_rightly()
+    ensures { ProducersAreToldRightly }
 {}
 
 /// Over every list of runs, each ended by a stop anywhere: each transfer for a delivery with a row goes to the link of the row's own consumer. The

@@ -1,6 +1,6 @@
 use Rattle.std.proofs.Common.{◌∙◌, sym}
 use Rattle.disk_core.specs.DiskLaws.{widened}
-use Rattle.router_core.specs.Runs.{events_of}
+use Rattle.core_runs.specs.Runs.{events_of}
 use Rattle.theorems.proofs.Stops.{opens_to_book, ends_life, count_of, end_answered}
 use Rattle.theorems.proofs.theorems.a_stop_leaves_a_prefix.Goals as goal
 
