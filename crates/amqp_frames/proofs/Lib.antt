@@ -12,3 +12,4 @@ pub mod Rooms
 pub mod Shorts
 pub mod ShortPlaces
 pub mod ShortPerfs
+pub mod ShortLists

@@ -1,5 +1,5 @@
 -- Performatives in their usual spellings: how they begin, and where they end.
-use Rattle.std.proofs.Common.{◌≡◌, ℕ, suc, ◌+◌, ◌-◌, ◌<◌, ◌≤◌, List, [], ◌∷◌, ◌++◌, length, get_or, take, drop, refl, sym, ap, subst, ◌∙◌, arith, Option, Some, None, Ok, Err}
+use Rattle.std.proofs.Common.{◌≡◌, ℕ, suc, ◌+◌, ◌-◌, ◌≤◌, List, [], ◌∷◌, length, get_or, take, drop, refl, ap, subst, ◌∙◌, arith, Some, Ok}
 use Rattle.std.proofs.lemmas.Bool.{le-ltb}
 use Rattle.std.proofs.lemmas.Grind.{common_steps}
 use Rattle.amqp_model.specs.Codes.{code_of as constructor_of}
@@ -12,7 +12,7 @@ use Rattle.amqp_model.specs.declared.perf_fault.PerfFault.{PerfFault}
 use Rattle.amqp_model.specs.Descriptors.{code_of}
 use Rattle.amqp_types.specs.Reading.{sized_at, leaf_at, body_at, value_at}
 use Rattle.amqp_perf.specs.declared.opening.Opening.TheVariants as opening
-use Rattle.amqp_perf.specs.Fields.{At, opening_at, listed}
+use Rattle.amqp_perf.specs.Fields.{opening_at, listed}
 use Rattle.amqp_perf.specs.Performative.{limit_of, body, performative, performative_at, transfer_fields, disposition_fields, flow_fields}
 use Rattle.amqp_model.specs.declared.perf.Transfer.{Transfer}
 use Rattle.amqp_model.specs.declared.perf.Disposition.{Disposition}

@@ -1,7 +1,7 @@
 -- Fields in their usual spellings are those that the reader of all spellings finds at their place.
-use Rattle.std.proofs.Common.{◌≡◌, ℕ, suc, ◌-◌, ◌<◌, ◌≤◌, Bool, true, false, List, [], ◌∷◌, length, refl, sym, ap, ◌∙◌, arith, Option, Some, None, Ok, Err, cond}
-use Rattle.std.specs.Prelude.{nat_lt, ◌==◌, unwrap_or}
-use Rattle.std.proofs.lemmas.Bool.{le-ltb, ne_eqb}
+use Rattle.std.proofs.Common.{◌≡◌, ℕ, suc, ◌≤◌, Bool, false, List, ◌∷◌, length, refl, arith, Option, Some, None, Ok}
+use Rattle.std.specs.Prelude.{◌==◌, unwrap_or}
+use Rattle.std.proofs.lemmas.Bool.{ne_eqb}
 use Rattle.arrayvec.specs.ArrayVec.{ArrayVec}
 use Rattle.amqp_model.specs.Data as d
 use Rattle.amqp_model.specs.Data.{Data}
@@ -9,8 +9,6 @@ use Rattle.amqp_model.specs.View.{plain_part}
 use Rattle.amqp_types.specs.Reading.{leaf_at, body_at, value_at}
 use Rattle.amqp_model.specs.Codes.{code_of}
 use Rattle.amqp_frames.proofs.Shorts.{no_byte}
-use Rattle.amqp_model.specs.declared.perf.Role.{Role}
-use Rattle.amqp_model.specs.declared.perf.Role.TheVariants as role
 use Rattle.amqp_frames.specs.declared.short_fields.ShortFields.{ShortFields}
 use Rattle.amqp_perf.specs.Fields.{At, next, unless_null, ended, value, plain, ubyte, map, uint, required_uint, flag, required_flag, tag_of, tag}
 use Rattle.amqp_perf.specs.Performative.{required_role, role_of}

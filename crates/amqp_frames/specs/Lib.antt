@@ -6,3 +6,4 @@ pub mod Laws
 pub mod SpellsItem
 pub mod Within
 pub mod Shorts
+pub mod ShortLists

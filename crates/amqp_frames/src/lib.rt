@@ -10,6 +10,7 @@ pub mod reader;
 pub mod room;
 mod short_fields;
 mod short_read;
+mod short_write;
 pub mod write;
 
 pub use amqp_model::{FrameFault, Item};

@@ -1,5 +1,5 @@
-//! Fields in their usual spellings, read straight from the bytes of a list. Of any other spelling nothing is said here, neither what
-//! it means nor that it is wrong: that is for the reader of all spellings.
+//! Fields in their usual spellings, read straight from the bytes of a list (AMQP 1.0 part 1, section 1.6). Of any other
+//! spelling nothing is said here, neither what it means nor that it is wrong: that is for the reader of all spellings.
 ghost use Rattle.std.specs.Prelude.{◌≡◌, ◌≤◌, ◌∷◌, Some, None, Ok, IfSome};
 ghost use Rattle.amqp_model.specs.Data as d;
 ghost use Rattle.amqp_perf.specs.Fields as fields;

@@ -1,5 +1,6 @@
-//! The performatives that carry messages, read from their usual spellings: a transfer, a disposition and a flow, each as a described list
-//! whose size and count have one byte. Of anything else nothing is said here: that is for the reader of all spellings.
+//! The performatives that carry messages, read from their usual spellings: a transfer, a disposition and a flow, each as
+//! a described list whose size and count have one byte. Of anything else nothing is said here: that is for the reader of
+//! all spellings.
 ghost use Rattle.std.specs.Prelude.{◌≡◌, ◌≤◌, length, Ok, IfSome};
 ghost use Rattle.amqp_perf.specs.Performative as performatives;
 ghost use Rattle.amqp_frames.specs.Shorts.{Heads, place};
@@ -7,7 +8,9 @@ ghost use Rattle.amqp_frames.specs.Shorts.{Heads, place};
 use crate::short_fields::ShortFields;
 use amqp_model::{Disposition, Flow, Perf, Transfer};
 
-/// The performative at the front, and the number of bytes that encode it, where it stands there in its usual spelling.
+/// The performative at the front, and the number of bytes that encode it, where it stands there in its usual spelling:
+/// by the number of its descriptor a transfer (0x14), a disposition (0x15) or a flow (0x13), with as many fields as the
+/// standard's list has, or fewer (AMQP 1.0 part 2, sections 2.7.4 to 2.7.6).
 pub(crate) fn read_short(bytes: &[u8]) -> Option<(Perf, usize)>
     ensures exact { IfSome result (λ x. performatives.performative bytes.now ≡ Ok x) }
     ensures within { IfSome result (λ x. x.1 ≤ length bytes.now) }

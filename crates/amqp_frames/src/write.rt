@@ -1,9 +1,11 @@
 //! Writes items.
-ghost use Rattle.std.specs.Prelude.{◌≡◌, ◌++◌, length, take, IfOk, OnOk, OnErr};
+ghost use Rattle.std.specs.Prelude.{◌≡◌, ◌≤◌, ◌++◌, length, take, IfOk, OnOk, OnErr};
 ghost use Rattle.amqp_model.specs.PerfSpelling.{spelling};
 ghost use Rattle.amqp_model.specs.ItemSpelling.{frame_spelling, head_spelling, item_spelling};
+ghost use Rattle.amqp_frames.specs.ShortLists.{short_list};
 
 use crate::extent::MIN_SIZE;
+use crate::short_write::{ShortList, put_short};
 use amqp_model::{Item, Perf};
 use amqp_perf::write_perf;
 use std::alloc::{AllocError, Global};
@@ -52,9 +54,55 @@ fn put_item(alloc: Global, item: &Item, out: &mut Vec<u8>) -> Result<(), AllocEr
     }
 }
 
-/// Appends a frame with this body, or a beginning of it. Room for its head is left before the body, and filled in once
-/// the body's length is known, so that nothing is written twice.
+/// Appends a frame with this body, or a beginning of it.
 fn put_frame(
+    alloc: Global,
+    out: &mut Vec<u8>,
+    sasl: bool,
+    channel: u16,
+    perf: &Perf,
+    payload: &[u8],
+) -> Result<(), AllocError>
+    ensures ok { OnOk result (out.new.items ≡ out.old.items ++ frame_spelling sasl channel (spelling perf.now ++ payload.now)) }
+    ensures kept { OnErr result (take (length out.old.items) out.new.items ≡ out.old.items) }
+{
+    let mut fields = ShortList::new();
+    match put_short(&mut fields, perf) {
+        Some(list) => put_list(out, sasl, channel, list, fields.as_slice(), payload),
+        None => put_any(alloc, out, sasl, channel, perf, payload),
+    }
+}
+
+/// Appends a frame whose performative is a list with the number of its descriptor, its count and these fields, or a beginning of it.
+fn put_list(
+    out: &mut Vec<u8>,
+    sasl: bool,
+    channel: u16,
+    list: (u8, u8),
+    fields: &[u8],
+    payload: &[u8],
+) -> Result<(), AllocError>
+    requires { length fields.now ≤ 64 }
+    ensures ok { OnOk result (out.new.items ≡ out.old.items ++ frame_spelling sasl channel (short_list list.0 list.1 fields.now ++ payload.now)) }
+    ensures kept { OnErr result (take (length out.old.items) out.new.items ≡ out.old.items) }
+{
+    let (code, count) = list;
+    let size = fields.len() as u8 + 1;
+    let begins = [0x00, 0x53, code, 0xc0, size, count];
+    let Some(len) = payload.len().checked_add(begins.len() + fields.len()) else {
+        return Err(AllocError);
+    };
+    let head = head(sasl, channel, len)?;
+    out.extend_from_slice(&head)?;
+    out.extend_from_slice(&begins)?;
+    out.extend_from_slice(fields)?;
+    out.extend_from_slice(payload)?;
+    Ok(())
+}
+
+/// Appends a frame with any body, or a beginning of it. Room for its head is left before the body, and filled in once
+/// the body's length is known, so that nothing is written twice.
+fn put_any(
     alloc: Global,
     out: &mut Vec<u8>,
     sasl: bool,
