@@ -1,7 +1,5 @@
 -- An end of a routed link: what the router and the peer did on it, and what is to go out there.
-use Rattle.std.specs.Prelude.{ℕ, ◌-◌, Bool, true, false, not, ◌==◌, ◌&&◌, if◌then◌else◌, List, [], ◌∷◌, ◌++◌, length, drop, Option, Some, None, option_map, option_and_then}
-use Rattle.amqp_model.specs.declared.perf.Perf.{Perf}
-use Rattle.amqp_model.specs.declared.perf.Perf.TheVariants as perf
+use Rattle.std.specs.Prelude.{ℕ, ◌-◌, Bool, true, false, ◌==◌, ◌&&◌, if◌then◌else◌, List, [], ◌∷◌, ◌++◌, length, drop, Option, Some, None}
 use Rattle.route_links.specs.declared.passing.Passing.{Passing}
 use Rattle.route_links.specs.declared.passing.Passing.TheVariants as pass
 use Rattle.route_links.specs.Parts.{parts, after, is_detach}

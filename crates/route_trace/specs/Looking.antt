@@ -1,5 +1,5 @@
 -- Looking for the ends of routed links, each by searching all links.
-use Rattle.std.specs.Prelude.{ℕ, zero, suc, Bool, true, false, not, ◌&&◌, ◌||◌, ◌==◌, bytes_eq, if◌then◌else◌, is_none, is_some, List, [], ◌∷◌, ◌++◌, Option, Some, None, option_to_list, option_and_then, unwrap_or}
+use Rattle.std.specs.Prelude.{ℕ, zero, suc, Bool, true, false, not, ◌&&◌, ◌||◌, ◌==◌, bytes_eq, if◌then◌else◌, is_none, is_some, List, [], ◌++◌, Option, Some, None, option_to_list, option_and_then, unwrap_or}
 use Rattle.amqp_model.specs.declared.perf.Attach.{Attach}
 use Rattle.amqp_model.specs.declared.perf.Role.{Role}
 use Rattle.amqp_model.specs.declared.perf.Role.TheVariants.{Sender, Receiver}

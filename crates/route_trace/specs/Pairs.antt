@@ -1,5 +1,5 @@
 -- Routed links in a trace: the two ends of each. Links are numbered from 0, in the order in which they were routed.
-use Rattle.std.specs.Prelude.{ℕ, ◌+◌, Bool, true, false, ◌&&◌, ◌||◌, ◌==◌, if◌then◌else◌, List, [], ◌∷◌, Option, Some, None, option_map, option_and_then, is_some}
+use Rattle.std.specs.Prelude.{ℕ, ◌+◌, Bool, true, false, ◌&&◌, ◌==◌, if◌then◌else◌, List, [], ◌∷◌, Option, Some, None, option_map, option_and_then}
 use Rattle.amqp_model.specs.declared.item.Item.{Item}
 use Rattle.amqp_model.specs.declared.item.Item.TheVariants as item
 use Rattle.amqp_model.specs.declared.perf.Attach.{Attach}
@@ -15,7 +15,6 @@ use Rattle.router_trace.specs.Routed.{RoutedLink, Passage, Begun, Answered, Pass
 use Rattle.router_trace.specs.LinkFrames.{refusal_of}
 use Rattle.router_trace.specs.Sessions.{maps, theirs}
 use Rattle.router_trace.specs.Trace.{Did, Out, Took, Bound, Booked, Routed, Began, Trace}
-use Rattle.route_trace.specs.declared.ends.OurEnd.TheVariants as ours
 use Rattle.route_trace.specs.declared.ends.PeerEnd.TheVariants as peer
 use Rattle.route_trace.specs.declared.ends.RoutedPlace.{RoutedPlace}
 use Rattle.route_trace.specs.Ends.{End, new_end, holding, heard_on, counts, put_on, is_on, is_out, is_waiting, stands_for}

@@ -1,5 +1,5 @@
 -- What passes on routed links, behind the row of an event: again and again the first frame that can go.
-use Rattle.std.specs.Prelude.{ℕ, zero, suc, Bool, true, false, not, ◌&&◌, ◌||◌, ◌==◌, nat_lt, nat_le, if◌then◌else◌, List, [], ◌∷◌, ◌++◌, Option, Some, None, is_some, is_none, option_and_then, unwrap_or}
+use Rattle.std.specs.Prelude.{ℕ, zero, suc, Bool, true, false, not, ◌&&◌, ◌||◌, ◌==◌, nat_lt, if◌then◌else◌, List, [], ◌∷◌, ◌++◌, Option, Some, None, is_some, unwrap_or}
 use Rattle.amqp_model.specs.declared.item.Item.{Item}
 use Rattle.amqp_session.specs.Session.{Session}
 use Rattle.amqp_session.specs.declared.states.FlowState.{FlowState}
@@ -13,7 +13,7 @@ use Rattle.router_trace.specs.Links.{highest_handle}
 use Rattle.router_trace.specs.Peers.{largest_frame}
 use Rattle.router_trace.specs.Routed.{Passage}
 use Rattle.router_trace.specs.Sessions.{session}
-use Rattle.router_trace.specs.Trace.{Trace, Entry, Routed}
+use Rattle.router_trace.specs.Trace.{Trace, Routed}
 use Rattle.route_trace.specs.declared.ends.LinkEnd.{LinkEnd}
 use Rattle.route_trace.specs.declared.ends.RoutedPlace.{RoutedPlace}
 use Rattle.route_trace.specs.declared.ends.Side.{Side}

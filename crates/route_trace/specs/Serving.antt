@@ -12,7 +12,7 @@ use Rattle.route_table.specs.Places.{Routing, route_in_of, route_out_of}
 use Rattle.router_trace.specs.declared.event.Event.{Event}
 use Rattle.router_trace.specs.declared.event.Event.TheVariants as event
 use Rattle.router_trace.specs.declared.event.PeerRole.{PeerRole}
-use Rattle.router_trace.specs.declared.event.PeerRole.TheVariants.{Normal, RouteContainer}
+use Rattle.router_trace.specs.declared.event.PeerRole.TheVariants.{RouteContainer}
 use Rattle.router_trace.specs.Configuration.{routing}
 use Rattle.router_trace.specs.Connection.{conn, is_live}
 use Rattle.router_trace.specs.Links.{source_address, target_address}

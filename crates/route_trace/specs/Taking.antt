@@ -1,5 +1,5 @@
 -- What the router itself puts on the ends of a routed link: an end is taken away, with or without an error.
-use Rattle.std.specs.Prelude.{ℕ, Bool, true, false, not, ◌||◌, if◌then◌else◌, List, [], ◌∷◌, ◌++◌, Option, Some, None, is_none, option_and_then}
+use Rattle.std.specs.Prelude.{ℕ, Bool, true, false, if◌then◌else◌, List, [], ◌∷◌, Option, Some, None}
 use Rattle.std.specs.List.{flat_map}
 use Rattle.amqp_model.specs.declared.perf.Attach.{Attach}
 use Rattle.amqp_model.specs.declared.item.Item.{Item}
